@@ -1,0 +1,49 @@
+-- The laws of folds and tables: one element more, one element looked up, and equal parts give equal wholes. Each by induction on the list or
+-- the length. Assumes nothing.
+use Prim.Native.Nat.{ℕ, zero, suc, _<_}
+use native.Mathlib.Nat.{not-suc-le-zero, le-of-suc-le-suc}
+use mathlib.Core.Path.{_≡_, refl, ap, _∙_}
+use mathlib.Core.List.{List, [], _∷_, _++_, List·Memᴰ, List·Memᴰ·head, List·Memᴰ·tail}
+use lib.ListN.{length, getD}
+use Rattle.math.specs.Lists.{fold, table}
+
+module _ {A : Type 0} where
+  pub length-table : (n : ℕ) (f : ℕ → A) → length (table n f) ≡ n
+  unfolding table
+  length-table zero f = refl
+  length-table (suc n) f = ap suc (length-table n (λ k. f (suc k)))
+
+  pub table-at : (n : ℕ) (f : ℕ → A) (i : ℕ) (d : A) → i < n → getD (table n f) i d ≡ f i
+  unfolding table
+  table-at zero f i d h = absurd (not-suc-le-zero h)
+  table-at (suc n) f zero d h = refl
+  table-at (suc n) f (suc i) d h = table-at n (λ k. f (suc k)) i d (le-of-suc-le-suc h)
+
+  pub table-snoc : (n : ℕ) (f : ℕ → A) → table (suc n) f ≡ table n f ++ (f n ∷ [])
+  unfolding table
+  table-snoc zero f = refl
+  table-snoc (suc n) f = ap (λ l. f zero ∷ l) (table-snoc n (λ k. f (suc k)))
+
+  -- also past the end, where both give d
+  pub table-same-at : (f g : ℕ → A) (n i : ℕ) (d : A) → f i ≡ g i → getD (table n f) i d ≡ getD (table n g) i d
+  unfolding table
+  table-same-at f g zero i d q = refl
+  table-same-at f g (suc n) zero d q = q
+  table-same-at f g (suc n) (suc i) d q = table-same-at (λ k. f (suc k)) (λ k. g (suc k)) n i d q
+
+module _ {A B : Type 0} where
+  pub fold-append : (f : A → B → A) (a : A) (xs ys : List B) → fold f a (xs ++ ys) ≡ fold f (fold f a xs) ys
+  unfolding fold
+  fold-append f a [] ys = refl
+  fold-append f a (x ∷ xs) ys = fold-append f (f a x) xs ys
+
+  -- a loop's turn: one element more
+  pub fold-table : (f : A → B → A) (a : A) (n : ℕ) (g : ℕ → B) → fold f a (table (suc n) g) ≡ f (fold f a (table n g)) (g n)
+  unfolding fold
+  fold-table f a n g = ap (fold f a) (table-snoc n g) ∙ fold-append f a (table n g) (g n ∷ [])
+
+  -- steps that agree on the list's elements, and equal starts
+  pub fold-same : {f g : A → B → A} {a b : A} (xs : List B) → ((x : B) → List·Memᴰ x xs → (c : A) → f c x ≡ g c x) → a ≡ b → fold f a xs ≡ fold g b xs
+  unfolding fold
+  fold-same [] h q = q
+  fold-same {g = g} (x ∷ xs) h q = fold-same xs (λ y m. h y (List·Memᴰ·tail m)) (h x (List·Memᴰ·head refl) _ ∙ ap (λ c. g c x) q)

@@ -1,0 +1,4 @@
+pub mod Real
+pub mod Vector
+pub mod Lists
+pub mod Exact

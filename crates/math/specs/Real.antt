@@ -1,0 +1,61 @@
+-- Doubles (the Rust's `Real`): by their 64 bits, the operations that round once, to the nearest, ties to even, under short names, and the
+-- tests and choices that the solver makes. Definitions only.
+use Prim.Native.Nat.{ℕ}
+use mathlib.Core.Bool.{Bool, false, cond}
+use lib.Ieee
+use lib.Ieee.{Float, nan, inf, fin, binary64}
+
+infixl 65 _⊕_ _⊖_
+infixl 70 _⊗_ _⊘_
+abbrev pub _⊕_ : Float → Float → Float
+x ⊕ y = Ieee.add binary64 x y
+
+abbrev pub _⊖_ : Float → Float → Float
+x ⊖ y = Ieee.sub binary64 x y
+
+abbrev pub _⊗_ : Float → Float → Float
+x ⊗ y = Ieee.mul binary64 x y
+
+abbrev pub _⊘_ : Float → Float → Float
+x ⊘ y = Ieee.div binary64 x y
+
+abbrev pub ⊝ : Float → Float
+⊝ x = Ieee.neg x
+
+-- the double with these 64 bits; every not-a-number pattern is `nan`
+abbrev pub bits : ℕ → Float
+bits b = Ieee.ofBits binary64 b
+
+-- the 64 bits of a double; for a not-a-number 7FF8000000000000
+abbrev pub bitsOf : Float → ℕ
+bitsOf x = Ieee.toBits binary64 x
+
+abbrev pub +0 : Float
++0 = bits 0
+
+abbrev pub half : Float
+half = bits 0x3FE0000000000000
+
+abbrev pub one : Float
+one = bits 0x3FF0000000000000
+
+abbrev pub +∞ : Float
++∞ = bits 0x7FF0000000000000
+
+-- a zero of either sign
+abbrev pub isZero : Float → Bool
+isZero x = Ieee.eq x +0
+
+-- |x|: the sign is taken away, of a zero too
+unfoldable pub magnitude : Float → Float
+magnitude nan = nan
+magnitude (inf s) = inf false
+magnitude (fin s m e) = fin false m e
+
+-- y if it is greater, else x: a y that is not a number is passed over
+abbrev pub larger : Float → Float → Float
+larger x y = cond (Ieee.lt x y) y x
+
+-- x if it is above 0; anything else, not-a-number included, is +0
+abbrev pub clamp : Float → Float
+clamp x = cond (Ieee.lt +0 x) x +0

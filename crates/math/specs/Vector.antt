@@ -1,0 +1,39 @@
+-- Vectors: a double for each axis, so that the number of axes is a parameter; nalgebra's few operations as document 01 fixes them. Definitions only.
+use Prim.Native.Nat.{ℕ}
+use mathlib.Core.List.{List, [], _∷_, map, zipWith}
+use lib.ListN.{replicate}
+use lib.Ieee.{Float}
+use Rattle.math.specs.Real.{_⊕_, _⊖_, _⊗_, +0}
+use Rattle.math.specs.Lists.{total}
+use Rattle.math.specs.declared.Vec3.{Vec3}
+
+infixl 65 _⊞_ _⊟_
+infixl 70 _⊡_ _·_
+abbrev pub Vector : Type 0
+Vector = List Float
+
+-- +0 on each of n axes
+abbrev pub origin : ℕ → Vector
+origin n = replicate n +0
+
+unfoldable pub _⊞_ : Vector → Vector → Vector
+u ⊞ v = zipWith _⊕_ u v
+
+unfoldable pub _⊟_ : Vector → Vector → Vector
+u ⊟ v = zipWith _⊖_ u v
+
+unfoldable pub _⊡_ : Vector → Float → Vector
+u ⊡ k = map (λ x. x ⊗ k) u
+
+-- the first number, and each further one added to what is there
+unfoldable pub added : List Float → Float
+added [] = +0
+added (x ∷ xs) = total x xs
+
+-- ((ax × bx) + (ay × by)) + (az × bz)
+unfoldable pub _·_ : Vector → Vector → Float
+u · v = added (zipWith _⊗_ u v)
+
+-- the axes of a vector of the code
+abbrev pub axes : Vec3 → Vector
+axes v = v .x ∷ v .y ∷ v .z ∷ []
