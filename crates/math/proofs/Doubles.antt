@@ -8,7 +8,7 @@ use mathlib.Core.Bool.{Bool, true, false, not, _&&_, _||_, true≢false}
 use lib.IntN.{ℤ, pos, negsuc}
 use lib.Dec.{T, eqb, ltb, eqb→eq, ltb→lt, nltb→le}
 use lib.Pow.{pow-pos}
-use lib.Ieee.{Float, nan, inf, fin, binary64, up, down, neg, le, lt, eq, fits, isNan, nanBits, ofBits}
+use lib.Ieee.{Float, nan, inf, fin, binary64, up, down, neg, lt, eq, fits, isNan, nanBits, ofBits}
 use lib.Ieee.Fits.{up-pos, and-l}
 use lib.Ieee.Bits.{nanBits-is, nanBits-above}
 use borrow.Author.Tests.{lt-ltb, le-ltb}

@@ -1,2 +1,7 @@
 pub mod Lists
 pub mod Doubles
+pub mod Near
+pub mod Fractions
+pub mod Rounding
+pub mod Counts
+pub mod Steps

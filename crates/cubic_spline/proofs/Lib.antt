@@ -1,0 +1,5 @@
+pub mod Errors
+pub mod Chains
+pub mod Bounds
+pub mod Answers
+pub mod Rows

@@ -1,0 +1,32 @@
+-- `cubic_spline::answer` meets its contract: each branch is the definition's, by what the two tests ensure. Assumes nothing.
+use mathlib.Core.Path.{sym, _∙_}
+use borrow.Author.Needs.{needs}
+use Rattle.cubic_spline.specs.Answer.{kernelAnswer}
+use Rattle.cubic_spline.proofs.Answers.{kernel-promise}
+use Rattle.cubic_spline.proofs.answer.Statement.{statement}
+use Rattle.cubic_spline.proofs.answer.Tie as tie
+
+is-distance-requires : tie.Need-is-distance-requires
+is-distance-requires c κs = search needs
+
+is-radius-requires : tie.Need-is-radius-requires
+is-radius-requires c κs = search needs
+
+returns : tie.Need-returns
+unfolding kernelAnswer
+returns c =
+    let d = c .before .before .before in
+    kernel-promise _ _ _ _ (simp (sym (c .before .is-radius .ensures) ∙ c .if2 .taken, sym (d .is-distance .ensures) ∙ c .before .before .if1 .taken))
+
+returns-2 : tie.Need-returns-2
+unfolding kernelAnswer
+returns-2 c =
+    let d = c .before .before .before in
+    kernel-promise _ _ _ _ (simp (sym (c .before .is-radius .ensures) ∙ c .if2 .left, sym (d .is-distance .ensures) ∙ c .before .before .if1 .taken))
+
+returns-3 : tie.Need-returns-3
+unfolding kernelAnswer
+returns-3 c = kernel-promise _ _ _ _ (simp (sym (c .before .is-distance .ensures) ∙ c .if1 .left))
+
+pub answer-spec : {M : Type 1} → statement M
+answer-spec = tie.close (tie.spec is-distance-requires is-radius-requires returns returns-2 returns-3)

@@ -1,0 +1,5 @@
+pub mod Shape
+pub mod Exact
+pub mod Bound
+pub mod Answer
+pub mod Rows

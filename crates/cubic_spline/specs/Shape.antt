@@ -1,0 +1,76 @@
+-- The kernel on doubles (document 01, module 1): its formulas, in its order. Every operation rounds once, to the nearest double, ties to even. Definitions only.
+use mathlib.Core.Bool.{Bool, cond, _&&_, _||_}
+use lib.Ieee.{Float, le, lt}
+use lib.Ieee.Scale.{finite}
+use Rattle.math.specs.Real.{_⊕_, _⊖_, _⊗_, _⊘_, ⊝, bits, +0, half, one}
+
+abbrev pub two : Float
+two = bits 0x4000000000000000
+
+abbrev pub three : Float
+three = bits 0x4008000000000000
+
+abbrev pub six : Float
+six = bits 0x4018000000000000
+
+abbrev pub eight : Float
+eight = bits 0x4020000000000000
+
+abbrev pub pi : Float
+pi = bits 0x400921FB54442D18
+
+-- the double 1e-5
+abbrev pub epsilon : Float
+epsilon = bits 0x3EE4F8B588E368F1
+
+-- 8 / (((pi × h) × h) × h)
+abbrev pub normalizer : Float → Float
+normalizer h = eight ⊘ (pi ⊗ h ⊗ h ⊗ h)
+
+-- ---- the weight's shape, at q
+
+-- 1 + ((q2 × q) - q2) × 6, with q2 = q × q
+abbrev pub nearWeight : Float → Float
+nearWeight q = one ⊕ (q ⊗ q ⊗ q ⊖ q ⊗ q) ⊗ six
+
+-- ((t × t) × t) × 2
+abbrev pub farWeight : Float → Float
+farWeight t = t ⊗ t ⊗ t ⊗ two
+
+-- q at most 0.5; q at most 1, with t = 1 - q; else 0
+unfoldable pub weightShape : Float → Float
+weightShape q = cond (le q half) (nearWeight q) (cond (le q one) (farWeight (one ⊖ q)) +0)
+
+-- ---- the slope's shape, at q
+
+-- (((q × 3) - 2) × q) × 6
+abbrev pub nearSlope : Float → Float
+nearSlope q = (q ⊗ three ⊖ two) ⊗ q ⊗ six
+
+-- ((-t) × t) × 6
+abbrev pub farSlope : Float → Float
+farSlope t = ⊝ t ⊗ t ⊗ six
+
+-- 0 if q > 1 or q at most 1e-5; q at most 0.5; else with t = 1 - q
+unfoldable pub slopeShape : Float → Float
+slopeShape q = cond (lt one q || le q epsilon) +0 (cond (le q half) (nearSlope q) (farSlope (one ⊖ q)))
+
+-- ---- the kernel at the distance r, with the radius h: q = r / h
+
+-- normaliser × shape
+abbrev pub weight : Float → Float → Float
+weight r h = normalizer h ⊗ weightShape (r ⊘ h)
+
+-- (normaliser × shape) / h
+abbrev pub slope : Float → Float → Float
+slope r h = normalizer h ⊗ slopeShape (r ⊘ h) ⊘ h
+
+-- ---- the arguments that are taken
+
+-- not below 0, and finite: -0 is taken
+abbrev pub isDistance : Float → Bool
+isDistance r = le +0 r && finite r
+
+-- above 0, and finite
+abbrev pub isRadius : Float → Bool
+isRadius h = lt +0 h && finite h
