@@ -10,12 +10,12 @@ use lib.Ieee.{Float, binary64, fits, ofBits, add, sub, mul, le, lt}
 use lib.Ieee.Scale.{finite}
 use borrow.Author.Tests.{leb-true, leb-false}
 use Rattle.math.specs.Real.{_⊖_, +0, half, one}
-use Rattle.math.specs.Exact.{unit, count}
+use Rattle.rounding.specs.Exact.{unit, count}
 use Rattle.math.proofs.Doubles.{holds}
-use Rattle.math.proofs.Near.{near-weak}
-use Rattle.math.proofs.Fractions.{Fraction, fraction, value-of, le-is, lt-is, half-fraction, one-fraction}
-use Rattle.math.proofs.Counts.{fraction-finite, fraction-count, at-least-zero, at-most-zero, -0, minus-zero-or-fraction}
-use Rattle.math.proofs.Steps.{Scale, Within}
+use Rattle.rounding.proofs.Near.{near-weak}
+use Rattle.rounding.proofs.Fractions.{Fraction, fraction, value-of, le-is, lt-is, half-fraction, one-fraction}
+use Rattle.rounding.proofs.Counts.{fraction-finite, fraction-count, at-least-zero, at-most-zero, -0, minus-zero-or-fraction}
+use Rattle.rounding.proofs.Steps.{Scale, Within}
 use Rattle.cubic_spline.specs.Shape.{epsilon, nearWeight, farWeight, weightShape, nearSlope, farSlope, slopeShape}
 use Rattle.cubic_spline.specs.Exact.{pieces, exactWeight, monaghanFall, exactFall}
 use Rattle.cubic_spline.specs.Bound.{ShapeWithin, WeightWithin, SlopeWithin, WeightPromise, SlopePromise}

@@ -8,9 +8,9 @@ use mathlib.Core.Bool.{Bool, true, false}
 use lib.Dec.{lit≤, lit<}
 use lib.Ieee.{Float, binary64, ofBits}
 use Rattle.math.specs.Real.{_⊖_, _⊗_, one}
-use Rattle.math.specs.Exact.{Near}
-use Rattle.math.proofs.Fractions.{Fraction, fraction, rescaled, negated, one-fraction}
-use Rattle.math.proofs.Steps.{Scale, Step, Within, near-whole, unit-pos, mul-units, mul-number, add-units, sub-units, sub-units-under}
+use Rattle.rounding.specs.Exact.{Near}
+use Rattle.rounding.proofs.Fractions.{Fraction, fraction, rescaled, negated, one-fraction}
+use Rattle.rounding.proofs.Steps.{Scale, Step, Within, near-whole, unit-pos, mul-units, mul-number, add-units, sub-units, sub-units-under}
 use Rattle.cubic_spline.specs.Shape.{two, three, six, nearWeight, farWeight, nearSlope, farSlope}
 use Rattle.cubic_spline.proofs.Errors.{half-times, half-top, drop-error, drop-top, near-weight-error, square-error, far-weight-error}
 use Rattle.cubic_spline.proofs.Errors.{far-slope-error, near-slope-error}

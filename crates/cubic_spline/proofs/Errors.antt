@@ -5,8 +5,8 @@ use Prim.Native.Nat.{ℕ, _+_, _-_, _*_, _^_, _≤_, _<_}
 use native.Mathlib.Nat.{mul-comm, mul-assoc, mul-left-comm, mul-right-comm, mul-add, mul-sub, add-mul, mul-le-mul, mul-le-mul-left, mul-le-mul-right}
 use native.Mathlib.Nat.{le-of-mul-le-mul-right, mul-pos}
 use native.Mathlib.Omega.{arith}
-use Rattle.math.specs.Exact.{Near}
-use Rattle.math.proofs.Near.{near-times, sub-times}
+use Rattle.rounding.specs.Exact.{Near}
+use Rattle.rounding.proofs.Near.{near-times, sub-times}
 
 -- ---- products with a number n that is at most a half
 

@@ -6,7 +6,7 @@ use lib.Dec.{T}
 use lib.Ieee.{Float, le}
 use lib.Ieee.Scale.{finite}
 use Rattle.math.specs.Real.{+0}
-use Rattle.math.specs.Exact.{unit, count, Near}
+use Rattle.rounding.specs.Exact.{unit, count, Near}
 use Rattle.cubic_spline.specs.Shape.{weightShape, slopeShape}
 use Rattle.cubic_spline.specs.Exact.{exactWeight, exactFall}
 

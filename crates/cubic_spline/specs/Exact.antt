@@ -2,7 +2,7 @@
 use Prim.Native.Nat.{ℕ, _-_, _*_}
 use mathlib.Core.Bool.{cond}
 use lib.Dec.{leb}
-use Rattle.math.specs.Exact.{unit, count}
+use Rattle.rounding.specs.Exact.{unit, count}
 use Rattle.cubic_spline.specs.Shape.{epsilon}
 
 -- the spline's three pieces: up to 1 / 2, up to 1, and beyond. In its piece no difference below falls under 0

@@ -1,7 +1,2 @@
 pub mod Lists
 pub mod Doubles
-pub mod Near
-pub mod Fractions
-pub mod Rounding
-pub mod Counts
-pub mod Steps

@@ -1,4 +1,3 @@
 pub mod Real
 pub mod Vector
 pub mod Lists
-pub mod Exact

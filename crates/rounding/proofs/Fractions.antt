@@ -14,8 +14,8 @@ use lib.Ieee.Fits.{down-pos}
 use lib.Ieee.Exact.{HasValue}
 use lib.Ieee.Scale.{round-same}
 use borrow.Author.Tests.{leb-true, leb-false, ltb-false, le-leb, lt-leb, lt-ltb, le-ltb, eq-eqb, ne-eqb}
 use Rattle.math.specs.Real.{+0, half, one}
-use Rattle.math.proofs.Near.{sub-times}
+use Rattle.rounding.proofs.Near.{sub-times}
 
 -- ---- what has the sign s and the size a / c is some `fin s m e`
 

@@ -16,10 +16,10 @@ use lib.Ieee.Exact.{HasValue}
 use lib.Ieee.Order.{le-of-values}
 use lib.Ieee.Scale.{finite}
 use borrow.Author.Tests.{lt-ltb}
 use Rattle.math.specs.Real.{+0}
-use Rattle.math.specs.Exact.{unit, count}
+use Rattle.rounding.specs.Exact.{unit, count}
 use Rattle.math.proofs.Doubles.{zero-is}
-use Rattle.math.proofs.Fractions.{Signed, Fraction, fraction, value-of, zero-fraction, at-fraction}
+use Rattle.rounding.proofs.Fractions.{Signed, Fraction, fraction, value-of, zero-fraction, at-fraction}
 
 -- ---- a count is exact
 

@@ -9,10 +9,10 @@ use mathlib.Core.Bool.{Bool, true, false}
 use lib.Arith.{le-zero}
 use lib.Pow.{pow-add, pow-pos}
 use lib.Ieee.{Float, Format, prec, emax, low, add, sub, mul}
-use Rattle.math.specs.Exact.{Near}
-use Rattle.math.proofs.Near.{near-times, near-cancel}
-use Rattle.math.proofs.Fractions.{Signed, Fraction, Rounded, mul-rounded, add-rounded, sub-rounded, sub-rounded-under}
-use Rattle.math.proofs.Rounding.{RoundedNear, round-near}
+use Rattle.rounding.specs.Exact.{Near}
+use Rattle.rounding.proofs.Near.{near-times, near-cancel}
+use Rattle.rounding.proofs.Fractions.{Signed, Fraction, Rounded, mul-rounded, add-rounded, sub-rounded, sub-rounded-under}
+use Rattle.rounding.proofs.Rounding.{RoundedNear, round-near}
 
 -- A format of 53 digits, of which u units make 1, and w units a grain, 2 ^ -57. They are variables, so that nothing computes with 2 ^ 1074.
 pub record Scale (f : Format) (u w : ℕ) : Type 0 where

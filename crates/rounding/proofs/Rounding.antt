@@ -16,9 +16,9 @@ use lib.Ieee.Fits.{nearest-le, kept-lt, round-is, two}
 use lib.Ieee.Exact.{HasValue, units-val, round-exact}
 use lib.Ieee.Nearest.{closest}
 use lib.Ieee.Order.{drop, kept}
-use Rattle.math.specs.Exact.{Near}
-use Rattle.math.proofs.Near.{near-weak}
-use Rattle.math.proofs.Fractions.{same-fraction}
+use Rattle.rounding.specs.Exact.{Near}
+use Rattle.rounding.proofs.Near.{near-weak}
+use Rattle.rounding.proofs.Fractions.{same-fraction}
 
 -- In every format, and on whole numbers alone. A unit is the smallest positive value, 2 ^ -low. num / den, which is num * 2 ^ low / den units, is at most
 -- 2 ^ (prec + i) units, so 2 ^ b is 2 ^ (prec + i - low); the error is at most half of 2 ^ i units, so 2 ^ (b - prec - 1), and for a double 2 ^ (b - 54).

@@ -4,7 +4,7 @@ use mathlib.Core.Path.{_≡_}
 use Prim.Native.Nat.{ℕ, _+_, _-_, _*_, _≤_, _<_}
 use native.Mathlib.Nat.{add-mul, mul-sub, mul-comm, mul-le-mul-right, le-of-mul-le-mul-right}
 use native.Mathlib.Omega.{arith}
-use Rattle.math.specs.Exact.{Near}
+use Rattle.rounding.specs.Exact.{Near}
 
 pub near-weak : {a b : ℕ} (d e : ℕ) → d ≤ e → Near a b d → Near a b e
 near-weak d e l h = omega arith

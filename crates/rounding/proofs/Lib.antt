@@ -1,0 +1,5 @@
+pub mod Near
+pub mod Fractions
+pub mod Rounding
+pub mod Counts
+pub mod Steps
