@@ -1,9 +1,10 @@
--- The laws of folds and tables: one element more, one element looked up, and equal parts give equal wholes. Each by induction on the list or
--- the length. Assumes nothing.
+-- The laws of folds and tables: one element more, one element looked up, equal parts give equal wholes, and what every step keeps. Each by induction on the list
+-- or the length. Assumes nothing.
 use Prim.Native.Nat.{ℕ, zero, suc, _<_}
+use native.Mathlib.Omega.{arith}
 use native.Mathlib.Nat.{not-suc-le-zero, le-of-suc-le-suc}
 use mathlib.Core.Path.{_≡_, refl, ap, _∙_}
-use mathlib.Core.List.{List, [], _∷_, _++_, List·Memᴰ, List·Memᴰ·head, List·Memᴰ·tail}
+use mathlib.Core.List.{List, [], _∷_, _++_, map, List·Memᴰ, List·Memᴰ·head, List·Memᴰ·tail}
 use lib.ListN.{length, getD}
 use Rattle.math.specs.Lists.{fold, table}
 
@@ -47,3 +48,38 @@ module _ {A B : Type 0} where
   unfolding fold
   fold-same [] h q = q
   fold-same {g = g} (x ∷ xs) h q = fold-same xs (λ y m. h y (List·Memᴰ·tail m)) (h x (List·Memᴰ·head refl) _ ∙ ap (λ c. g c x) q)
+
+-- ---- tables by their values
+
+pub table-same : {A : Type 0} (n : ℕ) (f g : ℕ → A) → ((k : ℕ) → k < n → f k ≡ g k) → table n f ≡ table n g
+unfolding table
+table-same zero f g h = refl
+table-same (suc n) f g h =
+    ap (λ x. x ∷ table n (λ k. f (suc k))) (h zero (omega arith))
+    ∙ ap (λ l. g zero ∷ l) (table-same n (λ k. f (suc k)) (λ k. g (suc k)) (λ k l. h (suc k) (omega arith)))
+
+-- x is a value of a table
+pub record InTable {A : Type 0} (n : ℕ) (f : ℕ → A) (x : A) : Type 0 where
+  pub index : ℕ
+  pub below : index < n
+  pub value : x ≡ f index
+
+pub in-table : {A : Type 0} (n : ℕ) (f : ℕ → A) {x : A} → List·Memᴰ x (table n f) → InTable n f x
+unfolding table
+in-table (suc n) f (List·Memᴰ·head e) = record { index = 0; below = omega arith; value = e }
+in-table (suc n) f (List·Memᴰ·tail m) =
+    let r = in-table n (λ k. f (suc k)) m in
+    record { index = suc (r .index); below = omega (arith, r .below); value = r .value }
+
+-- a list's values, by number
+pub table-map : {A B : Type 0} (f : A → B) (xs : List A) (d : A) → table (length xs) (λ i. f (getD xs i d)) ≡ map f xs
+unfolding table
+table-map f [] d = refl
+table-map f (x ∷ xs) d = ap (λ l. f x ∷ l) (table-map f xs d)
+
+-- what holds of the start, and is kept by every step, holds of the fold
+pub fold-keeps : {A B : Type 0} (P : A → Type 0) (f : A → B → A) (a : A) (xs : List B)
+    → P a → ((x : B) → List·Memᴰ x xs → (y : A) → P y → P (f y x)) → P (fold f a xs)
+unfolding fold
+fold-keeps P f a [] p h = p
+fold-keeps P f a (x ∷ xs) p h = fold-keeps P f (f a x) xs (h x (List·Memᴰ·head refl) a p) (λ y m. h y (List·Memᴰ·tail m))

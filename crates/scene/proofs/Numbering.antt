@@ -1,0 +1,121 @@
+-- Flat numbers: when some lists are joined, element j of the m-th stands at the start of the m-th plus j, and every flat number is of that form. Each by
+-- induction on the lists. Assumes nothing.
+use Prim.Native.Nat.{ℕ, zero, suc, _+_, _*_, _-_, _<_, _≤_}
+use mathlib.Core.Path.{_≡_, refl, ap, _∙_}
+use mathlib.Core.Bool.{Bool, true, false}
+use mathlib.Core.List.{List, [], _∷_, _++_, map}
+use native.Mathlib.Nat.{not-suc-le-zero, le-of-suc-le-suc, zero-add, mul-suc}
+use native.Mathlib.Omega.{arith}
+use lib.Dec.{ltb}
+use lib.ListN.{length, getD, length-append, length-map, List·getD-append}
+use lib.Seq.{getD-append-add}
+use borrow.Author.Tests.{ltb-true, ltb-false}
+use Rattle.scene.specs.Format.{iter, trail, joined}
+use Rattle.scene.specs.SceneOf.{startsFrom, sizeSum}
+
+-- ---- trails
+
+module _ (g : ℕ → ℕ) where
+  pub length-trail : (n at : ℕ) → length (trail n g at) ≡ n
+  unfolding trail
+  length-trail zero at = refl
+  length-trail (suc n) at = ap suc (length-trail n (g at))
+
+  pub trail-at : (n at i : ℕ) → i < n → getD (trail n g at) i 0 ≡ iter i g at
+  unfolding trail iter
+  trail-at zero at i h = absurd (not-suc-le-zero h)
+  trail-at (suc n) at zero h = refl
+  trail-at (suc n) at (suc i) h = trail-at n (g at) i (le-of-suc-le-suc h)
+
+pub getD-map : {A B : Type 0} (f : A → B) (l : List A) (i : ℕ) (d : A) (d′ : B) → i < length l → getD (map f l) i d′ ≡ f (getD l i d)
+getD-map f [] i d d′ h = absurd (not-suc-le-zero h)
+getD-map f (x ∷ l) zero d d′ h = refl
+getD-map f (x ∷ l) (suc i) d d′ h = getD-map f l i d d′ (le-of-suc-le-suc h)
+
+-- ---- starts
+
+pub length-starts : (a : ℕ) (ns : List ℕ) → length (startsFrom a ns) ≡ length ns
+unfolding startsFrom
+length-starts a [] = refl
+length-starts a (n ∷ ns) = ap suc (length-starts (a + n) ns)
+
+-- from a later start, as much later
+starts-from : (a : ℕ) (ns : List ℕ) (m : ℕ) → m < length ns → getD (startsFrom a ns) m 0 ≡ a + getD (startsFrom 0 ns) m 0
+unfolding startsFrom
+starts-from a [] m h = absurd (not-suc-le-zero h)
+starts-from a (n ∷ ns) zero h = omega arith
+starts-from a (n ∷ ns) (suc m) h = omega (arith, starts-from (a + n) ns m (le-of-suc-le-suc h), starts-from (0 + n) ns m (le-of-suc-le-suc h))
+
+pub start-below : (ns : List ℕ) (m j : ℕ) → m < length ns → j < getD ns m 0 → getD (startsFrom 0 ns) m 0 + j < sizeSum ns
+unfolding startsFrom sizeSum
+start-below [] m j h k = absurd (not-suc-le-zero h)
+start-below (n ∷ ns) zero j h k = omega arith
+start-below (n ∷ ns) (suc m) j h k =
+    omega (arith, start-below ns m j (le-of-suc-le-suc h) k, starts-from (0 + n) ns m (le-of-suc-le-suc h))
+
+-- a model starts where the one before it ends, and the last ends with the sum
+pub starts-next : (ns : List ℕ) (m : ℕ) → suc m < length ns → getD (startsFrom 0 ns) (suc m) 0 ≡ getD (startsFrom 0 ns) m 0 + getD ns m 0
+unfolding startsFrom
+starts-next [] m h = absurd (not-suc-le-zero h)
+starts-next (n ∷ []) zero h = absurd (omega arith)
+starts-next (n ∷ x ∷ ns) zero h = refl
+starts-next (n ∷ ns) (suc m) h =
+    let l = le-of-suc-le-suc h in
+    omega (arith, starts-from (0 + n) ns (suc m) l, starts-from (0 + n) ns m (omega arith), starts-next ns m l)
+
+pub starts-last : (ns : List ℕ) (m : ℕ) → suc m ≡ length ns → getD (startsFrom 0 ns) m 0 + getD ns m 0 ≡ sizeSum ns
+unfolding startsFrom sizeSum
+starts-last [] m h = absurd (omega arith)
+starts-last (n ∷ []) zero h = omega arith
+starts-last (n ∷ x ∷ ns) zero h = absurd (omega arith)
+starts-last (n ∷ ns) (suc m) h = omega (arith, starts-from (0 + n) ns m (omega arith), starts-last ns m (omega arith))
+
+pub sum-few : (c : ℕ) (ns : List ℕ) → ((m : ℕ) → m < length ns → getD ns m 0 ≤ c) → sizeSum ns ≤ c * length ns
+unfolding sizeSum
+sum-few c [] h = omega arith
+sum-few c (n ∷ ns) h = omega (arith, h 0 (omega arith), sum-few c ns (λ m l. h (suc m) (omega arith)), mul-suc c (length ns))
+
+-- the model and the number in it that a flat number stands for
+pub record Numbered (ns : List ℕ) (i : ℕ) : Type 0 where
+  pub model : ℕ
+  pub number : ℕ
+  pub isModel : model < length ns
+  pub isNumber : number < getD ns model 0
+  pub flat : getD (startsFrom 0 ns) model 0 + number ≡ i
+
+pub numbered : (ns : List ℕ) (i : ℕ) → i < sizeSum ns → Numbered ns i
+unfolding sizeSum startsFrom
+numbered [] i h = absurd (not-suc-le-zero h)
+numbered (n ∷ ns) i h = go (ltb i n) refl (numbered ns (i - n))
+  where
+    go : (t : Bool) → ltb i n ≡ t → (i - n < sizeSum ns → Numbered ns (i - n)) → Numbered (n ∷ ns) i
+    go true q r = record { model = 0; number = i; isModel = omega arith; isNumber = ltb-true i n q; flat = zero-add i }
+    go false q r =
+        let le = ltb-false i n q in
+        let s = r (omega arith) in
+        record {
+          model = suc (s .model);
+          number = s .number;
+          isModel = omega (arith, s .isModel);
+          isNumber = s .isNumber;
+          flat = omega (arith, starts-from (0 + n) ns (s .model) (s .isModel), s .flat);
+        }
+
+-- ---- lists joined
+
+module _ {A : Type 0} where
+  pub length-joined : (xss : List (List A)) → length (joined xss) ≡ sizeSum (map length xss)
+  unfolding joined sizeSum
+  length-joined [] = refl
+  length-joined (xs ∷ xss) = length-append xs (joined xss) ∙ ap (λ n. length xs + n) (length-joined xss)
+
+  pub joined-at : (xss : List (List A)) (m j : ℕ) (d : A) → m < length xss → j < length (getD xss m [])
+      → getD (joined xss) (getD (startsFrom 0 (map length xss)) m 0 + j) d ≡ getD (getD xss m []) j d
+  unfolding joined startsFrom
+  joined-at [] m j d h k = absurd (not-suc-le-zero h)
+  joined-at (xs ∷ xss) zero j d h k = rw zero-add (List·getD-append xs (joined xss) d j k)
+  joined-at (xs ∷ xss) (suc m) j d h k =
+      let ns : List ℕ = map length xss in
+      let e : getD (startsFrom (0 + length xs) ns) m 0 + j ≡ length xs + (getD (startsFrom 0 ns) m 0 + j) =
+      omega (arith, starts-from (0 + length xs) ns m (rw length-map (le-of-suc-le-suc h))) in
+      ap (λ i. getD (xs ++ joined xss) i d) e ∙ getD-append-add xs (joined xss) _ d ∙ joined-at xss m j d (le-of-suc-le-suc h) k

@@ -1,0 +1,197 @@
+-- A record's value is a function of its own bytes: where two packed scenes have the same bytes, at whatever offsets, they have the same doubles, contacts and
+-- particles. Field by field; whether a boundary keeps forces stands in no record, and follows from the record's length. Assumes nothing.
+use Prim.Native.Nat.{ℕ, zero, suc, _+_, _*_, _-_, _/_, _%_, _<_, _≤_}
+use mathlib.Core.Path.{_≡_, refl, sym, ap, _∙_}
+use mathlib.Core.Bool.{Bool, true, false}
+use mathlib.Core.List.{List, _∷_}
+use native.Mathlib.Omega.{arith}
+use lib.Dec.{ltb}
+use borrow.Author.Tests.{ltb-true, ltb-false}
+use Rattle.math.specs.Lists.{table}
+use Rattle.math.proofs.Lists.{table-same}
+use Rattle.scene.specs.Same.{SameBytes, SameRecord, SameFluidRecord, SameShape}
+use Rattle.scene.specs.Accepted.{Bytes}
+use Rattle.scene.specs.Bytes.{byteAt, be16At, be32At, be64At, doubleAt, vectorAt}
+use Rattle.scene.specs.Format.{axes, headerWidth, recordWidth, contactWidth, boundaryContactWidth, fluidsOf, boundariesOf, fluidContactsAt, boundaryContactsAt, contactsAt, Kind, fluidKind, keepsAt, boundaryKind, Place, fluidCounts, boundaryCounts, fluidPlace, boundaryPlace}
+use Rattle.scene.specs.Scene
+use Rattle.scene.specs.Scene.{fluidSize, boundarySize}
+use Rattle.scene.specs.SceneOf.{startsFrom, fluidStarts, boundaryStarts, targetAt, contactAt, contactList, fluidParticleAt, forceAt, boundaryParticleAt, headerOf, sceneOf, sizeSum}
+use Rattle.scene.proofs.Places.{scene-header, scene-counts, fluid-size-sum, boundary-size-sum, particle-at, boundary-at, particle-beyond, boundary-beyond}
+use Rattle.scene.proofs.Records.{keeps-below}
+
+-- ---- numbers, doubles, vectors
+
+module _ {b b′ : List ℕ} {at at′ n : ℕ} (s : SameBytes b at b′ at′ n) where
+  -- m of n bytes, from the o-th on
+  pub same-part : (o m : ℕ) → o + m ≤ n → SameBytes b (at + o) b′ (at′ + o) m
+  same-part o m h = record { each = λ k l. ap (byteAt b) (omega arith) ∙ s .each (o + k) (omega arith) ∙ ap (byteAt b′) (omega arith) }
+
+  same-first : 0 < n → byteAt b at ≡ byteAt b′ at′
+  same-first h = ap (byteAt b) (omega arith) ∙ s .each 0 h ∙ ap (byteAt b′) (omega arith)
+
+  pub same-be16 : 2 ≤ n → be16At b at ≡ be16At b′ at′
+  same-be16 h = omega (arith, same-first (omega arith), s .each 1 (omega arith))
+
+  same-be32 : 4 ≤ n → be32At b at ≡ be32At b′ at′
+  same-be32 h = omega (arith, same-first (omega arith), s .each 1 (omega arith), s .each 2 (omega arith), s .each 3 (omega arith))
+
+module _ {b b′ : List ℕ} where
+  pub same-double : {at at′ n : ℕ} → SameBytes b at b′ at′ n → 8 ≤ n → doubleAt b at ≡ doubleAt b′ at′
+  unfolding doubleAt be64At
+  same-double s h = cc (same-be32 s (omega arith), same-be32 (same-part s 4 4 (omega arith)) (omega arith))
+
+  pub same-vector : (d : ℕ) {at at′ n : ℕ} → SameBytes b at b′ at′ n → 8 * d ≤ n → vectorAt d b at ≡ vectorAt d b′ at′
+  unfolding vectorAt
+  same-vector d s h = table-same d _ _ (λ k l. same-double (same-part s (8 * k) 8 (omega arith)) (omega arith))
+
+  -- ---- contacts
+
+  same-contact : (starts : List ℕ) {at at′ n : ℕ} → SameBytes b at b′ at′ n → contactWidth axes ≤ n → contactAt starts b at ≡ contactAt starts b′ at′
+  unfolding contactAt targetAt
+  same-contact starts s h =
+      cc (
+        same-be16 s (omega arith),
+        same-double (same-part s 2 8 (omega arith)) (omega arith),
+        same-vector axes (same-part s 10 (8 * axes) (omega arith)) (omega arith),
+      )
+
+  pub same-contacts : (starts : List ℕ) {at at′ n : ℕ} (m : ℕ) → SameBytes b at b′ at′ n → contactWidth axes * m ≤ n
+      → contactList starts b m at ≡ contactList starts b′ m at′
+  unfolding contactList
+  same-contacts starts m s h =
+      table-same m _ _ (λ k l. same-contact starts (same-part s (contactWidth axes * k) (contactWidth axes) (omega arith)) (omega arith))
+
+  -- of boundary particles: the weights
+  same-weights : {at at′ n : ℕ} (m : ℕ) → SameBytes b at b′ at′ n → boundaryContactWidth * m ≤ n
+      → table m (λ j. doubleAt b (at + boundaryContactWidth * j + 2)) ≡ table m (λ j. doubleAt b′ (at′ + boundaryContactWidth * j + 2))
+  same-weights m s h =
+      table-same m _ _
+      (λ j l. same-double (same-part (same-part s (boundaryContactWidth * j) boundaryContactWidth (omega arith)) 2 8 (omega arith)) (omega arith))
+
+-- ---- records
+
+module _ {b b′ : List ℕ} {p p′ : Place} where
+  pub same-fluid-particle : (fs bs : List ℕ) → SameFluidRecord b p b′ p′ → fluidParticleAt fs bs b p ≡ fluidParticleAt fs bs b′ p′
+  unfolding fluidParticleAt fluidKind
+  same-fluid-particle fs bs h =
+      let s = h .own .bytes in
+      let f = fluidContactsAt b (p .at) in
+      let g = boundaryContactsAt b (p .at) in
+      let contacts = same-part s (recordWidth axes) (contactWidth axes * (f + g)) (omega arith) in
+      let second = same-part contacts (contactWidth axes * f) (contactWidth axes * g) (omega arith) in
+      cc (
+        same-double (h .density0) (omega arith),
+        same-vector axes s (omega arith),
+        same-vector axes (same-part s (8 * axes) (8 * axes) (omega arith)) (omega arith),
+        same-vector axes (same-part s (16 * axes) (8 * axes) (omega arith)) (omega arith),
+        same-double (same-part s (24 * axes) 8 (omega arith)) (omega arith),
+        same-double (same-part s (24 * axes + 8) 8 (omega arith)) (omega arith),
+        s .each (16 + 24 * axes) (omega arith),
+        s .each (17 + 24 * axes) (omega arith),
+        same-contacts fs f contacts (omega arith),
+        same-contacts bs g second (omega arith),
+      )
+
+same-force : {b b′ : List ℕ} (k : ℕ) {at at′ n : ℕ} → SameBytes b at b′ at′ n → 8 * axes * k ≤ n → forceAt k b at ≡ forceAt k b′ at′
+unfolding forceAt
+same-force zero s h = refl
+same-force (suc k) s h = same-vector axes s (omega arith)
+
+-- the bytes of a force are no whole number of contacts, so a record with a force is never as long as one without
+no-contacts : (c c′ : ℕ) → boundaryContactWidth * c ≡ 8 * axes + boundaryContactWidth * c′ → ⊥
+no-contacts c c′ e = omega arith
+
+never-less : (k k′ c c′ : ℕ) → k′ < 2 → 8 * axes * k + boundaryContactWidth * c ≡ 8 * axes * k′ + boundaryContactWidth * c′ → ¬ (k < k′)
+never-less k k′ c c′ h e l = no-contacts c c′ (omega arith)
+
+same-keeps : (k k′ c c′ : ℕ) → k < 2 → k′ < 2 → 8 * axes * k + boundaryContactWidth * c ≡ 8 * axes * k′ + boundaryContactWidth * c′ → k ≡ k′
+same-keeps k k′ c c′ h h′ e = omega (arith, never-less k k′ c c′ h′ e, never-less k′ k c′ c h (sym e))
+
+module _ {b b′ : List ℕ} {p p′ : Place} where
+  pub same-record-keeps : Bytes b → Bytes b′ → SameRecord boundaryKind b p b′ p′ → keepsAt b (p .head) ≡ keepsAt b′ (p′ .head)
+  unfolding boundaryKind
+  same-record-keeps y y′ h =
+      let k = keepsAt b (p .head) in
+      let k′ = keepsAt b′ (p′ .head) in
+      same-keeps k k′ (contactsAt b k (p .at)) (contactsAt b′ k′ (p′ .at)) (keeps-below b y (p .head)) (keeps-below b′ y′ (p′ .head)) (omega (arith, h .long))
+
+  pub same-boundary-particle : Bytes b → Bytes b′ → SameRecord boundaryKind b p b′ p′ → boundaryParticleAt b p ≡ boundaryParticleAt b′ p′
+  unfolding boundaryParticleAt boundaryKind
+  same-boundary-particle y y′ h =
+      let s = h .bytes in
+      let k = keepsAt b (p .head) in
+      let c = contactsAt b k (p .at) in
+      let contacts = same-part s (8 * axes + 8 * axes * k + 1) (boundaryContactWidth * c) (omega arith) in
+      rw (← same-record-keeps y y′ h)
+      (cc (
+        same-vector axes s (omega arith),
+        same-force k (same-part s (8 * axes) (8 * axes * k) (omega arith)) (omega arith),
+        s .each (8 * axes + 8 * axes * k) (omega arith),
+        same-weights c contacts (omega arith),
+      ))
+
+-- ---- two scenes
+
+module _ {b b′ : List ℕ} (s : SameBytes b 0 b′ 0 (headerWidth axes)) where
+  pub same-header : headerOf b ≡ headerOf b′
+  unfolding headerOf
+  same-header =
+      cc (
+        s .each 2 (omega arith),
+        s .each 3 (omega arith),
+        same-double (same-part s 4 8 (omega arith)) (omega arith),
+        same-double (same-part s 12 8 (omega arith)) (omega arith),
+        same-double (same-part s 20 8 (omega arith)) (omega arith),
+        same-vector axes (same-part s 28 (8 * axes) (omega arith)) (omega arith),
+      )
+
+  pub same-fluids : fluidsOf b ≡ fluidsOf b′
+  same-fluids = ap (λ x. x % 16) (s .each 0 (omega arith))
+
+  pub same-boundaries : boundariesOf b ≡ boundariesOf b′
+  same-boundaries = ap (λ x. x / 16) (s .each 1 (omega arith))
+
+below-or-not : {A : Type 0} (i n : ℕ) → (i < n → A) → (n ≤ i → A) → A
+below-or-not {A} i n f g = go (ltb i n) refl
+  where
+    go : (t : Bool) → ltb i n ≡ t → A
+    go true q = f (ltb-true i n q)
+    go false q = g (ltb-false i n q)
+
+module _ {b b′ : List ℕ} (shape : SameShape b b′) where
+  pub same-scene-header : sceneOf b .header ≡ sceneOf b′ .header
+  same-scene-header = scene-header b ∙ same-header (shape .header) ∙ sym (scene-header b′)
+
+  pub same-scene-counts : sceneOf b .fluidCounts ≡ sceneOf b′ .fluidCounts
+  same-scene-counts = scene-counts b ∙ shape .fluids ∙ sym (scene-counts b′)
+
+  pub same-fluid-starts : fluidStarts b ≡ fluidStarts b′
+  same-fluid-starts = ap (startsFrom 0) (shape .fluids)
+
+  pub same-boundary-starts : boundaryStarts b ≡ boundaryStarts b′
+  same-boundary-starts = ap (startsFrom 0) (shape .boundaries)
+
+  pub same-fluid-size : fluidSize (sceneOf b) ≡ fluidSize (sceneOf b′)
+  same-fluid-size = fluid-size-sum b ∙ ap sizeSum (shape .fluids) ∙ sym (fluid-size-sum b′)
+
+  pub same-boundary-size : boundarySize (sceneOf b) ≡ boundarySize (sceneOf b′)
+  same-boundary-size = boundary-size-sum b ∙ ap sizeSum (shape .boundaries) ∙ sym (boundary-size-sum b′)
+
+  pub same-particle : (i : ℕ) → (i < fluidSize (sceneOf b) → SameFluidRecord b (fluidPlace b i) b′ (fluidPlace b′ i))
+      → Scene.particle (sceneOf b) i ≡ Scene.particle (sceneOf b′) i
+  same-particle i h =
+      below-or-not i (fluidSize (sceneOf b))
+      (λ l.
+      particle-at b i l
+      ∙ same-fluid-particle (fluidStarts b) (boundaryStarts b) (h l)
+      ∙ cc (same-fluid-starts, same-boundary-starts)
+      ∙ sym (particle-at b′ i (rw same-fluid-size at l)))
+      (λ l. particle-beyond (sceneOf b) i l ∙ sym (particle-beyond (sceneOf b′) i (rw same-fluid-size at l)))
+
+  pub same-boundary : Bytes b → Bytes b′ → (j : ℕ)
+      → (j < boundarySize (sceneOf b) → SameRecord boundaryKind b (boundaryPlace b j) b′ (boundaryPlace b′ j))
+      → Scene.boundary (sceneOf b) j ≡ Scene.boundary (sceneOf b′) j
+  same-boundary y y′ j h =
+      below-or-not j (boundarySize (sceneOf b))
+      (λ l. boundary-at b j l ∙ same-boundary-particle y y′ (h l) ∙ sym (boundary-at b′ j (rw same-boundary-size at l)))
+      (λ l. boundary-beyond (sceneOf b) j l ∙ sym (boundary-beyond (sceneOf b′) j (rw same-boundary-size at l)))

@@ -1,0 +1,117 @@
+-- `scene::walk_fields::header` meets its contract: field by field, up to the first refusal. Assumes nothing.
+use mathlib.Core.Path.{sym, _∙_}
+use borrow.Author.Needs.{needs}
+use Rattle.scene.specs.Walk.{_▹_, header}
+use Rattle.scene.proofs.walk_fields.header.Statement.{statement}
+use Rattle.scene.proofs.walk_fields.header.Tie as tie
+
+version-and-fluids-requires : tie.Need-version-and-fluids-requires
+version-and-fluids-requires c κs = search needs
+
+enum-known-fluids : tie.Need-enum-known-fluids
+enum-known-fluids c = search needs
+
+enum-told : tie.Need-enum-told
+enum-told c = search needs
+
+returns : tie.Need-returns
+unfolding header _▹_
+returns c = rw (sym (c .before .before .version-and-fluids .ensures) ∙ c .enum-told .given .1) (c .enum-told .given .1)
+
+boundaries-and-zero-requires : tie.Need-boundaries-and-zero-requires
+boundaries-and-zero-requires c κs = search needs
+
+enum-known-boundaries : tie.Need-enum-known-boundaries
+enum-known-boundaries c = search needs
+
+enum-told-2 : tie.Need-enum-told-2
+enum-told-2 c = search needs
+
+returns-2 : tie.Need-returns-2
+unfolding header _▹_
+returns-2 c =
+    let r = c .before .before in
+    let p = r .before .before in
+    rw (sym (p .before .before .version-and-fluids .ensures) ∙ p .fluids .given .1, sym (r .boundaries-and-zero .ensures) ∙ c .enum-told2 .given .1) (c .enum-told2 .given .1)
+
+plain-requires : tie.Need-plain-requires
+plain-requires c κs = search needs
+
+enum-known-min-pressure-iter : tie.Need-enum-known-min-pressure-iter
+enum-known-min-pressure-iter c = search needs
+
+enum-told-3 : tie.Need-enum-told-3
+enum-told-3 c = search needs
+
+returns-3 : tie.Need-returns-3
+unfolding header _▹_
+returns-3 c =
+    let r = c .before .before in
+    let p2 = r .before .before in
+    let p = p2 .before .before .before .before in
+    rw (sym (p .before .before .version-and-fluids .ensures) ∙ p .fluids .given .1, sym (p2 .before .before .boundaries-and-zero .ensures) ∙ p2 .boundaries .given .1, sym (r .plain .ensures) ∙ c .enum-told3 .given .1) (c .enum-told3 .given .1)
+
+plain-requires-2 : tie.Need-plain-requires-2
+plain-requires-2 c κs = search needs
+
+enum-known-max-pressure-iter : tie.Need-enum-known-max-pressure-iter
+enum-known-max-pressure-iter c = search needs
+
+enum-told-4 : tie.Need-enum-told-4
+enum-told-4 c = search needs
+
+returns-4 : tie.Need-returns-4
+unfolding header _▹_
+returns-4 c =
+    let r = c .before .before in
+    let p₃ = r .before .before in
+    let p₂ = p₃ .before .before .before .before in
+    let p₁ = p₂ .before .before .before .before in
+    rw (
+      sym (p₁ .before .before .version-and-fluids .ensures) ∙ p₁ .fluids .given .1,
+      sym (p₂ .before .before .boundaries-and-zero .ensures) ∙ p₂ .boundaries .given .1,
+      sym (p₃ .before .before .plain .ensures) ∙ p₃ .min-pressure-iter .given .1,
+      sym (r .plain2 .ensures) ∙ c .enum-told4 .given .1,
+    )
+    (c .enum-told4 .given .1)
+
+doubles-requires : tie.Need-doubles-requires
+doubles-requires c κs = search needs
+
+returns-5 : tie.Need-returns-5
+unfolding header _▹_
+returns-5 c =
+    let p₄ = c .before .before in
+    let p₃ = p₄ .before .before .before .before in
+    let p₂ = p₃ .before .before .before .before in
+    let p₁ = p₂ .before .before .before .before in
+    rw (
+      sym (p₁ .before .before .version-and-fluids .ensures) ∙ p₁ .fluids .given .1,
+      sym (p₂ .before .before .boundaries-and-zero .ensures) ∙ p₂ .boundaries .given .1,
+      sym (p₃ .before .before .plain .ensures) ∙ p₃ .min-pressure-iter .given .1,
+      sym (p₄ .before .before .plain2 .ensures) ∙ p₄ .max-pressure-iter .given .1,
+    )
+    (c .doubles .ensures)
+
+pub header-spec : {M : Type 1} → statement M
+header-spec =
+    tie.close
+    (tie.spec
+    version-and-fluids-requires
+    enum-known-fluids
+    enum-told
+    returns
+    boundaries-and-zero-requires
+    enum-known-boundaries
+    enum-told-2
+    returns-2
+    plain-requires
+    enum-known-min-pressure-iter
+    enum-told-3
+    returns-3
+    plain-requires-2
+    enum-known-max-pressure-iter
+    enum-told-4
+    returns-4
+    doubles-requires
+    returns-5)

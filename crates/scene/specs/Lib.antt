@@ -1,0 +1,10 @@
+pub mod Bytes
+pub mod Format
+pub mod Walk
+pub mod Scene
+pub mod SceneOf
+pub mod Kinds
+pub mod Layout
+pub mod Packed
+pub mod Accepted
+pub mod Same

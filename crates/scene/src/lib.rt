@@ -1,0 +1,147 @@
+// A packed scene: its check (document 01, module 3 and the table of refusals) and the reads that a solver uses.
+mod locate;
+pub mod read;
+mod walk_fields;
+mod walk_names;
+
+use crate::locate::layout;
+use crate::walk_fields::fields;
+use crate::walk_names::all_names;
+ghost use mathlib.Core.Path.{_≡_};
+ghost use lib.ListN.{length};
+ghost use Rattle.scene.specs.Walk as walk;
+ghost use Rattle.scene.specs.Layout.{noModels, refusedWith, ChecksTo};
+
+// Why a packed scene is turned down, and at which offset (document 01's table: "turned down", "place").
+pub enum Refusal {
+    // 1: a field is not wholly there.
+    Missing(usize),
+    // 2: the version is not 1, or the four zero bits are not zero.
+    Form(usize),
+    // 3: more than 8 fluids or boundaries.
+    Models(usize),
+    // 4: a model of more than 4,096 particles.
+    Count(usize),
+    // 5: bytes follow the last record.
+    Trailing(usize),
+    // 6: a double that is infinite or not a number.
+    NotFinite(usize),
+    // 7: a contact names a model or a particle that is not there.
+    NotThere(usize),
+    // 8: the answer or the work list is shorter than needed.
+    ShortList,
+    // 9: a density is zero, at the particle's record.
+    ZeroDensity(usize),
+    // 10: a predicted density is zero, at the particle's record.
+    ZeroPredictedDensity(usize),
+}
+
+// How far a walk over the fields has come, or why the scene is turned down.
+pub enum Walk {
+    At(usize),
+    Refused(Refusal),
+}
+
+// The two kinds of models.
+pub enum Kind {
+    Fluid,
+    Boundary,
+}
+
+// The model that a contact names (the Rust's `j_model`).
+pub struct ModelNumber(pub usize);
+
+// The particle that a contact names, counted within its model (the Rust's `j`).
+pub struct ParticleNumber(pub usize);
+
+// A contact's name.
+pub struct ContactName {
+    pub model: ModelNumber,
+    pub particle: ParticleNumber,
+}
+
+// The models of one kind: how many there are and how many particles they have in all; of each the offset of its head, its particles,
+// those of the models before it, and 1 if it keeps forces; and the offset behind the last. Beyond the last model the entries are 0.
+pub struct Models {
+    pub number: usize,
+    pub total: usize,
+    pub heads: [usize; 16],
+    pub counts: [usize; 16],
+    pub starts: [usize; 16],
+    pub keeps: [usize; 16],
+    pub end: usize,
+}
+
+// Where the models of an accepted scene stand. The boundaries begin where the fluids end.
+pub struct Layout {
+    pub fluids: Models,
+    pub boundaries: Models,
+}
+
+// The verdict of a check.
+pub enum Verdict {
+    Accepted,
+    Refused(Refusal),
+}
+
+// The verdict, and the layout of an accepted scene. That of a refused one is all 0.
+pub struct Checked {
+    pub verdict: Verdict,
+    pub layout: Layout,
+}
+
+// The layout of a scene that is refused.
+fn no_models() -> Models
+    ensures { λ r. ⌜ r ≡ noModels ⌝ }
+{
+    Models {
+        number: 0,
+        total: 0,
+        heads: [0usize; 16],
+        counts: [0usize; 16],
+        starts: [0usize; 16],
+        keeps: [0usize; 16],
+        end: 0,
+    }
+}
+
+fn refused(refusal: Refusal) -> Checked
+    ensures { λ r. ⌜ r ≡ refusedWith refusal ⌝ }
+{
+    Checked {
+        verdict: Verdict::Refused(refusal),
+        layout: Layout {
+            fluids: no_models(),
+            boundaries: no_models(),
+        },
+    }
+}
+
+// The check of the names, once the fields are accepted.
+fn check_names(scene: &[u8]) -> Checked
+    requires { ⌜ walk.fields (now scene) ≡ Walk.At (length (now scene)) ⌝ }
+    ensures { λ r. ⌜ ChecksTo (now (scene .entry)) r ⌝ }
+{
+    let found = layout(scene);
+    let fluids = found.fluids;
+    let boundaries = found.boundaries;
+    let fluid_counts = fluids.counts;
+    let boundary_counts = boundaries.counts;
+    match all_names(scene, &fluid_counts, &boundary_counts) {
+        Walk::Refused(r) => refused(r),
+        Walk::At(_) => Checked {
+            verdict: Verdict::Accepted,
+            layout: found,
+        },
+    }
+}
+
+// The check of a packed scene: refusals 1 to 7.
+pub fn check(scene: &[u8]) -> Checked
+    ensures { λ r. ⌜ ChecksTo (now (scene .entry)) r ⌝ }
+{
+    match fields(scene) {
+        Walk::Refused(r) => refused(r),
+        Walk::At(_) => check_names(scene),
+    }
+}

@@ -1,0 +1,115 @@
+// Reads at an offset, which ask for what an accepted scene gives: the bytes are there, and a double is finite.
+use crate::ContactName;
+use crate::Kind;
+use crate::ModelNumber;
+use crate::ParticleNumber;
+use math::Vec3;
+ghost use mathlib.Core.Path.{_≡_};
+ghost use Prim.Native.Nat.{_+_, _≤_, _<_};
+ghost use lib.ListN.{length};
+ghost use Rattle.math.specs.Vector.{axes};
+ghost use Rattle.scene.specs.Bytes.{byteAt, be16At, be32At, be64At, doubleAt, vectorAt, FiniteAt};
+ghost use Rattle.scene.specs.Format.{keepsAt};
+ghost use Rattle.scene.specs.Layout.{NameIs};
+ghost use Rattle.scene.specs.Kinds.{kindOf};
+
+// A byte as a wider number.
+fn wide(x: u8) -> u64
+    ensures { λ r. ⌜ (r ≡ x) × (r < 256) ⌝ }
+{
+    x as u64
+}
+
+fn size(x: u8) -> usize
+    ensures { λ r. ⌜ (r ≡ x) × (r < 256) ⌝ }
+{
+    x as usize
+}
+
+pub fn byte(s: &[u8], at: usize) -> usize
+    requires { ⌜ at < length (now s) ⌝ }
+    ensures { λ r. ⌜ (r ≡ byteAt (now (s .entry)) at) × (r < 256) ⌝ }
+{
+    size(s[at])
+}
+
+pub fn be16(s: &[u8], at: usize) -> usize
+    requires { ⌜ at + 2 ≤ length (now s) ⌝ }
+    ensures { λ r. ⌜ (r ≡ be16At (now (s .entry)) at) × (r < 65536) ⌝ }
+{
+    size(s[at]) * 256 + size(s[at + 1])
+}
+
+fn be32(s: &[u8], at: usize) -> u64
+    requires { ⌜ at + 4 ≤ length (now s) ⌝ }
+    ensures { λ r. ⌜ (r ≡ be32At (now (s .entry)) at) × (r < 4294967296) ⌝ }
+{
+    ((wide(s[at]) * 256 + wide(s[at + 1])) * 256 + wide(s[at + 2])) * 256 + wide(s[at + 3])
+}
+
+// In this form one load and a byte swap, once compiled.
+pub(crate) fn be64(s: &[u8], at: usize) -> u64
+    requires { ⌜ at + 8 ≤ length (now s) ⌝ }
+    ensures { λ r. ⌜ r ≡ be64At (now (s .entry)) at ⌝ }
+{
+    be32(s, at) * 4294967296 + be32(s, at + 4)
+}
+
+pub fn double(s: &[u8], at: usize) -> f64
+    requires { ⌜ FiniteAt (now s) at ⌝ }
+    ensures { λ r. ⌜ r ≡ doubleAt (now (s .entry)) at ⌝ }
+{
+    f64::from_bits(be64(s, at))
+}
+
+pub fn vector(s: &[u8], at: usize) -> Vec3
+    requires { ⌜ FiniteAt (now s) at × FiniteAt (now s) (at + 8) × FiniteAt (now s) (at + 16) ⌝ }
+    ensures { λ r. ⌜ axes r ≡ vectorAt 3 (now (s .entry)) at ⌝ }
+{
+    Vec3 {
+        x: double(s, at),
+        y: double(s, at + 8),
+        z: double(s, at + 16),
+    }
+}
+
+pub fn contact_name(s: &[u8], at: usize) -> ContactName
+    requires { ⌜ at + 2 ≤ length (now s) ⌝ }
+    ensures { λ r. ⌜ NameIs (now (s .entry)) at r ⌝ }
+{
+    let name = be16(s, at);
+    ContactName {
+        model: ModelNumber(name / 4096),
+        particle: ParticleNumber(name % 4096),
+    }
+}
+
+// Of a boundary's head: 1 if the boundary keeps forces, else 0.
+pub fn keeps(s: &[u8], head: usize) -> usize
+    requires { ⌜ head + 2 ≤ length (now s) ⌝ }
+    ensures { λ r. ⌜ (r ≡ keepsAt (now (s .entry)) head) × (r < 2) ⌝ }
+{
+    be16(s, head) / 32768
+}
+
+// Of a model's head: how many particles the model has.
+pub fn particles(s: &[u8], kind: Kind, head: usize) -> usize
+    requires { ⌜ head + 2 ≤ length (now s) ⌝ }
+    ensures { λ r. ⌜ (r ≡ kindOf kind .count (now (s .entry)) head) × (r < 65536) ⌝ }
+{
+    match kind {
+        Kind::Fluid => be16(s, head),
+        Kind::Boundary => be16(s, head) % 32768,
+    }
+}
+
+// Of a model's head: where the first record is.
+pub fn first_record(kind: Kind, head: usize) -> usize
+    requires { ⌜ head < 0x8000_0000_0000_0000 ⌝ }
+    ensures { λ r. ⌜ r ≡ kindOf kind .first head ⌝ }
+{
+    match kind {
+        Kind::Fluid => head + 10,
+        Kind::Boundary => head + 2,
+    }
+}

@@ -1,0 +1,307 @@
+// The walk through the fields: refusals 1 to 6. Each function is a step of specs/Walk.antt, from an offset to the next one or to a refusal, and takes any offset.
+use crate::Kind;
+use crate::Refusal;
+use crate::Walk;
+use crate::read::be16;
+use crate::read::be64;
+use crate::read::byte;
+use crate::read::keeps;
+use crate::read::particles;
+ghost use mathlib.Core.Path.{_≡_};
+ghost use Prim.Native.Nat.{_+_, _≤_, _<_};
+ghost use lib.ListN.{length};
+ghost use Rattle.scene.specs.Walk as walk;
+ghost use Rattle.scene.specs.Kinds.{kindOf, contactOf, headOf, recordOf, modelOf};
+
+// A field of k bytes with no rule of its own. Every other field is read only once it has passed this.
+fn plain(s: &[u8], k: usize, at: usize) -> Walk
+    ensures { λ r. ⌜ r ≡ walk.plain (now (s .entry)) k at ⌝ }
+{
+    if at <= s.len() {
+        if k <= s.len() - at {
+            let next = at + k;
+            return Walk::At(next);
+        }
+    }
+    Walk::Refused(Refusal::Missing(at))
+}
+
+// A double, which is to be finite.
+fn double(s: &[u8], at: usize) -> Walk
+    ensures { λ r. ⌜ r ≡ walk.double (now (s .entry)) at ⌝ }
+{
+    let w = plain(s, 8, at);
+    let Walk::At(next) = w else {
+        return w;
+    };
+    let exponent = be64(s, at) / 0x10_0000_0000_0000 % 2048;
+    if exponent == 2047 {
+        return Walk::Refused(Refusal::NotFinite(at));
+    }
+    Walk::At(next)
+}
+
+// n doubles.
+fn doubles(s: &[u8], n: usize, from: usize) -> Walk
+    ensures { λ r. ⌜ r ≡ walk.times n (walk.double (now (s .entry))) from ⌝ }
+{
+    let mut at = from;
+    let mut i = 0;
+    while i < n {
+        let w = double(s, at);
+        let Walk::At(next) = w else {
+            return w;
+        };
+        at = next;
+        i += 1;
+    }
+    Walk::At(at)
+}
+
+// A count of particles in two bytes, modulo m.
+fn count(s: &[u8], m: usize, at: usize) -> Walk
+    requires { ⌜ 0 < m ⌝ }
+    ensures { λ r. ⌜ r ≡ walk.count (now (s .entry)) m at ⌝ }
+{
+    let w = plain(s, 2, at);
+    let Walk::At(next) = w else {
+        return w;
+    };
+    let particles = be16(s, at) % m;
+    if 4096 < particles {
+        return Walk::Refused(Refusal::Count(at));
+    }
+    Walk::At(next)
+}
+
+// The version, then the number of fluids.
+fn version_and_fluids(s: &[u8], at: usize) -> Walk
+    ensures { λ r. ⌜ r ≡ walk.versionAndFluids (now (s .entry)) at ⌝ }
+{
+    let w = plain(s, 1, at);
+    let Walk::At(next) = w else {
+        return w;
+    };
+    let b = byte(s, at);
+    let version = b / 16;
+    if version != 1 {
+        return Walk::Refused(Refusal::Form(at));
+    }
+    let fluids = b % 16;
+    if 8 < fluids {
+        return Walk::Refused(Refusal::Models(at));
+    }
+    Walk::At(next)
+}
+
+// The number of boundaries, then four zero bits.
+fn boundaries_and_zero(s: &[u8], at: usize) -> Walk
+    ensures { λ r. ⌜ r ≡ walk.boundariesAndZero (now (s .entry)) at ⌝ }
+{
+    let w = plain(s, 1, at);
+    let Walk::At(next) = w else {
+        return w;
+    };
+    let b = byte(s, at);
+    let boundaries = b / 16;
+    if 8 < boundaries {
+        return Walk::Refused(Refusal::Models(at));
+    }
+    let zero = b % 16;
+    if zero != 0 {
+        return Walk::Refused(Refusal::Form(at));
+    }
+    Walk::At(next)
+}
+
+// Nothing follows.
+fn ended(s: &[u8], at: usize) -> Walk
+    ensures { λ r. ⌜ r ≡ walk.ended (now (s .entry)) at ⌝ }
+{
+    if at < s.len() {
+        return Walk::Refused(Refusal::Trailing(at));
+    }
+    Walk::At(at)
+}
+
+// The header.
+fn header(s: &[u8], from: usize) -> Walk
+    ensures { λ r. ⌜ r ≡ walk.header (now (s .entry)) from ⌝ }
+{
+    let fluids = version_and_fluids(s, from);
+    let Walk::At(at) = fluids else {
+        return fluids;
+    };
+    let boundaries = boundaries_and_zero(s, at);
+    let Walk::At(at) = boundaries else {
+        return boundaries;
+    };
+    let min_pressure_iter = plain(s, 1, at);
+    let Walk::At(at) = min_pressure_iter else {
+        return min_pressure_iter;
+    };
+    let max_pressure_iter = plain(s, 1, at);
+    let Walk::At(at) = max_pressure_iter else {
+        return max_pressure_iter;
+    };
+    doubles(s, 6, at)
+}
+
+// A contact: its name and d doubles.
+fn contact(s: &[u8], d: usize, from: usize) -> Walk
+    ensures { λ r. ⌜ r ≡ contactOf d (now (s .entry)) from ⌝ }
+{
+    let name = plain(s, 2, from);
+    let Walk::At(at) = name else {
+        return name;
+    };
+    doubles(s, d, at)
+}
+
+// n contacts of d doubles.
+fn contacts(s: &[u8], d: usize, n: usize, from: usize) -> Walk
+    ensures { λ r. ⌜ r ≡ walk.times n (contactOf d (now (s .entry))) from ⌝ }
+{
+    let mut at = from;
+    let mut i = 0;
+    while i < n {
+        let w = contact(s, d, at);
+        let Walk::At(next) = w else {
+            return w;
+        };
+        at = next;
+        i += 1;
+    }
+    Walk::At(at)
+}
+
+// A fluid particle.
+fn fluid_record(s: &[u8], from: usize) -> Walk
+    ensures { λ r. ⌜ r ≡ walk.fluidRecord (now (s .entry)) from ⌝ }
+{
+    let own = doubles(s, 11, from);
+    let Walk::At(at) = own else {
+        return own;
+    };
+    let fluids = plain(s, 1, at);
+    let Walk::At(at) = fluids else {
+        return fluids;
+    };
+    let boundaries = plain(s, 1, at);
+    let Walk::At(at) = boundaries else {
+        return boundaries;
+    };
+    let fluid_contacts = contacts(s, 4, byte(s, from + 88), at);
+    let Walk::At(at) = fluid_contacts else {
+        return fluid_contacts;
+    };
+    contacts(s, 4, byte(s, from + 89), at)
+}
+
+// A boundary particle, of a boundary that keeps forces if k is 1.
+fn boundary_record(s: &[u8], k: usize, from: usize) -> Walk
+    requires { ⌜ k < 2 ⌝ }
+    ensures { λ r. ⌜ r ≡ walk.boundaryRecord (now (s .entry)) k from ⌝ }
+{
+    let own = doubles(s, 3 + 3 * k, from);
+    let Walk::At(at) = own else {
+        return own;
+    };
+    let boundaries = plain(s, 1, at);
+    let Walk::At(at) = boundaries else {
+        return boundaries;
+    };
+    contacts(s, 1, byte(s, from + (24 + 24 * k)), at)
+}
+
+// A record of the model whose head is at an offset.
+fn record(s: &[u8], kind: Kind, head: usize, from: usize) -> Walk
+    requires { ⌜ head + 2 ≤ length (now s) ⌝ }
+    ensures { λ r. ⌜ r ≡ recordOf kind (now (s .entry)) head from ⌝ }
+{
+    match kind {
+        Kind::Fluid => fluid_record(s, from),
+        Kind::Boundary => boundary_record(s, keeps(s, head), from),
+    }
+}
+
+// n records of that model.
+fn records(s: &[u8], kind: Kind, head: usize, n: usize, from: usize) -> Walk
+    requires { ⌜ head + 2 ≤ length (now s) ⌝ }
+    ensures { λ r. ⌜ r ≡ walk.times n (recordOf kind (now (s .entry)) head) from ⌝ }
+{
+    let mut at = from;
+    let mut i = 0;
+    while i < n {
+        let w = record(s, kind, head, at);
+        let Walk::At(next) = w else {
+            return w;
+        };
+        at = next;
+        i += 1;
+    }
+    Walk::At(at)
+}
+
+// The head of a model: its count, and a fluid's rest density.
+fn model_head(s: &[u8], kind: Kind, from: usize) -> Walk
+    ensures { λ r. ⌜ r ≡ headOf kind (now (s .entry)) from ⌝ }
+{
+    match kind {
+        Kind::Fluid => {
+            let particles = count(s, 65536, from);
+            let Walk::At(at) = particles else {
+                return particles;
+            };
+            double(s, at)
+        }
+        Kind::Boundary => count(s, 32768, from),
+    }
+}
+
+// A model.
+fn model(s: &[u8], kind: Kind, head: usize) -> Walk
+    ensures { λ r. ⌜ r ≡ modelOf kind (now (s .entry)) head ⌝ }
+{
+    let w = model_head(s, kind, head);
+    let Walk::At(first) = w else {
+        return w;
+    };
+    records(s, kind, head, particles(s, kind, head), first)
+}
+
+// n models.
+fn models(s: &[u8], kind: Kind, n: usize, from: usize) -> Walk
+    ensures { λ r. ⌜ r ≡ walk.times n (modelOf kind (now (s .entry))) from ⌝ }
+{
+    let mut at = from;
+    let mut i = 0;
+    while i < n {
+        let w = model(s, kind, at);
+        let Walk::At(next) = w else {
+            return w;
+        };
+        at = next;
+        i += 1;
+    }
+    Walk::At(at)
+}
+
+// All fields.
+pub fn fields(s: &[u8]) -> Walk
+    ensures { λ r. ⌜ r ≡ walk.fields (now (s .entry)) ⌝ }
+{
+    let first = header(s, 0);
+    let Walk::At(at) = first else {
+        return first;
+    };
+    let fluids = models(s, Kind::Fluid, byte(s, 0) % 16, at);
+    let Walk::At(at) = fluids else {
+        return fluids;
+    };
+    let boundaries = models(s, Kind::Boundary, byte(s, 1) / 16, at);
+    let Walk::At(at) = boundaries else {
+        return boundaries;
+    };
+    ended(s, at)
+}

@@ -1,0 +1,134 @@
+// The walk through the names of contacts, of a scene whose fields are accepted: refusal 7.
+use crate::Kind;
+use crate::Refusal;
+use crate::Walk;
+use crate::read::byte;
+use crate::read::contact_name;
+use crate::read::first_record;
+use crate::read::keeps;
+use crate::read::particles;
+ghost use mathlib.Core.Path.{_≡_};
+ghost use Prim.Native.Nat.{_+_, _*_, _≤_};
+ghost use lib.ListN.{length};
+ghost use Rattle.scene.specs.Walk as walk;
+ghost use Rattle.scene.specs.Kinds.{recordNamesOf, modelNamesOf, RecordWithin, ModelWithin, ModelsWithin};
+ghost use Rattle.scene.specs.Layout.{CountsAre};
+
+// A list of n contacts of w bytes. `counts` has the count of each model that they may name, 0 for a model that is not there.
+fn names(s: &[u8], counts: &[usize; 16], w: usize, n: usize, from: usize) -> Walk
+    requires { ⌜ (2 ≤ w) × (from + w * n ≤ length (now s)) ⌝ }
+    ensures { λ r. ⌜ r ≡ walk.names (now (s .entry)) (now (counts .entry)) w n from ⌝ }
+{
+    let mut at = from;
+    let mut i = 0;
+    while i < n {
+        let name = contact_name(s, at);
+        let model = name.model.0;
+        let particle = name.particle.0;
+        if counts[model] <= particle {
+            return Walk::Refused(Refusal::NotThere(at));
+        }
+        at += w;
+        i += 1;
+    }
+    Walk::At(at)
+}
+
+// The record at an offset, of the model with that head. `fluids` and `boundaries` are the counts by model.
+fn record_names(
+    s: &[u8],
+    kind: Kind,
+    fluids: &[usize; 16],
+    boundaries: &[usize; 16],
+    head: usize,
+    at: usize,
+) -> Walk
+    requires { ⌜ CountsAre (now s) (now fluids) (now boundaries) ⌝ }
+    requires { ⌜ RecordWithin kind (now s) head at ⌝ }
+    ensures { λ r. ⌜ r ≡ recordNamesOf kind (now (s .entry)) head at ⌝ }
+{
+    match kind {
+        Kind::Fluid => {
+            let w = names(s, fluids, 34, byte(s, at + 88), at + 90);
+            let Walk::At(middle) = w else {
+                return w;
+            };
+            names(s, boundaries, 34, byte(s, at + 89), middle)
+        }
+        Kind::Boundary => {
+            let k = keeps(s, head);
+            names(
+                s,
+                boundaries,
+                10,
+                byte(s, at + (24 + 24 * k)),
+                at + (24 + 24 * k + 1),
+            )
+        }
+    }
+}
+
+// The records of the model with that head.
+fn model_names(
+    s: &[u8],
+    kind: Kind,
+    fluids: &[usize; 16],
+    boundaries: &[usize; 16],
+    head: usize,
+) -> Walk
+    requires { ⌜ CountsAre (now s) (now fluids) (now boundaries) ⌝ }
+    requires { ⌜ ModelWithin kind (now s) head ⌝ }
+    ensures { λ r. ⌜ r ≡ modelNamesOf kind (now (s .entry)) head ⌝ }
+{
+    let n = particles(s, kind, head);
+    let from = first_record(kind, head);
+    let mut at = from;
+    let mut i = 0;
+    while i < n {
+        let w = record_names(s, kind, fluids, boundaries, head, at);
+        let Walk::At(next) = w else {
+            return w;
+        };
+        at = next;
+        i += 1;
+    }
+    Walk::At(at)
+}
+
+// n models.
+fn models_names(
+    s: &[u8],
+    kind: Kind,
+    fluids: &[usize; 16],
+    boundaries: &[usize; 16],
+    n: usize,
+    from: usize,
+) -> Walk
+    requires { ⌜ CountsAre (now s) (now fluids) (now boundaries) ⌝ }
+    requires { ⌜ ModelsWithin kind (now s) n from ⌝ }
+    ensures { λ r. ⌜ r ≡ walk.times n (modelNamesOf kind (now (s .entry))) from ⌝ }
+{
+    let mut at = from;
+    let mut i = 0;
+    while i < n {
+        let w = model_names(s, kind, fluids, boundaries, at);
+        let Walk::At(next) = w else {
+            return w;
+        };
+        at = next;
+        i += 1;
+    }
+    Walk::At(at)
+}
+
+pub fn all_names(s: &[u8], fluids: &[usize; 16], boundaries: &[usize; 16]) -> Walk
+    requires { ⌜ CountsAre (now s) (now fluids) (now boundaries) ⌝ }
+    requires { ⌜ walk.fields (now s) ≡ Walk.At (length (now s)) ⌝ }
+    ensures { λ r. ⌜ r ≡ walk.allNames (now (s .entry)) ⌝ }
+{
+    let w = models_names(s, Kind::Fluid, fluids, boundaries, byte(s, 0) % 16, 52);
+    let Walk::At(at) = w else {
+        return w;
+    };
+    models_names(s, Kind::Boundary, fluids, boundaries, byte(s, 1) / 16, at)
+}
