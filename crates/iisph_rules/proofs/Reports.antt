@@ -1,0 +1,72 @@
+-- What a step that is done says: the scene was accepted, both lists are long enough, the report is the rules', so are the
+-- answers, and the work list is cleared. Every test that could have
+-- refused is taken apart. Assumes nothing.
+use Prim.Native.Nat.{ℕ, _≤_}
+use mathlib.Core.Path.{_≡_, refl}
+use mathlib.Core.Bool.{Bool, true, false, _||_}
+use mathlib.Core.List.{List, _++_}
+use native.Mathlib.Omega.{arith}
+use lib.ListN.{drop, replicate}
+use lib.Ieee.{Float}
+use borrow.Author.Tests.{ltb-false}
+use Rattle.math.specs.Real.{+0}
+use Rattle.math.specs.Lists.{choose}
+use Rattle.scene.specs.declared.Walk.{Walk}
+use Rattle.scene.specs.declared.Walk.the-variants as walk
+use Rattle.scene.specs.declared.Refusal.{Refusal}
+use Rattle.scene.specs.Scene.{Scene}
+use Rattle.scene.specs.SceneOf.{sceneOf, answersNeeded, workNeeded}
+use Rattle.scene.specs.Walk.{checked}
+use Rattle.iisph_rules.specs.Step.{answersOf, reportOf, unlessZero, sceneAnswer}
+use Rattle.iisph_rules.specs.Answer.{afterCheck, stepAnswer, isDone, answersAfter, clearsWork, workAfter}
+use Rattle.iisph_rules.specs.declared.Report.{Report}
+use Rattle.iisph_rules.specs.declared.StepAnswer.{StepAnswer}
+use Rattle.iisph_rules.specs.declared.StepAnswer.the-variants.{Done, Refused}
+
+never : {A : Type 0} {x : Refusal} {r : Report} → Refused x ≡ Done r → A
+never q = let z : _≡_ {A = ℕ} 0 1 = cc in absurd (omega arith)
+
+not-refused : (t : Bool) (x : Refusal) (a : StepAnswer) {r : Report} → choose t (Refused x) a ≡ Done r → (t ≡ false) × (a ≡ Done r)
+unfolding choose
+not-refused true x a q = never q
+not-refused false x a q = (refl, q)
+
+scene-done : (at : ℕ → ℕ) (s : Scene) {r : Report} → sceneAnswer at s ≡ Done r → reportOf s ≡ r
+unfolding sceneAnswer unlessZero
+scene-done at s q =
+    let p = not-refused _ _ _ (not-refused _ _ _ q .1) .1 in
+    cc
+
+walked : (w : Walk) (a : StepAnswer) {r : Report} → afterCheck w a ≡ Done r → (e : ℕ) × (w ≡ walk.At e) × (a ≡ Done r)
+unfolding afterCheck
+walked (walk.At e) a q = (e, refl, q)
+walked (walk.Refused x) a q = never q
+
+neither : (s t : Bool) → (s || t) ≡ false → (s ≡ false) × (t ≡ false)
+neither true t q = (q, let z : _≡_ {A = ℕ} 0 1 = cc in absurd (omega arith))
+neither false t q = (refl, q)
+
+-- of a call with answer and work lists of these lengths
+pub record IsDone (b : List ℕ) (answers work : ℕ) (r : Report) : Type 0 where
+  pub end : ℕ
+  pub accepted : checked b ≡ walk.At end
+  pub enoughAnswers : answersNeeded b ≤ answers
+  pub enoughWork : workNeeded b ≤ work
+  pub report : reportOf (sceneOf b) ≡ r
+
+module _ (b : List ℕ) (answers work : ℕ) {r : Report} (q : stepAnswer b answers work ≡ Done r) where
+  pub step-done : IsDone b answers work r
+  unfolding stepAnswer
+  step-done =
+      let (e, p, h) = walked (checked b) _ q in
+      let (short, k) = not-refused _ _ _ h in
+      let n = neither _ _ short in
+      record { end = e; accepted = p; enoughAnswers = ltb-false _ _ (n .0); enoughWork = ltb-false _ _ (n .1); report = scene-done _ _ k }
+
+  pub answers-done : (old : List Float) → answersAfter b answers work old ≡ answersOf (sceneOf b) ++ drop (answersNeeded b) old
+  unfolding answersAfter choose isDone
+  answers-done old = rw q
+
+  pub work-done : (old : List Float) → workAfter b answers work old ≡ replicate (workNeeded b) +0 ++ drop (workNeeded b) old
+  unfolding workAfter choose clearsWork
+  work-done old = rw q

@@ -1,0 +1,178 @@
+-- How long the answers are: in a scene that bytes stand for every vector has a double for each axis, so a fluid particle has 7 answers, a boundary particle 1 or 4, and
+-- all of them are as many as are needed, so that nothing beyond is touched. Every operation on vectors, and so every sum, keeps the length. Assumes nothing.
+use Prim.Native.Nat.{ℕ, zero, suc, _+_, _*_, _<_}
+use mathlib.Core.Path.{_≡_, refl, sym, ap, subst, _∙_}
+use mathlib.Core.Bool.{Bool, true, false}
+use mathlib.Core.List.{List, [], _∷_, _++_, map, zipWith, List·Memᴰ}
+use native.Mathlib.Omega.{arith}
+use lib.Dec.{eqb}
+use lib.ListN.{length, drop, length-append, length-map, replicate, length-replicate}
+use lib.Seq.{drop-at}
+use lib.Ieee.{Float}
+use Rattle.math.specs.Real.{+0}
+use Rattle.math.specs.Vector.{Vector, _⊞_, _⊟_, _⊡_}
+use Rattle.math.specs.Lists.{table, choose}
+use Rattle.math.proofs.Lists.{length-table, in-table, table-map, fold-keeps}
+use Rattle.math.proofs.Vectors.{Sized, sum-sized, difference-sized, scaled-sized}
+use Rattle.scene.specs.Bytes.{vectorAt}
+use Rattle.scene.specs.Format.{axes, keepsAt, joined, fluidPlaces, boundaryPlaces, noPlace, boundaryPlace}
+use Rattle.scene.specs.Scene.{Scene, FluidParticle, Contact, fluidSize, boundarySize, particle, boundary}
+use Rattle.scene.specs.SceneOf.{contactAt, contactList, fluidParticleAt, forceAt, boundaryParticleAt, headerOf, sceneOf, sizeSum, answersNeeded, workNeeded}
+use Rattle.scene.proofs.Places.{fluid-size, boundary-size, particle-at, boundary-at}
+use Rattle.scene.proofs.Records.{keeps-below}
+use Rattle.iisph_rules.specs.Coefficients.{overContacts, velocityChange, Coefficients}
+use Rattle.iisph_rules.specs.Step.{boundaryAcceleration, finalVelocityChange, newVelocity, newPosition, fluidAnswer, forceFrom, boundaryForce, boundaryAnswer, answersFrom, answersOf}
+use Rattle.iisph_rules.specs.Answer.{answersAfter, workAfter}
+use Rattle.iisph_rules.proofs.EndToEnd.{length-rows, sum-same}
+use Rattle.iisph_rules.proofs.Iterations.{chosen}
+use Rattle.scene.specs.Accepted.{Bytes}
+
+-- ---- what a step needs of a fluid particle
+
+pub record ParticleSized (d : ℕ) (p : FluidParticle) : Type 0 where
+  pub position : Sized d (p .position)
+  pub velocity : Sized d (p .velocity)
+  pub acceleration : Sized d (p .acceleration)
+  pub fluidContacts : (c : Contact) → List·Memᴰ c (p .fluidContacts) → Sized d (c .gradient)
+  pub boundaryContacts : (c : Contact) → List·Memᴰ c (p .boundaryContacts) → Sized d (c .gradient)
+
+vector-sized : (d : ℕ) (b : List ℕ) (at : ℕ) → Sized d (vectorAt d b at)
+unfolding vectorAt
+vector-sized d b at = length-table d _
+
+contacts-sized : (starts b : List ℕ) (n at : ℕ) (c : Contact) → List·Memᴰ c (contactList starts b n at) → Sized axes (c .gradient)
+unfolding contactList contactAt
+contacts-sized starts b n at c m =
+    let r = in-table n _ m in
+    ap (λ c. length (c .gradient)) (r .value) ∙ vector-sized axes b _
+
+module _ (b : List ℕ) where
+  particle-sized : (i : ℕ) → i < fluidSize (sceneOf b) → ParticleSized axes (particle (sceneOf b) i)
+  unfolding fluidParticleAt
+  particle-sized i h =
+      rw (particle-at b i h)
+      record {
+        position = vector-sized axes b _;
+        velocity = vector-sized axes b _;
+        acceleration = vector-sized axes b _;
+        fluidContacts = contacts-sized _ b _ _;
+        boundaryContacts = contacts-sized _ b _ _;
+      }
+
+-- ---- the answers of one particle, from given coefficients and pressures
+
+module _ (s : Scene) (co : List Coefficients) (ps : List Float) (gravity : Sized (s .header .axes) (s .header .gravity)) where
+  module _ (i : ℕ) (h : ParticleSized (s .header .axes) (particle s i)) where
+    acceleration-sized : (c : Contact) → List·Memᴰ c (particle s i .boundaryContacts) → Sized (s .header .axes) (boundaryAcceleration s co ps i c)
+    unfolding boundaryAcceleration
+    acceleration-sized c m = scaled-sized _ _ (h .boundaryContacts c m)
+
+    change-sized : Sized (s .header .axes) (velocityChange s (particle s i))
+    unfolding velocityChange
+    change-sized = sum-sized _ _ (length-replicate _ _) (scaled-sized _ _ (sum-sized _ _ (h .acceleration) gravity))
+
+    final-change-sized : Sized (s .header .axes) (finalVelocityChange s co ps i)
+    unfolding finalVelocityChange overContacts
+    final-change-sized =
+        fold-keeps (Sized (s .header .axes)) _ _ _
+        (fold-keeps (Sized (s .header .axes)) _ _ _ change-sized (λ c m u p. difference-sized u _ p (scaled-sized _ _ (h .fluidContacts c m))))
+        (λ c m u p. difference-sized u _ p (scaled-sized _ _ (acceleration-sized c m)))
+
+    velocity-sized : Sized (s .header .axes) (newVelocity s co ps i)
+    unfolding newVelocity
+    velocity-sized = sum-sized _ _ (h .velocity) final-change-sized
+
+    position-sized : Sized (s .header .axes) (newPosition s co ps i)
+    unfolding newPosition
+    position-sized = sum-sized _ _ (h .position) (scaled-sized _ _ velocity-sized)
+
+    pub length-fluid-answer : length (fluidAnswer s co ps i) ≡ 1 + 2 * s .header .axes
+    unfolding fluidAnswer
+    length-fluid-answer = simp length-append (omega (arith, position-sized, velocity-sized))
+
+    force-from-sized : (j : ℕ) (u : Vector) → Sized (s .header .axes) u → Sized (s .header .axes) (forceFrom s co ps j u i)
+    unfolding forceFrom
+    force-from-sized j u p =
+        fold-keeps (Sized (s .header .axes)) _ _ _ p
+        (λ c m v q. chosen (Sized (s .header .axes)) _ _ _ (λ _. sum-sized v _ q (scaled-sized _ _ (acceleration-sized c m))) (λ _. q))
+
+  force-sized : ((i : ℕ) → i < fluidSize s → ParticleSized (s .header .axes) (particle s i))
+      → (j : ℕ) → Sized (s .header .axes) (boundary s j .force) → Sized (s .header .axes) (boundaryForce s co ps j)
+  unfolding boundaryForce
+  force-sized h j p =
+      fold-keeps (Sized (s .header .axes)) _ _ _ p
+      (λ i m u q.
+      let r = in-table (fluidSize s) _ m in
+      let p = subst (λ k. ParticleSized (s .header .axes) (particle s k)) (sym (r .value)) (h (r .index) (r .below)) in
+      force-from-sized i p j u q)
+
+-- ---- all answers of a scene that bytes stand for
+
+-- k is 1 where forces are kept
+kept-sized : (k : ℕ) (force : Vector) → k < 2 → (k ≡ 1 → Sized axes force) → length (choose (eqb k 1) force []) ≡ axes * k
+unfolding choose
+kept-sized zero force h p = refl
+kept-sized (suc zero) force h p = p refl
+kept-sized (suc (suc k)) force h p = absurd (omega arith)
+
+force-at-sized : (k : ℕ) (b : List ℕ) (at : ℕ) → k ≡ 1 → Sized axes (forceAt k b at)
+unfolding forceAt
+force-at-sized zero b at e = absurd (omega arith)
+force-at-sized (suc k) b at e = vector-sized axes b at
+
+module _ (b : List ℕ) (bytes : Bytes b) (co : List Coefficients) (ps : List Float) where
+  gravity-sized : Sized axes (sceneOf b .header .gravity)
+  unfolding sceneOf headerOf
+  gravity-sized = vector-sized axes b _
+
+  pub length-fluid : (i : ℕ) → i < fluidSize (sceneOf b) → length (fluidAnswer (sceneOf b) co ps i) ≡ 1 + 2 * axes
+  unfolding sceneOf headerOf
+  length-fluid i h = length-fluid-answer (sceneOf b) co ps gravity-sized i (particle-sized b i h)
+
+  pub length-boundary : (j : ℕ) → j < boundarySize (sceneOf b)
+      → length (boundaryAnswer (sceneOf b) co ps j) ≡ 1 + axes * keepsAt b (boundaryPlace b j .head)
+  unfolding boundaryAnswer boundaryParticleAt sceneOf headerOf
+  length-boundary j h =
+      let p = boundaryPlace b j in
+      let k = keepsAt b (p .head) in
+      let e = boundary-at b j h in
+      let l = kept-sized k (boundaryForce (sceneOf b) co ps j) (keeps-below b bytes (p .head))
+      (λ one. force-sized (sceneOf b) co ps gravity-sized (particle-sized b) j (ap (λ q. length (q .force)) e ∙ force-at-sized k b _ one)) in
+      rw (ap (λ q. q .keepsForces) e) (omega (arith, l))
+
+module _ (b : List ℕ) (bytes : Bytes b) where
+  length-fluids : (co : List Coefficients) (ps : List Float)
+      → length (joined (table (fluidSize (sceneOf b)) (fluidAnswer (sceneOf b) co ps))) ≡ (1 + 2 * axes) * length (fluidPlaces b)
+  length-fluids co ps =
+      length-rows (fluidSize (sceneOf b)) (fluidAnswer (sceneOf b) co ps) (λ i. 1 + 2 * axes) (length-fluid b bytes co ps)
+      ∙ sum-same (1 + 2 * axes) (fluidSize (sceneOf b))
+      ∙ ap (λ n. (1 + 2 * axes) * n) (fluid-size b)
+
+  length-boundaries : (co : List Coefficients) (ps : List Float)
+      → length (joined (table (boundarySize (sceneOf b)) (boundaryAnswer (sceneOf b) co ps)))
+      ≡ sizeSum (map (λ p. 1 + axes * keepsAt b (p .head)) (boundaryPlaces b))
+  length-boundaries co ps =
+      let needed : ℕ → ℕ = λ j. 1 + axes * keepsAt b (boundaryPlace b j .head) in
+      length-rows (boundarySize (sceneOf b)) (boundaryAnswer (sceneOf b) co ps) needed (length-boundary b bytes co ps)
+      ∙ ap (λ n. sizeSum (table n needed)) (boundary-size b)
+      ∙ ap sizeSum (table-map (λ p. 1 + axes * keepsAt b (p .head)) (boundaryPlaces b) noPlace)
+
+  pub length-answers : length (answersOf (sceneOf b)) ≡ answersNeeded b
+  unfolding answersOf answersFrom answersNeeded
+  length-answers = simp length-append (cc (length-fluids _ _, length-boundaries _ _))
+
+-- ---- elements beyond the needed lengths are never touched, whatever the step answers
+
+behind : (t : Bool) (xs old : List Float) (n : ℕ) → length xs ≡ n → drop n (choose t (xs ++ drop n old) old) ≡ drop n old
+unfolding choose
+behind true xs old n h = drop-at xs _ n h
+behind false xs old n h = refl
+
+module _ (b : List ℕ) (answers work : ℕ) (old : List Float) where
+  pub beyond-answers : Bytes b → drop (answersNeeded b) (answersAfter b answers work old) ≡ drop (answersNeeded b) old
+  unfolding answersAfter
+  beyond-answers bytes = behind _ (answersOf (sceneOf b)) old (answersNeeded b) (length-answers b bytes)
+
+  pub beyond-work : drop (workNeeded b) (workAfter b answers work old) ≡ drop (workNeeded b) old
+  unfolding workAfter
+  beyond-work = behind _ (replicate (workNeeded b) +0) old (workNeeded b) (length-replicate (workNeeded b) +0)

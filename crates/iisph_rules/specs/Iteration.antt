@@ -1,0 +1,119 @@
+-- One iteration over the pressures (document 01, module 6: "a sweep"), from the coefficients `co` and the old pressures `ps` of all fluid particles, by their
+-- numbers. Its error is made in three steps: a term for each particle, an average for each fluid, a fold over the averages. Definitions only.
+use Prim.Native.Nat.{ℕ, zero, suc}
+use mathlib.Core.Bool.{cond}
+use mathlib.Core.List.{List, [], _∷_, map}
+use lib.ListN.{getD, take, drop}
+use lib.IntN.{pos}
+use lib.Ieee
+use lib.Ieee.{Float, binary64}
+use Rattle.math.specs.Real.{_⊕_, _⊖_, _⊗_, _⊘_, ⊝, bits, +0, half, magnitude, larger}
+use Rattle.math.specs.Vector.{Vector, _⊞_, _⊟_, _⊡_, _·_}
+use Rattle.math.specs.Lists.{fold, total, table, choose}
+use Rattle.scene.specs.Scene.{Scene, FluidParticle, fluidSize, particle}
+use Rattle.iisph_rules.specs.Coefficients.{dt, zeroVector, overContacts, fluidMass, boundaryMass, djiFactor, Coefficients, coefficient}
+
+abbrev pub pressure : List Float → ℕ → Float
+pressure ps i = getD ps i +0
+
+-- ---- dij_pjl
+
+-- `compute_dij_pjl`: sum over the fluid contacts of g × (((-m_j) × p_j) / (rho_j × rho_j)), then × (dt × dt)
+unfoldable pub dijSum : Scene → List Coefficients → List Float → FluidParticle → Vector
+dijSum s co ps p =
+    fold
+    (λ sum c.
+    let rho = coefficient co (c .target) .density in
+    sum ⊞ c .gradient ⊡ (⊝ (fluidMass s c) ⊗ pressure ps (c .target) ⊘ (rho ⊗ rho)))
+    (zeroVector s)
+    (p .fluidContacts)
+
+unfoldable pub dijPjl : Scene → List Coefficients → List Float → FluidParticle → Vector
+dijPjl s co ps p = dijSum s co ps p ⊡ (dt s ⊗ dt s)
+
+-- of each fluid particle, before any next pressure
+unfoldable pub dijPjls : Scene → List Coefficients → List Float → List Vector
+dijPjls s co ps = table (fluidSize s) (λ i. dijPjl s co ps (particle s i))
+
+abbrev pub dij : List Vector → ℕ → Vector
+dij ds i = getD ds i []
+
+-- ---- next pressures: `compute_next_pressures`, where `ds` are the iteration's dij_pjl
+
+-- the Rust's `sum`: per fluid contact m_j × (((dij_i - dii_j × p_j) - (dij_j - (g × e) × p_i)) · g), per boundary contact m_j × (dij_i · g)
+unfoldable pub pressureSum : Scene → List Coefficients → List Float → List Vector → ℕ → Float
+pressureSum s co ps ds i =
+    let p = particle s i in
+    let e = djiFactor s p (coefficient co i .density) in
+    overContacts
+    (λ sum c.
+    let j = c .target in
+    sum ⊕ fluidMass s c ⊗ (((dij ds i ⊟ coefficient co j .dii ⊡ pressure ps j) ⊟ (dij ds j ⊟ (c .gradient ⊡ e) ⊡ pressure ps i)) · c .gradient))
+    (λ sum c. sum ⊕ boundaryMass s (p .density0) c ⊗ (dij ds i · c .gradient))
+    +0
+    p
+
+-- 0.5 × p_i + (0.5 × (derr - sum)) / aii
+unfoldable pub relaxed : Float → Float → Float → Float → Float
+relaxed p aii derr sum = half ⊗ p ⊕ half ⊗ (derr ⊖ sum) ⊘ aii
+
+-- the error term of a next pressure p above 0: ((-sum) - aii × p) / rest
+unfoldable pub errorTerm : Float → Float → Float → Float → Float
+errorTerm density0 aii sum p = (⊝ sum ⊖ aii ⊗ p) ⊘ density0
+
+-- a next pressure with its error term
+pub record NextPressure : Type 0 where
+  pub pressure : Float
+  pub term : Float
+
+abbrev pub noPressure : NextPressure
+noPressure = record { pressure = +0; term = +0 }
+
+-- a next pressure p above 0 is kept; otherwise, not-a-number included, pressure and term are +0
+unfoldable pub clamped : Float → Float → Float → Float → NextPressure
+clamped density0 aii sum p = cond (Ieee.lt +0 p) (record { pressure = p; term = errorTerm density0 aii sum p }) noPressure
+
+-- 1e-9
+abbrev pub aiiLimit : Float
+aiiLimit = bits 0x3E112E0BE826D695
+
+-- where |aii| is not above 1e-9, pressure and term are +0
+unfoldable pub nextPressure : Scene → List Coefficients → List Float → List Vector → ℕ → NextPressure
+nextPressure s co ps ds i =
+    let density0 = particle s i .density0 in
+    let aii = coefficient co i .aii in
+    let derr = density0 ⊖ coefficient co i .predictedDensity in
+    let sum = pressureSum s co ps ds i in
+    choose (Ieee.lt aiiLimit (magnitude aii)) (clamped density0 aii sum (relaxed (pressure ps i) aii derr sum)) noPressure
+
+-- of each fluid particle; all from the old pressures, beside which they are stored
+unfoldable pub nextPressures : Scene → List Coefficients → List Float → List NextPressure
+nextPressures s co ps = let ds = dijPjls s co ps in table (fluidSize s) (nextPressure s co ps ds)
+
+-- ---- the error
+
+-- of the terms of a fluid of n particles: sum of terms / count
+unfoldable pub average : ℕ → List Float → Float
+average n terms = total +0 terms ⊘ Ieee.ofInt binary64 (pos n)
+
+-- fluid by fluid, where `counts` says how many of the terms each has; an empty fluid has no average
+unfoldable pub averages : List ℕ → List Float → List Float
+averages [] terms = []
+averages (zero ∷ counts) terms = averages counts terms
+averages (suc n ∷ counts) terms = average (suc n) (take (suc n) terms) ∷ averages counts (drop (suc n) terms)
+
+-- starts at +0 and takes each average if greater; an average that is not a number is passed over
+unfoldable pub errorOf : List Float → Float
+errorOf xs = fold larger +0 xs
+
+-- ---- the iteration
+
+pub record Iteration : Type 0 where
+  pub pressures : List Float
+  pub error : Float
+
+-- a turn of the loop in `pressure_solve`: the next pressures take the old ones' place afterwards
+unfoldable pub iteration : Scene → List Coefficients → List Float → Iteration
+iteration s co ps =
+    let next = nextPressures s co ps in
+    record { pressures = map (λ n. n .pressure) next; error = errorOf (averages (s .fluidCounts) (map (λ n. n .term) next)) }

@@ -1,0 +1,5 @@
+pub mod Coefficients
+pub mod Iteration
+pub mod Step
+pub mod Answer
+pub mod Locality

@@ -1,0 +1,4 @@
+pub mod Row
+pub mod Starred
+pub mod Further
+pub mod Rows

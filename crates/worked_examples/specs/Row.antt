@@ -1,0 +1,84 @@
+-- What a worked example is, and what it says of the definitions. Doubles are given by their 64 bits, not-a-number as 7FF8000000000000.
+-- Definitions only.
+use Prim.Native.Nat.{ℕ, _+_, _-_}
+use mathlib.Core.Path.{_≡_}
+use mathlib.Core.Bool.{false}
+use mathlib.Core.List.{List, [], _∷_, _++_, map}
+use lib.ListN.{length, replicate}
+use lib.Ieee.{Float}
+use Rattle.math.specs.Real.{bits}
+use Rattle.cubic_spline.specs.Rows as kernel
+use Rattle.scene.specs.declared.Refusal.{Refusal}
+use Rattle.scene.specs.SceneOf.{sceneOf}
+use Rattle.iisph_rules.specs.Coefficients as rules
+use Rattle.iisph_rules.specs.Coefficients.{Coefficients, boundaryVolume}
+use Rattle.iisph_rules.specs.Answer.{stepAnswer, answersAfter, workAfter}
+use Rattle.iisph_rules.specs.declared.Ending.{Ending}
+use Rattle.iisph_rules.specs.declared.Report.{Report}
+use Rattle.iisph_rules.specs.declared.StepAnswer.{StepAnswer}
+use Rattle.iisph_rules.specs.declared.StepAnswer.the-variants.{Done, Refused}
+
+-- ---- rows
+
+pub data Row : Type 0 where
+  -- a value of the kernel's shapes
+  shape : kernel.Row → Row
+  -- a packed scene that is accepted, its report, its answers, and how many doubles of work it needs
+  done : List ℕ → Report → List ℕ → ℕ → Row
+  -- a packed scene that is refused, with an answer and a work list of these lengths, and how many doubles of work are cleared
+  refused : List ℕ → ℕ → ℕ → Refusal → ℕ → Row
+  -- the coefficients of a packed scene's fluid particles
+  before : List ℕ → List Coefficients → Row
+  -- a boundary particle's weights and its volume
+  volumeOf : List ℕ → ℕ → Row
+
+-- an ending and a number of iterations; dt, inv_dt and remaining time
+unfoldable pub report : Ending → ℕ → ℕ → ℕ → ℕ → Report
+report ending iterations dt inv remaining =
+    record {
+      clock = record { «total_step_size» = bits dt; dt = bits dt; «inv_dt» = bits inv; «remaining_time» = bits remaining };
+      iterations = iterations;
+      ending = ending;
+    }
+
+-- density, predicted density, dii, aii
+unfoldable pub coefficients : ℕ → ℕ → List ℕ → ℕ → Coefficients
+coefficients density predicted dii aii = record { density = bits density; predictedDensity = bits predicted; dii = map bits dii; aii = bits aii }
+
+-- ---- what they say
+
+-- what a call answers, and both lists after it
+pub record Outcome : Type 0 where
+  pub answer : StepAnswer
+  pub answers : List Float
+  pub work : List Float
+
+-- n doubles, 7 each, that a call overwrites or leaves
+abbrev pub old : ℕ → List Float
+old n = replicate n (bits 0x401C000000000000)
+
+-- of a call with lists of these lengths
+unfoldable pub called : List ℕ → ℕ → ℕ → Outcome
+called b answers work =
+    record {
+      answer = stepAnswer b answers work;
+      answers = answersAfter b answers work (old answers);
+      work = workAfter b answers work (old work);
+    }
+
+-- a row that is done is called with one element more in each list than needed
+abbrev pub Holds : Row → Type 0
+Holds (shape r) = kernel.yielded r ≡ r .value
+Holds (done b r answers work) =
+    called b (length answers + 1) (work + 1)
+    ≡ record { answer = Done r; answers = map bits answers ++ old 1; work = replicate work (bits 0) ++ old 1 }
+Holds (refused b answers work r cleared) =
+    called b answers work ≡ record { answer = Refused r; answers = old answers; work = replicate cleared (bits 0) ++ old (work - cleared) }
+Holds (before b co) = rules.coefficients (sceneOf b) ≡ co
+Holds (volumeOf weights v) = boundaryVolume (record { velocity = []; keepsForces = false; force = []; weights = map bits weights }) ≡ bits v
+
+infixr 50 _and_
+-- every row holds
+pub data All : List Row → Type 0 where
+  none : All []
+  _and_ : {r : Row} {rs : List Row} → Holds r → All rs → All (r ∷ rs)

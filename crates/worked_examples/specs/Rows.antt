@@ -1,0 +1,9 @@
+-- All worked examples, as one list. Definitions only.
+use mathlib.Core.List.{List, _++_, map}
+use Rattle.cubic_spline.specs.Rows as kernel
+use Rattle.worked_examples.specs.Row.{Row, shape}
+use Rattle.worked_examples.specs.Starred.{starred, refusals}
+use Rattle.worked_examples.specs.Further.{further}
+
+unfoldable pub rows : List Row
+rows = map shape kernel.rows ++ (starred ++ (refusals ++ further))
