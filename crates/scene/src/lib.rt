@@ -8,9 +8,7 @@ use crate::locate::layout;
 use crate::walk_fields::fields;
 use crate::walk_names::all_names;
 ghost use mathlib.Core.Path.{_≡_};
-ghost use lib.ListN.{length};
-ghost use Rattle.scene.specs.Walk as walk;
-ghost use Rattle.scene.specs.Layout.{noModels, refusedWith, ChecksTo};
+ghost use Rattle.scene.specs.Layout.{refusedWith, ChecksTo};
 
 // Why a packed scene is turned down, and at which offset (document 01's table: "turned down", "place").
 pub enum Refusal {
@@ -90,11 +88,10 @@ pub struct Checked {
     pub layout: Layout,
 }
 
-// The layout of a scene that is refused.
-fn no_models() -> Models
-    ensures { λ r. ⌜ r ≡ noModels ⌝ }
+fn refused(refusal: Refusal) -> Checked
+    ensures { λ r. ⌜ r ≡ refusedWith refusal ⌝ }
 {
-    Models {
+    let none = Models {
         number: 0,
         total: 0,
         heads: [0usize; 16],
@@ -102,36 +99,12 @@ fn no_models() -> Models
         starts: [0usize; 16],
         keeps: [0usize; 16],
         end: 0,
-    }
-}
-
-fn refused(refusal: Refusal) -> Checked
-    ensures { λ r. ⌜ r ≡ refusedWith refusal ⌝ }
-{
+    };
     Checked {
         verdict: Verdict::Refused(refusal),
         layout: Layout {
-            fluids: no_models(),
-            boundaries: no_models(),
-        },
-    }
-}
-
-// The check of the names, once the fields are accepted.
-fn check_names(scene: &[u8]) -> Checked
-    requires { ⌜ walk.fields (now scene) ≡ Walk.At (length (now scene)) ⌝ }
-    ensures { λ r. ⌜ ChecksTo (now (scene .entry)) r ⌝ }
-{
-    let found = layout(scene);
-    let fluids = found.fluids;
-    let boundaries = found.boundaries;
-    let fluid_counts = fluids.counts;
-    let boundary_counts = boundaries.counts;
-    match all_names(scene, &fluid_counts, &boundary_counts) {
-        Walk::Refused(r) => refused(r),
-        Walk::At(_) => Checked {
-            verdict: Verdict::Accepted,
-            layout: found,
+            fluids: none,
+            boundaries: none,
         },
     }
 }
@@ -140,8 +113,19 @@ fn check_names(scene: &[u8]) -> Checked
 pub fn check(scene: &[u8]) -> Checked
     ensures { λ r. ⌜ ChecksTo (now (scene .entry)) r ⌝ }
 {
-    match fields(scene) {
-        Walk::Refused(r) => refused(r),
-        Walk::At(_) => check_names(scene),
+    if let Walk::Refused(r) = fields(scene) {
+        return refused(r);
+    }
+    let found = layout(scene);
+    let fluids = found.fluids;
+    let boundaries = found.boundaries;
+    let fluid_counts = fluids.counts;
+    let boundary_counts = boundaries.counts;
+    if let Walk::Refused(r) = all_names(scene, &fluid_counts, &boundary_counts) {
+        return refused(r);
+    }
+    Checked {
+        verdict: Verdict::Accepted,
+        layout: found,
     }
 }
