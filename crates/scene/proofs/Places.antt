@@ -15,7 +15,7 @@ use Rattle.scene.proofs.Numbering.{length-trail, trail-at, getD-map, su
 -- ---- models of either kind: n of them from `start` on
 
 module _ (κ : Kind) (b : List ℕ) where
-  length-model : (head : ℕ) → length (modelPlaces κ b head) ≡ κ .count b head
+  pub length-model : (head : ℕ) → length (modelPlaces κ b head) ≡ κ .count b head
   unfolding modelPlaces
   length-model head = simp (length-map, length-trail)
 

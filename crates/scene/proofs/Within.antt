@@ -27,14 +27,23 @@ boundary-within m =
       records = λ j l. record { headRoom = m .room; own = m .records j l .count; ends = m .records j l .ends };
     }
 
+-- ---- all models, of either kind
+
+module _ {b : List ℕ} (ok : FieldsOk b) where
+  pub fluid-models-within : ModelsWithin Fluid b (fluidsOf b) (headerWidth axes)
+  unfolding kindOf
+  fluid-models-within = record { few = ok .header .fluids; models = λ m l. fluid-within (ok .fluid m l) }
+
+  pub boundary-models-within : ModelsWithin Boundary b (boundariesOf b) (boundariesStart b)
+  unfolding kindOf
+  boundary-models-within = record { few = ok .header .boundaries; models = λ m l. boundary-within (ok .boundary m l) }
+
 module _ (b : List ℕ) {e : ℕ} (q : fields b ≡ At e) where
   pub header-within : headerWidth axes ≤ length b
   header-within = fields-accepted b q .header .room
 
   pub fluids-within : ModelsWithin Fluid b (fluidsOf b) (headerWidth axes)
-  unfolding kindOf
-  fluids-within = let ok = fields-accepted b q in record { few = ok .header .fluids; models = λ m l. fluid-within (ok .fluid m l) }
+  fluids-within = fluid-models-within (fields-accepted b q)
 
   pub boundaries-within : ModelsWithin Boundary b (boundariesOf b) (boundariesStart b)
-  unfolding kindOf
-  boundaries-within = let ok = fields-accepted b q in record { few = ok .header .boundaries; models = λ m l. boundary-within (ok .boundary m l) }
+  boundaries-within = boundary-models-within (fields-accepted b q)

@@ -6,31 +6,14 @@ use crate::Walk;
 use crate::read::byte;
 use crate::read::first_record;
 use crate::read::keeps;
+use crate::read::next_record;
 use crate::read::particles;
 ghost use mathlib.Core.Path.{_≡_};
 ghost use lib.ListN.{length};
 ghost use Rattle.scene.specs.Format.{modelEnd};
 ghost use Rattle.scene.specs.Walk as walk;
-ghost use Rattle.scene.specs.Kinds.{kindOf, RecordWithin, ModelWithin, ModelsWithin};
+ghost use Rattle.scene.specs.Kinds.{kindOf, ModelWithin, ModelsWithin};
 ghost use Rattle.scene.specs.Layout.{modelsOf, layoutOf};
-
-// Where the record at an offset ends.
-fn next_record(s: &[u8], kind: Kind, head: usize, at: usize) -> usize
-    requires { ⌜ RecordWithin kind (now s) head at ⌝ }
-    ensures { λ r. ⌜ r ≡ kindOf kind .next (now (s .entry)) head at ⌝ }
-{
-    match kind {
-        Kind::Fluid => {
-            let contacts = byte(s, at + 88) + byte(s, at + 89);
-            at + 90 + 34 * contacts
-        }
-        Kind::Boundary => {
-            let k = keeps(s, head);
-            let contacts = byte(s, at + (24 + 24 * k));
-            at + (24 + 24 * k + 1) + 10 * contacts
-        }
-    }
-}
 
 // Where the model with its head at an offset ends.
 fn model_end(s: &[u8], kind: Kind, head: usize) -> usize

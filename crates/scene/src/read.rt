@@ -11,7 +11,7 @@ ghost use Rattle.math.specs.Vector.{axes};
 ghost use Rattle.scene.specs.Bytes.{byteAt, be16At, be32At, be64At, doubleAt, vectorAt, FiniteAt};
 ghost use Rattle.scene.specs.Format.{keepsAt};
 ghost use Rattle.scene.specs.Layout.{NameIs};
-ghost use Rattle.scene.specs.Kinds.{kindOf};
+ghost use Rattle.scene.specs.Kinds.{kindOf, RecordWithin};
 
 // A byte as a wider number.
 fn wide(x: u8) -> u64
@@ -111,5 +111,23 @@ pub fn first_record(kind: Kind, head: usize) -> usize
     match kind {
         Kind::Fluid => head + 10,
         Kind::Boundary => head + 2,
+    }
+}
+
+// Where the record at an offset ends, of the model with that head.
+pub fn next_record(s: &[u8], kind: Kind, head: usize, at: usize) -> usize
+    requires { ⌜ RecordWithin kind (now s) head at ⌝ }
+    ensures { λ r. ⌜ r ≡ kindOf kind .next (now (s .entry)) head at ⌝ }
+{
+    match kind {
+        Kind::Fluid => {
+            let contacts = byte(s, at + 88) + byte(s, at + 89);
+            at + 90 + 34 * contacts
+        }
+        Kind::Boundary => {
+            let k = keeps(s, head);
+            let contacts = byte(s, at + (24 + 24 * k));
+            at + (24 + 24 * k + 1) + 10 * contacts
+        }
     }
 }

@@ -1,10 +1,10 @@
--- `scene::locate::next_record` meets its contract: by the kind; the counts are there, since the record is. Assumes nothing.
+-- `scene::read::next_record` meets its contract: by the kind; the counts are there, since the record is. Assumes nothing.
 use native.Mathlib.Omega.{arith}
 use borrow.Author.Needs.{needs}
 use Rattle.scene.specs.Kinds.{kindOf, ownWidth}
 use Rattle.scene.specs.Format.{fluidKind, boundaryKind}
-use Rattle.scene.proofs.locate.next_record.Statement.{statement}
-use Rattle.scene.proofs.locate.next_record.Tie as tie
+use Rattle.scene.proofs.read.next_record.Statement.{statement}
+use Rattle.scene.proofs.read.next_record.Tie as tie
 
 enum-told : tie.Need-enum-told
 enum-told c = search needs
