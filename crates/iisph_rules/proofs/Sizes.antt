@@ -20,7 +20,7 @@ use Rattle.scene.specs.Scene.{Scene, FluidParticle, Contact, fluidSize, boundar
 use Rattle.scene.specs.SceneOf.{contactAt, contactList, fluidParticleAt, forceAt, boundaryParticleAt, headerOf, sceneOf, sizeSum, answersNeeded, workNeeded}
 use Rattle.scene.proofs.Places.{fluid-size, boundary-size, particle-at, boundary-at}
 use Rattle.scene.proofs.Records.{keeps-below}
-use Rattle.iisph_rules.specs.Coefficients.{overContacts, velocityChange, Coefficients}
+use Rattle.iisph_rules.specs.Coefficients.{overContacts, velocityChange, advectedVelocity, overNamed, dii, Coefficients}
 use Rattle.iisph_rules.specs.Step.{boundaryAcceleration, finalVelocityChange, newVelocity, newPosition, fluidAnswer, forceFrom, boundaryForce, boundaryAnswer, answersFrom, answersOf}
 use Rattle.iisph_rules.specs.Answer.{answersAfter, workAfter}
 use Rattle.iisph_rules.proofs.EndToEnd.{length-rows, sum-same}
@@ -59,6 +59,37 @@ module _ (b : List ℕ) where
         boundaryContacts = contacts-sized _ b _ _;
       }
 
+  gravity-sized : Sized axes (sceneOf b .header .gravity)
+  unfolding sceneOf headerOf
+  gravity-sized = vector-sized axes b _
+
+-- ---- velocities before the pressures
+
+module _ (s : Scene) (p : FluidParticle) (gravity : Sized (s .header .axes) (s .header .gravity)) (h : ParticleSized (s .header .axes) p) where
+  change-sized : Sized (s .header .axes) (velocityChange s p)
+  unfolding velocityChange
+  change-sized = sum-sized _ _ (length-replicate _ _) (scaled-sized _ _ (sum-sized _ _ (h .acceleration) gravity))
+
+  advected-sized : Sized (s .header .axes) (advectedVelocity s p)
+  unfolding advectedVelocity
+  advected-sized = sum-sized _ _ (h .velocity) change-sized
+
+  -- and sums over the contacts
+  dii-sized : (rho : Float) → Sized (s .header .axes) (dii s p rho)
+  unfolding dii overNamed overContacts
+  dii-sized rho =
+      fold-keeps (Sized (s .header .axes)) _ _ _
+      (fold-keeps (Sized (s .header .axes)) _ _ _ (length-replicate _ _) (λ c m u q. sum-sized u _ q (scaled-sized _ _ (h .fluidContacts c m))))
+      (λ c m u q. sum-sized u _ q (scaled-sized _ _ (h .boundaryContacts c m)))
+
+pub length-advected : (b : List ℕ) (i : ℕ) → i < fluidSize (sceneOf b) → length (advectedVelocity (sceneOf b) (particle (sceneOf b) i)) ≡ axes
+unfolding sceneOf headerOf
+length-advected b i h = advected-sized (sceneOf b) (particle (sceneOf b) i) (gravity-sized b) (particle-sized b i h)
+
+pub length-dii : (b : List ℕ) (i : ℕ) → i < fluidSize (sceneOf b) → (rho : Float) → length (dii (sceneOf b) (particle (sceneOf b) i) rho) ≡ axes
+unfolding sceneOf headerOf
+length-dii b i h = dii-sized (sceneOf b) (particle (sceneOf b) i) (gravity-sized b) (particle-sized b i h)
+
 -- ---- the answers of one particle, from given coefficients and pressures
 
 module _ (s : Scene) (co : List Coefficients) (ps : List Float) (gravity : Sized (s .header .axes) (s .header .gravity)) where
@@ -67,15 +98,11 @@ module _ (s : Scene) (co : List Coefficients) (ps : List Float) (gravity : Sized
     unfolding boundaryAcceleration
     acceleration-sized c m = scaled-sized _ _ (h .boundaryContacts c m)
 
-    change-sized : Sized (s .header .axes) (velocityChange s (particle s i))
-    unfolding velocityChange
-    change-sized = sum-sized _ _ (length-replicate _ _) (scaled-sized _ _ (sum-sized _ _ (h .acceleration) gravity))
-
     final-change-sized : Sized (s .header .axes) (finalVelocityChange s co ps i)
     unfolding finalVelocityChange overContacts
     final-change-sized =
         fold-keeps (Sized (s .header .axes)) _ _ _
-        (fold-keeps (Sized (s .header .axes)) _ _ _ change-sized (λ c m u p. difference-sized u _ p (scaled-sized _ _ (h .fluidContacts c m))))
+        (fold-keeps (Sized (s .header .axes)) _ _ _ (change-sized s (particle s i) gravity h) (λ c m u p. difference-sized u _ p (scaled-sized _ _ (h .fluidContacts c m))))
         (λ c m u p. difference-sized u _ p (scaled-sized _ _ (acceleration-sized c m)))
 
     velocity-sized : Sized (s .header .axes) (newVelocity s co ps i)
@@ -121,13 +148,9 @@ force-at-sized zero b at e = absurd (omega arith)
 force-at-sized (suc k) b at e = vector-sized axes b at
 
 module _ (b : List ℕ) (bytes : Bytes b) (co : List Coefficients) (ps : List Float) where
-  gravity-sized : Sized axes (sceneOf b .header .gravity)
-  unfolding sceneOf headerOf
-  gravity-sized = vector-sized axes b _
-
   pub length-fluid : (i : ℕ) → i < fluidSize (sceneOf b) → length (fluidAnswer (sceneOf b) co ps i) ≡ 1 + 2 * axes
   unfolding sceneOf headerOf
-  length-fluid i h = length-fluid-answer (sceneOf b) co ps gravity-sized i (particle-sized b i h)
+  length-fluid i h = length-fluid-answer (sceneOf b) co ps (gravity-sized b) i (particle-sized b i h)
 
   pub length-boundary : (j : ℕ) → j < boundarySize (sceneOf b)
       → length (boundaryAnswer (sceneOf b) co ps j) ≡ 1 + axes * keepsAt b (boundaryPlace b j .head)
@@ -137,7 +160,7 @@ module _ (b : List ℕ) (bytes : Bytes b) (co : List Coefficients) (ps : List Fl
       let k = keepsAt b (p .head) in
       let e = boundary-at b j h in
       let l = kept-sized k (boundaryForce (sceneOf b) co ps j) (keeps-below b bytes (p .head))
-      (λ one. force-sized (sceneOf b) co ps gravity-sized (particle-sized b) j (ap (λ q. length (q .force)) e ∙ force-at-sized k b _ one)) in
+      (λ one. force-sized (sceneOf b) co ps (gravity-sized b) (particle-sized b) j (ap (λ q. length (q .force)) e ∙ force-at-sized k b _ one)) in
       rw (ap (λ q. q .keepsForces) e) (omega (arith, l))
 
 module _ (b : List ℕ) (bytes : Bytes b) where

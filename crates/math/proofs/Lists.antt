@@ -77,6 +77,11 @@ unfolding table
 table-map f [] d = refl
 table-map f (x ∷ xs) d = ap (λ l. f x ∷ l) (table-map f xs d)
 
+pub map-table : {A B : Type 0} (f : A → B) (n : ℕ) (g : ℕ → A) → map f (table n g) ≡ table n (λ i. f (g i))
+unfolding table
+map-table f zero g = refl
+map-table {B = B} f (suc n) g = ap (λ (l : List B). f (g 0) ∷ l) (map-table f n (λ k. g (suc k)))
+
 -- what holds of the start, and is kept by every step, holds of the fold
 pub fold-keeps : {A B : Type 0} (P : A → Type 0) (f : A → B → A) (a : A) (xs : List B)
     → P a → ((x : B) → List·Memᴰ x xs → (y : A) → P y → P (f y x)) → P (fold f a xs)

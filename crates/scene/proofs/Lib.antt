@@ -11,3 +11,4 @@ pub mod Within
 pub mod Filled
 pub mod Checks
 pub mod Rows
+pub mod Early

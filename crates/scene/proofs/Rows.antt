@@ -71,7 +71,7 @@ rows =
 
 -- what the theorem computes with: the walk, and how scenes are written
 walking : ℕ
-unfolding choose be64At fluidKind boundaryKind iter trail modelEnd headsFrom joined boundariesStart fluidCounts boundaryCounts _▹_ times unless field walk.plain walk.double walk.count walk.versionAndFluids walk.boundariesAndZero walk.header walk.contact walk.fluidRecord walk.fluid walk.boundaryContact walk.boundaryRecord walk.boundary walk.ended walk.fields walk.name walk.names walk.fluidRecordNames walk.fluidNames walk.boundaryRecordNames walk.boundaryNames walk.allNames checked numberOf placeOf
+unfolding choose be64At fluidKind boundaryKind iter trail modelEnd headsFrom joined boundariesStart fluidCounts boundaryCounts _▹_ times unless field walk.plain walk.double walk.count walk.versionAndFluids walk.boundariesAndZero walk.header walk.contact walk.fluidRecord walk.fluid walk.boundaryContact walk.boundaryRecord walk.boundary walk.ended walk.fields walk.name walk.names walk.fluidRecordNames walk.fluidNames walk.boundaryRecordNames walk.boundaryNames walk.allNames checked
 walking = 0
 
 writing : ℕ

@@ -15,7 +15,7 @@ use Rattle.scene.specs.declared.Refusal.the-variants.{Missing, Form, Mod
 
 -- ---- document 01's number and place of a refusal
 
-unfoldable pub numberOf : Refusal → ℕ
+abbrev pub numberOf : Refusal → ℕ
 numberOf (Missing at) = 1
 numberOf (Form at) = 2
 numberOf (Models at) = 3
@@ -27,7 +27,7 @@ numberOf ShortList = 8
 numberOf (ZeroDensity at) = 9
 numberOf (ZeroPredictedDensity at) = 10
 
-unfoldable pub placeOf : Refusal → ℕ
+abbrev pub placeOf : Refusal → ℕ
 placeOf (Missing at) = at
 placeOf (Form at) = at
 placeOf (Models at) = at

@@ -9,6 +9,7 @@ use crate::walk_fields::fields;
 use crate::walk_names::all_names;
 ghost use mathlib.Core.Path.{_≡_};
 ghost use Rattle.scene.specs.Layout.{refusedWith, ChecksTo};
+ghost use Rattle.scene.specs.Walk.{numberOf, placeOf};
 
 // Why a packed scene is turned down, and at which offset (document 01's table: "turned down", "place").
 pub enum Refusal {
@@ -32,6 +33,42 @@ pub enum Refusal {
     ZeroDensity(usize),
     // 10: a predicted density is zero, at the particle's record.
     ZeroPredictedDensity(usize),
+}
+
+// Document 01's number of a refusal.
+pub fn number(refusal: Refusal) -> usize
+    ensures { λ n. ⌜ n ≡ numberOf refusal ⌝ }
+{
+    match refusal {
+        Refusal::Missing(_) => 1,
+        Refusal::Form(_) => 2,
+        Refusal::Models(_) => 3,
+        Refusal::Count(_) => 4,
+        Refusal::Trailing(_) => 5,
+        Refusal::NotFinite(_) => 6,
+        Refusal::NotThere(_) => 7,
+        Refusal::ShortList => 8,
+        Refusal::ZeroDensity(_) => 9,
+        Refusal::ZeroPredictedDensity(_) => 10,
+    }
+}
+
+// And its place.
+pub fn place(refusal: Refusal) -> usize
+    ensures { λ at. ⌜ at ≡ placeOf refusal ⌝ }
+{
+    match refusal {
+        Refusal::Missing(at) => at,
+        Refusal::Form(at) => at,
+        Refusal::Models(at) => at,
+        Refusal::Count(at) => at,
+        Refusal::Trailing(at) => at,
+        Refusal::NotFinite(at) => at,
+        Refusal::NotThere(at) => at,
+        Refusal::ShortList => 0,
+        Refusal::ZeroDensity(at) => at,
+        Refusal::ZeroPredictedDensity(at) => at,
+    }
 }
 
 // How far a walk over the fields has come, or why the scene is turned down.

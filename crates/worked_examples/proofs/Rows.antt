@@ -40,7 +40,7 @@ unfolding zipWith
     Scene.fluidSize Scene.boundarySize Scene.particle Scene.boundary
     SceneOf.startsFrom SceneOf.targetAt SceneOf.contactAt SceneOf.contactList SceneOf.fluidParticleAt SceneOf.forceAt SceneOf.boundaryParticleAt
     SceneOf.headerOf SceneOf.sceneOf SceneOf.sizeSum SceneOf.answersNeeded SceneOf.workNeeded
-    Walk.numberOf Walk.placeOf Walk._▹_ Walk.times Walk.unless Walk.field Walk.plain Walk.double Walk.count Walk.versionAndFluids
+    Walk._▹_ Walk.times Walk.unless Walk.field Walk.plain Walk.double Walk.count Walk.versionAndFluids
     Walk.boundariesAndZero Walk.header Walk.contact Walk.fluidRecord Walk.fluid Walk.boundaryContact Walk.boundaryRecord Walk.boundary Walk.ended
     Walk.fields Walk.name Walk.names Walk.fluidRecordNames Walk.fluidNames Walk.boundaryRecordNames Walk.boundaryNames Walk.allNames Walk.checked
     Coefficients.overContacts Coefficients.boundaryVolume Coefficients.particleMass Coefficients.fluidMass Coefficients.boundaryMass

@@ -1,0 +1,67 @@
+-- What stands in the work list before the iterations, and what refusals 9 and 10 answer: the definitions that the contracts of the passes before the iterations cite.
+-- Definitions only.
+use Prim.Native.Nat.{ℕ, _+_, _*_, _≤_}
+use mathlib.Core.List.{List, [], _∷_, _++_}
+use lib.Ieee.{Float}
+use lib.ListN.{length, drop, replicate}
+use lib.Seq.{sets}
+use Rattle.math.specs.Real.{+0}
+use Rattle.scene.specs.Format as Format
+use Rattle.scene.specs.Scene.{Scene, fluidSize, boundarySize, particle}
+use Rattle.scene.specs.SceneOf.{sceneOf, workNeeded}
+use Rattle.scene.specs.declared.Refusal.the-variants.{ZeroDensity, ZeroPredictedDensity}
+use Rattle.iisph_rules.specs.Coefficients.{coefficientsOf}
+use Rattle.iisph_rules.specs.Iteration as Iteration
+use Rattle.iisph_rules.specs.Step.{unlessZero}
+use Rattle.iisph_solver.specs.WorkList.{rowWidth, densitySlot, predictedSlot, aiiSlot, diiSlot, pressureSlot, massSlot, stored, Rows, Part}
+use Rattle.iisph_solver.specs.Passes.{massRow, volumes}
+use Rattle.iisph_solver.specs.Traverse.{slotOf, rowOf}
+use Rattle.iisph_solver.specs.declared.traverse.Pass.{Pass}
+use Rattle.iisph_solver.specs.declared.traverse.Pass.the-variants as pass
+use Rattle.iisph_rules.specs.declared.Report.{Report}
+use Rattle.iisph_rules.specs.declared.StepAnswer.{StepAnswer}
+use Rattle.iisph_rules.specs.declared.StepAnswer.the-variants as answer
+use Rattle.iisph_solver.specs.declared.prepare.Readiness.{Readiness}
+use Rattle.iisph_solver.specs.declared.prepare.Readiness.the-variants.{Ready, Refused}
+
+-- ---- the list
+
+abbrev pub afterPass : Scene → Pass → List Float → List Float
+afterPass s p work = stored (rowWidth Format.axes) (fluidSize s) (slotOf p) (rowOf s p) work
+
+-- masses, then advected velocities, then coefficients and first pressures
+unfoldable pub rowsFilled : Scene → List Float → List Float
+rowsFilled s work = afterPass s pass.Coefficients (afterPass s pass.Advected (afterPass s pass.Masses work))
+
+-- behind the rows the boundary volumes
+unfoldable pub prepared : Scene → List Float → List Float
+prepared s work = rowsFilled s (sets work (rowWidth Format.axes * fluidSize s) (volumes s))
+
+-- a refused scene leaves +0 in the needed front part
+unfoldable pub workPrepared : List ℕ → Readiness → List Float → List Float
+workPrepared b Ready work = prepared (sceneOf b) work
+workPrepared b (Refused r) work = replicate (workNeeded b) +0 ++ drop (workNeeded b) work
+
+-- ---- refusals 9 and 10
+
+-- what a step's answer says before its iterations
+unfoldable pub readiness : StepAnswer → Readiness
+readiness (answer.Done report) = Ready
+readiness (answer.Refused r) = Refused r
+
+-- 9 over all densities, then 10 over all predicted densities; `at` gives the offset of a particle's record
+abbrev pub zeroAnswer : (ℕ → ℕ) → List Float → List Float → Report → StepAnswer
+zeroAnswer at densities predicted report =
+    unlessZero at ZeroDensity densities (unlessZero at ZeroPredictedDensity predicted (answer.Done report))
+
+-- ---- what the iterations find: the coefficients of the scene s, the pressures ps, masses and volumes, in n rows
+
+pub record IterationReady (s : Scene) (ps : List Float) (n : ℕ) (work : List Float) : Type 0 where
+  pub room : rowWidth Format.axes * n + boundarySize s ≤ length work
+  pub density : Rows (rowWidth Format.axes) n densitySlot (λ i. coefficientsOf s (particle s i) .density ∷ []) work
+  pub predictedDensity : Rows (rowWidth Format.axes) n predictedSlot (λ i. coefficientsOf s (particle s i) .predictedDensity ∷ []) work
+  pub aii : Rows (rowWidth Format.axes) n aiiSlot (λ i. coefficientsOf s (particle s i) .aii ∷ []) work
+  pub dii : Rows (rowWidth Format.axes) n diiSlot (λ i. coefficientsOf s (particle s i) .dii) work
+  pub pressure : Rows (rowWidth Format.axes) n (pressureSlot Format.axes) (λ i. Iteration.pressure ps i ∷ []) work
+  pub mass : Rows (rowWidth Format.axes) n (massSlot Format.axes) (massRow s) work
+  pub volume : Part (rowWidth Format.axes * n) (volumes s) work

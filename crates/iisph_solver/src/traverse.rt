@@ -1,0 +1,113 @@
+// The passes over all fluid particles, in the order of their numbers: each stores some slots of every row of the work list. What a pass reads of the list it does
+// not store, so the order of the rows is free.
+use crate::coefficients::CoefficientsOf;
+use crate::coefficients::coefficients_of;
+use crate::rows::put_vector;
+use math::Vec3;
+use scene::read;
+ghost use mathlib.Core.Path.{_≡_};
+ghost use Prim.Native.Nat.{_+_, _*_, _≤_, _<_};
+ghost use lib.ListN.{length};
+ghost use lib.Seq.{sets};
+ghost use Rattle.math.specs.Vector.{axes};
+ghost use Rattle.scene.specs.Scene.{fluidSize, boundarySize, particle};
+ghost use Rattle.scene.specs.SceneOf.{sceneOf};
+ghost use Rattle.iisph_rules.specs.Coefficients.{particleMass, advectedVelocity};
+ghost use Rattle.iisph_solver.specs.WorkList.{stored};
+ghost use Rattle.iisph_solver.specs.Index.{Indexed};
+ghost use Rattle.iisph_solver.specs.Traverse.{slotOf, rowOf, Ready, firstPressure, coefficientList};
+
+// What is stored in every row.
+pub enum Pass {
+    // Fluid::particle_mass.
+    Masses,
+    // predict_advection, integrate_and_clear_accelerations.
+    Advected,
+    // compute_densities, compute_predicted_densities, compute_dii, compute_aii; the first pressures.
+    Coefficients,
+}
+
+// Volume × rest density.
+fn mass_of(scene: &[u8], index: &[usize], n: usize, i: usize) -> f64
+    requires { ⌜ Indexed (now scene) (now index) ⌝ }
+    requires { ⌜ (n ≡ fluidSize (sceneOf (now scene))) × (i < n) ⌝ }
+    ensures { λ r. ⌜ r ≡ particleMass (particle (sceneOf (now (scene .entry))) i) ⌝ }
+{
+    let at = index[32 + i];
+    let head = index[32800 + i];
+    read::double(scene, at + 72) * read::double(scene, head + 2)
+}
+
+// Velocity plus its change before the pressures: 0 + (acceleration + gravity) × dt.
+fn advected_of(scene: &[u8], index: &[usize], n: usize, i: usize) -> Vec3
+    requires { ⌜ Indexed (now scene) (now index) ⌝ }
+    requires { ⌜ (n ≡ fluidSize (sceneOf (now scene))) × (i < n) ⌝ }
+    ensures { λ r. ⌜ axes r ≡ advectedVelocity (sceneOf (now (scene .entry))) (particle (sceneOf (now (scene .entry))) i) ⌝ }
+{
+    let at = index[32 + i];
+    let acceleration = read::vector(scene, at + 48).add(read::vector(scene, 28));
+    let none = Vec3::zero();
+    let change = none.add(acceleration.scale(read::double(scene, 4)));
+    read::vector(scene, at + 24).add(change)
+}
+
+// Half the warm pressure.
+fn first_pressure(scene: &[u8], index: &[usize], n: usize, i: usize) -> f64
+    requires { ⌜ Indexed (now scene) (now index) ⌝ }
+    requires { ⌜ (n ≡ fluidSize (sceneOf (now scene))) × (i < n) ⌝ }
+    ensures { λ r. ⌜ r ≡ firstPressure (sceneOf (now (scene .entry))) i ⌝ }
+{
+    let at = index[32 + i];
+    read::double(scene, at + 80) * 0.5
+}
+
+// Density, predicted density, aii, dii and a pressure, from element k on.
+fn put_coefficients(work: &mut [f64], k: usize, c: CoefficientsOf, pressure: f64)
+    requires { ⌜ k + 7 ≤ length (now work) ⌝ }
+    ensures { λ _. ⌜ now (work .exit) ≡ sets (now (work .entry)) k (coefficientList c pressure) ⌝ }
+{
+    let dii = c.dii;
+    work[k] = c.density;
+    work[k + 1] = c.predicted_density;
+    work[k + 2] = c.aii;
+    put_vector(work, k + 3, dii);
+    work[k + 6] = pressure;
+}
+
+// One row.
+fn turn(pass: Pass, scene: &[u8], index: &[usize], n: usize, work: &mut [f64], i: usize)
+    requires { ⌜ Indexed (now scene) (now index) ⌝ }
+    requires { ⌜ (n ≡ fluidSize (sceneOf (now scene))) × (i < n) ⌝ }
+    requires { ⌜ (14 * n + boundarySize (sceneOf (now scene)) ≤ length (now work)) × Ready (sceneOf (now scene)) n (now work) pass ⌝ }
+    ensures { λ _. ⌜ now (work .exit) ≡ sets (now (work .entry)) (14 * i + slotOf pass) (rowOf (sceneOf (now (scene .entry))) pass i) ⌝ }
+{
+    match pass {
+        Pass::Masses => {
+            let m = mass_of(scene, index, n, i);
+            work[14 * i + 10] = m;
+        }
+        Pass::Advected => {
+            let v = advected_of(scene, index, n, i);
+            put_vector(work, 14 * i + 7, v);
+        }
+        Pass::Coefficients => {
+            let c = coefficients_of(scene, index, work, n, i);
+            let pressure = first_pressure(scene, index, n, i);
+            put_coefficients(work, 14 * i, c, pressure);
+        }
+    }
+}
+
+// All rows, one after the other.
+pub fn traverse(pass: Pass, scene: &[u8], index: &[usize], n: usize, work: &mut [f64])
+    requires { ⌜ Indexed (now scene) (now index) ⌝ }
+    requires { ⌜ n ≡ fluidSize (sceneOf (now scene)) ⌝ }
+    requires { ⌜ (14 * n + boundarySize (sceneOf (now scene)) ≤ length (now work)) × Ready (sceneOf (now scene)) n (now work) pass ⌝ }
+    ensures { λ _. ⌜ now (work .exit) ≡ stored 14 n (slotOf pass) (rowOf (sceneOf (now (scene .entry))) pass) (now (work .entry)) ⌝ }
+{
+    let mut i = 0usize;
+    while i < n {
+        turn(pass, scene, index, n, work, i);
+        i += 1;
+    }
+}
