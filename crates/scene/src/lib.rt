@@ -1,6 +1,7 @@
 // A packed scene: its check (document 01, module 3 and the table of refusals) and the reads that a solver uses.
 mod locate;
 pub mod read;
+mod single_fields;
 mod walk_fields;
 mod walk_names;
 

@@ -114,7 +114,7 @@ pub fn first_record(kind: Kind, head: usize) -> usize
     }
 }
 
-// Where the record at an offset ends, of the model with that head.
+// Of a record of the model with that head: where it ends.
 pub fn next_record(s: &[u8], kind: Kind, head: usize, at: usize) -> usize
     requires { ⌜ RecordWithin kind (now s) head at ⌝ }
     ensures { λ r. ⌜ r ≡ kindOf kind .next (now (s .entry)) head at ⌝ }

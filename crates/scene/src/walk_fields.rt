@@ -1,128 +1,21 @@
-// The walk through the fields: refusals 1 to 6. Each function is a step of specs/Walk.antt, from an offset to the next one or to a refusal, and takes any offset.
+// The walk through the fields: refusals 1 to 6. Each function is a step of specs/Walk.antt or, said once for both kinds of models, of specs/Kinds.antt.
 use crate::Kind;
-use crate::Refusal;
 use crate::Walk;
-use crate::read::be16;
-use crate::read::be64;
 use crate::read::byte;
 use crate::read::keeps;
 use crate::read::particles;
+use crate::single_fields::boundaries_and_zero;
+use crate::single_fields::count;
+use crate::single_fields::double;
+use crate::single_fields::doubles;
+use crate::single_fields::ended;
+use crate::single_fields::plain;
+use crate::single_fields::version_and_fluids;
 ghost use mathlib.Core.Path.{_≡_};
 ghost use Prim.Native.Nat.{_+_, _≤_, _<_};
 ghost use lib.ListN.{length};
 ghost use Rattle.scene.specs.Walk as walk;
-ghost use Rattle.scene.specs.Kinds.{kindOf, contactOf, headOf, recordOf, modelOf};
-
-// A field of k bytes with no rule of its own. Every other field is read only once it has passed this.
-fn plain(s: &[u8], k: usize, at: usize) -> Walk
-    ensures { λ r. ⌜ r ≡ walk.plain (now (s .entry)) k at ⌝ }
-{
-    if at <= s.len() {
-        if k <= s.len() - at {
-            let next = at + k;
-            return Walk::At(next);
-        }
-    }
-    Walk::Refused(Refusal::Missing(at))
-}
-
-// A double, which is to be finite.
-fn double(s: &[u8], at: usize) -> Walk
-    ensures { λ r. ⌜ r ≡ walk.double (now (s .entry)) at ⌝ }
-{
-    let w = plain(s, 8, at);
-    let Walk::At(next) = w else {
-        return w;
-    };
-    let exponent = be64(s, at) / 0x10_0000_0000_0000 % 2048;
-    if exponent == 2047 {
-        return Walk::Refused(Refusal::NotFinite(at));
-    }
-    Walk::At(next)
-}
-
-// n doubles.
-fn doubles(s: &[u8], n: usize, from: usize) -> Walk
-    ensures { λ r. ⌜ r ≡ walk.times n (walk.double (now (s .entry))) from ⌝ }
-{
-    let mut at = from;
-    let mut i = 0;
-    while i < n {
-        let w = double(s, at);
-        let Walk::At(next) = w else {
-            return w;
-        };
-        at = next;
-        i += 1;
-    }
-    Walk::At(at)
-}
-
-// A count of particles in two bytes, modulo m.
-fn count(s: &[u8], m: usize, at: usize) -> Walk
-    requires { ⌜ 0 < m ⌝ }
-    ensures { λ r. ⌜ r ≡ walk.count (now (s .entry)) m at ⌝ }
-{
-    let w = plain(s, 2, at);
-    let Walk::At(next) = w else {
-        return w;
-    };
-    let particles = be16(s, at) % m;
-    if 4096 < particles {
-        return Walk::Refused(Refusal::Count(at));
-    }
-    Walk::At(next)
-}
-
-// The version, then the number of fluids.
-fn version_and_fluids(s: &[u8], at: usize) -> Walk
-    ensures { λ r. ⌜ r ≡ walk.versionAndFluids (now (s .entry)) at ⌝ }
-{
-    let w = plain(s, 1, at);
-    let Walk::At(next) = w else {
-        return w;
-    };
-    let b = byte(s, at);
-    let version = b / 16;
-    if version != 1 {
-        return Walk::Refused(Refusal::Form(at));
-    }
-    let fluids = b % 16;
-    if 8 < fluids {
-        return Walk::Refused(Refusal::Models(at));
-    }
-    Walk::At(next)
-}
-
-// The number of boundaries, then four zero bits.
-fn boundaries_and_zero(s: &[u8], at: usize) -> Walk
-    ensures { λ r. ⌜ r ≡ walk.boundariesAndZero (now (s .entry)) at ⌝ }
-{
-    let w = plain(s, 1, at);
-    let Walk::At(next) = w else {
-        return w;
-    };
-    let b = byte(s, at);
-    let boundaries = b / 16;
-    if 8 < boundaries {
-        return Walk::Refused(Refusal::Models(at));
-    }
-    let zero = b % 16;
-    if zero != 0 {
-        return Walk::Refused(Refusal::Form(at));
-    }
-    Walk::At(next)
-}
-
-// Nothing follows.
-fn ended(s: &[u8], at: usize) -> Walk
-    ensures { λ r. ⌜ r ≡ walk.ended (now (s .entry)) at ⌝ }
-{
-    if at < s.len() {
-        return Walk::Refused(Refusal::Trailing(at));
-    }
-    Walk::At(at)
-}
+ghost use Rattle.scene.specs.Kinds.{contactOf, headOf, recordOf, modelOf};
 
 // The header.
 fn header(s: &[u8], from: usize) -> Walk

@@ -18,7 +18,9 @@ unfolding _▹_
 count-there p₂ =
     let p₁ = p₂ .before .before .before .before in
     let a = Begin p₂ .args in
-    boundary-own-leads (a .s .now) (a .k) (a .from) (p₂ .boundaries .given .0 .0) (rw (sym (p₁ .before .before .doubles .ensures) ∙ p₁ .own .given .1) (sym (p₂ .before .before .plain .ensures) ∙ p₂ .boundaries .given .1)) .1 .1
+    boundary-own-leads (a .s .now) (a .k) (a .from) (p₂ .boundaries .given .0 .0)
+    (rw (sym (p₁ .before .before .doubles .ensures) ∙ p₁ .own .given .1) (sym (p₂ .before .before .plain .ensures) ∙ p₂ .boundaries .given .1))
+    .1 .1
 
 mul-doubles : tie.Need-mul-doubles
 mul-doubles c = search needs
@@ -76,7 +78,13 @@ unfolding boundaryRecord _▹_
 returns-3 c =
     let p₂ = c .before .before .before in
     let p₁ = p₂ .before .before .before .before in
-    rw (sym (p₁ .before .before .doubles .ensures) ∙ p₁ .own .given .1, sym (p₂ .before .before .plain .ensures) ∙ p₂ .boundaries .given .1, ← c .before .byte .ensures .0, ← one-double) (c .contacts .ensures)
+    rw (
+      sym (p₁ .before .before .doubles .ensures) ∙ p₁ .own .given .1,
+      sym (p₂ .before .before .plain .ensures) ∙ p₂ .boundaries .given .1,
+      ← c .before .byte .ensures .0,
+      ← one-double,
+    )
+    (c .contacts .ensures)
 
 pub boundary-record-spec : {M : Type 1} → statement M
 boundary-record-spec =

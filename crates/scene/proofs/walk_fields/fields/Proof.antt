@@ -1,4 +1,5 @@
--- `scene::walk_fields::fields` meets its contract: header, fluids, boundaries and the end, up to the first refusal; the header is there once it is passed. Assumes nothing.
+-- `scene::walk_fields::fields` meets its contract: header, fluids, boundaries and the end, up to the first refusal; the header is there once it is passed.
+-- Assumes nothing.
 use Prim.Native.Nat.{_≤_}
 use mathlib.Core.Path.{sym, _∙_}
 use native.Mathlib.Omega.{arith}

@@ -70,7 +70,12 @@ returns-3 c =
     let p₂ = r .before .before in
     let p₁ = p₂ .before .before .before .before in
     let q = c .enum-told3 .given .1 in
-    rw (sym (p₁ .before .before .doubles .ensures) ∙ p₁ .own .given .1, sym (p₂ .before .before .plain .ensures) ∙ p₂ .fluids .given .1, sym (r .plain2 .ensures) ∙ q) q
+    rw (
+      sym (p₁ .before .before .doubles .ensures) ∙ p₁ .own .given .1,
+      sym (p₂ .before .before .plain .ensures) ∙ p₂ .fluids .given .1,
+      sym (r .plain2 .ensures) ∙ q,
+    )
+    q
 
 add-byte : tie.Need-add-byte
 add-byte c = omega (arith, counts-there (c .before))
@@ -95,7 +100,14 @@ returns-4 c =
     let p₂ = p₃ .before .before .before .before in
     let p₁ = p₂ .before .before .before .before in
     let q = c .enum-told4 .given .1 in
-    rw (sym (p₁ .before .before .doubles .ensures) ∙ p₁ .own .given .1, sym (p₂ .before .before .plain .ensures) ∙ p₂ .fluids .given .1, sym (p₃ .before .before .plain2 .ensures) ∙ p₃ .boundaries .given .1, ← r .before .byte .ensures .0, sym (r .contacts .ensures) ∙ q) q
+    rw (
+      sym (p₁ .before .before .doubles .ensures) ∙ p₁ .own .given .1,
+      sym (p₂ .before .before .plain .ensures) ∙ p₂ .fluids .given .1,
+      sym (p₃ .before .before .plain2 .ensures) ∙ p₃ .boundaries .given .1,
+      ← r .before .byte .ensures .0,
+      sym (r .contacts .ensures) ∙ q,
+    )
+    q
 
 add-byte-2 : tie.Need-add-byte-2
 add-byte-2 c = omega (arith, counts-there (c .before .before .before .before .before .before))

@@ -16,7 +16,7 @@ enum-told c = search needs
 
 returns : tie.Need-returns
 unfolding header _▹_
-returns c = rw (sym (c .before .before .version-and-fluids .ensures) ∙ c .enum-told .given .1) (c .enum-told .given .1)
+returns c = let q = c .enum-told .given .1 in rw (sym (c .before .before .version-and-fluids .ensures) ∙ q) q
 
 boundaries-and-zero-requires : tie.Need-boundaries-and-zero-requires
 boundaries-and-zero-requires c κs = search needs
@@ -31,8 +31,9 @@ returns-2 : tie.Need-returns-2
 unfolding header _▹_
 returns-2 c =
     let r = c .before .before in
-    let p = r .before .before in
-    rw (sym (p .before .before .version-and-fluids .ensures) ∙ p .fluids .given .1, sym (r .boundaries-and-zero .ensures) ∙ c .enum-told2 .given .1) (c .enum-told2 .given .1)
+    let p₁ = r .before .before in
+    let q = c .enum-told2 .given .1 in
+    rw (sym (p₁ .before .before .version-and-fluids .ensures) ∙ p₁ .fluids .given .1, sym (r .boundaries-and-zero .ensures) ∙ q) q
 
 plain-requires : tie.Need-plain-requires
 plain-requires c κs = search needs
@@ -47,9 +48,15 @@ returns-3 : tie.Need-returns-3
 unfolding header _▹_
 returns-3 c =
     let r = c .before .before in
-    let p2 = r .before .before in
-    let p = p2 .before .before .before .before in
-    rw (sym (p .before .before .version-and-fluids .ensures) ∙ p .fluids .given .1, sym (p2 .before .before .boundaries-and-zero .ensures) ∙ p2 .boundaries .given .1, sym (r .plain .ensures) ∙ c .enum-told3 .given .1) (c .enum-told3 .given .1)
+    let p₂ = r .before .before in
+    let p₁ = p₂ .before .before .before .before in
+    let q = c .enum-told3 .given .1 in
+    rw (
+      sym (p₁ .before .before .version-and-fluids .ensures) ∙ p₁ .fluids .given .1,
+      sym (p₂ .before .before .boundaries-and-zero .ensures) ∙ p₂ .boundaries .given .1,
+      sym (r .plain .ensures) ∙ q,
+    )
+    q
 
 plain-requires-2 : tie.Need-plain-requires-2
 plain-requires-2 c κs = search needs
@@ -67,13 +74,14 @@ returns-4 c =
     let p₃ = r .before .before in
     let p₂ = p₃ .before .before .before .before in
     let p₁ = p₂ .before .before .before .before in
+    let q = c .enum-told4 .given .1 in
     rw (
       sym (p₁ .before .before .version-and-fluids .ensures) ∙ p₁ .fluids .given .1,
       sym (p₂ .before .before .boundaries-and-zero .ensures) ∙ p₂ .boundaries .given .1,
       sym (p₃ .before .before .plain .ensures) ∙ p₃ .min-pressure-iter .given .1,
-      sym (r .plain2 .ensures) ∙ c .enum-told4 .given .1,
+      sym (r .plain2 .ensures) ∙ q,
     )
-    (c .enum-told4 .given .1)
+    q
 
 doubles-requires : tie.Need-doubles-requires
 doubles-requires c κs = search needs

@@ -11,8 +11,11 @@ use Rattle.scene.proofs.Named.{fluid-names-same, boundary-names-same}
 use Rattle.scene.proofs.walk_names.record_names.Statement.{statement}
 use Rattle.scene.proofs.walk_names.record_names.Tie as tie
 
+abbrev Begin : tie.After-w → tie.Start
+Begin c = c .before .before .before .before .before .before .before
+
 -- the boundary contacts follow the fluid contacts
-middle : (c : tie.After-w) → c .w .given .0 .0 ≡ c .before .before .before .before .before .before .before .args .at + 90 + 34 * c .before .before .before .byte .result
+middle : (c : tie.After-w) → c .w .given .0 .0 ≡ Begin c .args .at + 90 + 34 * c .before .before .before .byte .result
 middle c = names-steps _ _ _ _ _ _ (sym (c .before .before .names .ensures) ∙ c .w .given .1) .0
 
 enum-told : tie.Need-enum-told
@@ -61,7 +64,8 @@ names-requires-2 : tie.Need-names-requires-2
 unfolding kindOf fluidKind
 names-requires-2 c κs =
     let p = c .before .before .before .before .before .before in
-    (omega arith, omega (arith, middle (c .before .before), c .before .before .before .before .before .byte .ensures .0, c .byte2 .ensures .0, rw (p .enum-told .given .1) at (p .before .before .before .pre .1 .ends)))
+    let f = c .before .before .before .before .before .byte .ensures .0 in
+    (omega arith, omega (arith, middle (c .before .before), f, c .byte2 .ensures .0, rw (p .enum-told .given .1) at (p .before .before .before .pre .1 .ends)))
 
 enum-told-3 : tie.Need-enum-told-3
 enum-told-3 c = search needs

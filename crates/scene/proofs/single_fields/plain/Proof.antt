@@ -1,4 +1,4 @@
--- `scene::walk_fields::plain` meets its contract: present or not. Assumes nothing.
+-- `scene::single_fields::plain` meets its contract: present or not. Assumes nothing.
 use Prim.Native.Nat.{_+_, _≤_, _<_}
 use mathlib.Core.Path.{sym}
 use native.Mathlib.Omega.{arith}
@@ -6,8 +6,8 @@ use lib.ListN.{length}
 use borrow.Author.Needs.{needs}
 use Rattle.scene.specs.Walk.{plain}
 use Rattle.scene.proofs.Walks.{field-there, field-missing}
-use Rattle.scene.proofs.walk_fields.plain.Statement.{statement}
-use Rattle.scene.proofs.walk_fields.plain.Tie as tie
+use Rattle.scene.proofs.single_fields.plain.Statement.{statement}
+use Rattle.scene.proofs.single_fields.plain.Tie as tie
 
 sub-if2 : tie.Need-sub-if2
 sub-if2 c = search needs

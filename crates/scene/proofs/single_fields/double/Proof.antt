@@ -1,4 +1,4 @@
--- `scene::walk_fields::double` meets its contract: present or not, then finite or not. Assumes nothing.
+-- `scene::single_fields::double` meets its contract: present or not, then finite or not. Assumes nothing.
 use mathlib.Core.Path.{sym, _∙_}
 use borrow.Author.Tests.{eq-eqb, ne-eqb}
 use borrow.Author.Needs.{needs}
@@ -6,8 +6,8 @@ use Rattle.math.specs.Lists.{choose}
 use Rattle.scene.specs.Walk.{unless, double}
 use Rattle.scene.proofs.Reached.{plain-steps}
 use Rattle.scene.proofs.Walks.{field-there, field-refused}
-use Rattle.scene.proofs.walk_fields.double.Statement.{statement}
-use Rattle.scene.proofs.walk_fields.double.Tie as tie
+use Rattle.scene.proofs.single_fields.double.Statement.{statement}
+use Rattle.scene.proofs.single_fields.double.Tie as tie
 
 plain-requires : tie.Need-plain-requires
 plain-requires c κs = search needs

@@ -1,10 +1,10 @@
--- `scene::walk_fields::doubles` meets its contract: what remains from here is the whole, turn by turn. Assumes nothing.
+-- `scene::single_fields::doubles` meets its contract: what remains from here is the whole, turn by turn. Assumes nothing.
 use Prim.Native.Nat.{_-_}
 use borrow.Author.Needs.{needs}
 use Rattle.scene.specs.Walk.{double}
 use Rattle.scene.proofs.Walks.{Remains, none-done, one-more-done, turn-refused, all-done}
-use Rattle.scene.proofs.walk_fields.doubles.Statement.{statement}
-use Rattle.scene.proofs.walk_fields.doubles.Tie as tie
+use Rattle.scene.proofs.single_fields.doubles.Statement.{statement}
+use Rattle.scene.proofs.single_fields.doubles.Tie as tie
 
 abbrev Inv-loop : tie.InvT-loop
 Inv-loop s n from at₀ i₀ at i = Remains (double s) n from i at

@@ -1,4 +1,4 @@
--- `scene::walk_fields::count` meets its contract: present or not, then over 4,096 or not. Assumes nothing.
+-- `scene::single_fields::count` meets its contract: present or not, then over 4,096 or not. Assumes nothing.
 use mathlib.Core.Path.{sym, _∙_}
 use borrow.Author.Needs.{needs}
 use borrow.Author.Tests.{lt-ltb, le-ltb}
@@ -6,8 +6,8 @@ use Rattle.math.specs.Lists.{choose}
 use Rattle.scene.specs.Walk.{unless, count}
 use Rattle.scene.proofs.Reached.{plain-steps}
 use Rattle.scene.proofs.Walks.{field-there, field-refused}
-use Rattle.scene.proofs.walk_fields.count.Statement.{statement}
-use Rattle.scene.proofs.walk_fields.count.Tie as tie
+use Rattle.scene.proofs.single_fields.count.Statement.{statement}
+use Rattle.scene.proofs.single_fields.count.Tie as tie
 
 plain-requires : tie.Need-plain-requires
 plain-requires c κs = search needs

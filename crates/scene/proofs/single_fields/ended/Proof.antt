@@ -1,9 +1,9 @@
--- `scene::walk_fields::ended` meets its contract: bytes follow or not. Assumes nothing.
+-- `scene::single_fields::ended` meets its contract: bytes follow or not. Assumes nothing.
 use borrow.Author.Tests.{lt-ltb, le-ltb}
 use Rattle.math.specs.Lists.{choose}
 use Rattle.scene.specs.Walk.{ended, unless}
-use Rattle.scene.proofs.walk_fields.ended.Statement.{statement}
-use Rattle.scene.proofs.walk_fields.ended.Tie as tie
+use Rattle.scene.proofs.single_fields.ended.Statement.{statement}
+use Rattle.scene.proofs.single_fields.ended.Tie as tie
 
 returns : tie.Need-returns
 unfolding ended unless choose
