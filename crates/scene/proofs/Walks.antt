@@ -1,24 +1,24 @@
 -- What the functions of the two walks cite: a field that is not there, a loop of which some turns are done, where what remains from here is the whole, and that what
 -- the code says once is what the walk says of fluids and of boundaries. Assumes nothing.
 use Prim.Native.Nat.{ℕ, zero, suc, _+_, _-_, _≤_, _<_}
-use native.Mathlib.Nat.{sub-zero}
-use native.Mathlib.Omega.{arith}
 use mathlib.Core.Path.{_≡_, refl, sym, ap, _∙_, fun-ext}
 use mathlib.Core.Bool.{Bool, true, false}
 use mathlib.Core.List.{List}
+use native.Mathlib.Nat.{sub-zero}
+use native.Mathlib.Omega.{arith}
 use lib.Dec.{leb}
-use borrow.Author.Tests.{leb-true, leb-false, le-leb, lt-leb}
 use lib.ListN.{length}
-use Rattle.scene.specs.Walk.{_▹_, times, unless, field, plain, double, fluid, boundaryContact, boundary}
+use borrow.Author.Tests.{leb-true, leb-false, le-leb, lt-leb}
 use Rattle.math.specs.Lists.{choose}
 use Rattle.scene.specs.Format.{fluidKind, boundaryKind, iter}
+use Rattle.scene.specs.Walk.{_▹_, times, unless, field, plain, double, fluid, boundaryContact, boundary}
 use Rattle.scene.specs.Kinds.{kindOf, contactOf, headOf, recordOf, modelOf}
 use Rattle.scene.specs.declared.Kind.{Kind}
 use Rattle.scene.specs.declared.Kind.the-variants.{Fluid, Boundary}
-use Rattle.scene.specs.declared.Walk.{Walk}
-use Rattle.scene.specs.declared.Walk.the-variants.{At, Refused}
 use Rattle.scene.specs.declared.Refusal.{Refusal}
 use Rattle.scene.specs.declared.Refusal.the-variants.{Missing}
+use Rattle.scene.specs.declared.Walk.{Walk}
+use Rattle.scene.specs.declared.Walk.the-variants.{At, Refused}
 use Rattle.scene.proofs.Reached.{never, _then_, double-steps, count-steps}
 
 -- ---- fields
@@ -32,8 +32,9 @@ module _ (b : List ℕ) (k : ℕ) (rule : ℕ → Walk) (at : ℕ) where
   unfolding field unless choose
   field-missing h = rw (lt-leb _ _ h)
 
--- a field is refused where its bytes are
-pub field-refused : (b : List ℕ) (k : ℕ) (rule : ℕ → Walk) (at : ℕ) {w : Walk} {r : Refusal} → w ≡ plain b k at → w ≡ Refused r → w ≡ field b k rule at
+-- a field whose bytes are refused is refused so
+pub field-refused : (b : List ℕ) (k : ℕ) (rule : ℕ → Walk) (at : ℕ) {w : Walk} {r : Refusal}
+    → w ≡ plain b k at → w ≡ Refused r → w ≡ field b k rule at
 unfolding plain
 field-refused b k rule at {w} {r} e q = told (leb (at + k) (length b)) refl
   where

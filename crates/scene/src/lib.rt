@@ -1,4 +1,5 @@
 // A packed scene: its check (document 01, module 3 and the table of refusals) and the reads that a solver uses.
+pub mod format;
 mod locate;
 pub mod read;
 mod single_fields;

@@ -3,6 +3,7 @@ use crate::Kind;
 use crate::Layout;
 use crate::Models;
 use crate::Walk;
+use crate::format::HEADER_WIDTH;
 use crate::read::byte;
 use crate::read::first_record;
 use crate::read::keeps;
@@ -67,7 +68,7 @@ pub fn layout(s: &[u8]) -> Layout
     requires { ⌜ walk.fields (now s) ≡ Walk.At (length (now s)) ⌝ }
     ensures { λ r. ⌜ r ≡ layoutOf (now (s .entry)) ⌝ }
 {
-    let fluids = models(s, Kind::Fluid, byte(s, 0) % 16, 52);
+    let fluids = models(s, Kind::Fluid, byte(s, 0) % 16, HEADER_WIDTH);
     let boundaries = models(s, Kind::Boundary, byte(s, 1) / 16, fluids.end);
     Layout { fluids, boundaries }
 }

@@ -3,6 +3,12 @@ use crate::ContactName;
 use crate::Kind;
 use crate::ModelNumber;
 use crate::ParticleNumber;
+use crate::format::BOUNDARY_CONTACT_WIDTH;
+use crate::format::BOUNDARY_CONTACTS;
+use crate::format::CONTACT_WIDTH;
+use crate::format::FLUID_CONTACTS;
+use crate::format::RECORD_WIDTH;
+use crate::format::VECTOR_WIDTH;
 use math::Vec3;
 ghost use mathlib.Core.Path.{_≡_};
 ghost use Prim.Native.Nat.{_+_, _≤_, _<_};
@@ -121,13 +127,13 @@ pub fn next_record(s: &[u8], kind: Kind, head: usize, at: usize) -> usize
 {
     match kind {
         Kind::Fluid => {
-            let contacts = byte(s, at + 88) + byte(s, at + 89);
-            at + 90 + 34 * contacts
+            let contacts = byte(s, at + FLUID_CONTACTS) + byte(s, at + BOUNDARY_CONTACTS);
+            at + RECORD_WIDTH + CONTACT_WIDTH * contacts
         }
         Kind::Boundary => {
-            let k = keeps(s, head);
-            let contacts = byte(s, at + (24 + 24 * k));
-            at + (24 + 24 * k + 1) + 10 * contacts
+            let count = VECTOR_WIDTH + VECTOR_WIDTH * keeps(s, head);
+            let contacts = byte(s, at + count);
+            at + (count + 1) + BOUNDARY_CONTACT_WIDTH * contacts
         }
     }
 }

@@ -2,6 +2,8 @@
 // to a refusal, and takes any offset.
 use crate::Refusal;
 use crate::Walk;
+use crate::format::MAX_MODELS;
+use crate::format::MAX_PARTICLES;
 use crate::read::be16;
 use crate::read::be64;
 use crate::read::byte;
@@ -64,7 +66,7 @@ pub fn count(s: &[u8], m: usize, at: usize) -> Walk
         return w;
     };
     let particles = be16(s, at) % m;
-    if 4096 < particles {
+    if MAX_PARTICLES < particles {
         return Walk::Refused(Refusal::Count(at));
     }
     Walk::At(next)
@@ -84,7 +86,7 @@ pub fn version_and_fluids(s: &[u8], at: usize) -> Walk
         return Walk::Refused(Refusal::Form(at));
     }
     let fluids = b % 16;
-    if 8 < fluids {
+    if MAX_MODELS < fluids {
         return Walk::Refused(Refusal::Models(at));
     }
     Walk::At(next)
@@ -100,7 +102,7 @@ pub fn boundaries_and_zero(s: &[u8], at: usize) -> Walk
     };
     let b = byte(s, at);
     let boundaries = b / 16;
-    if 8 < boundaries {
+    if MAX_MODELS < boundaries {
         return Walk::Refused(Refusal::Models(at));
     }
     let zero = b % 16;

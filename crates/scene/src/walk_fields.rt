@@ -1,6 +1,14 @@
 // The walk through the fields: refusals 1 to 6. Each function is a step of specs/Walk.antt or, said once for both kinds of models, of specs/Kinds.antt.
 use crate::Kind;
 use crate::Walk;
+use crate::format::AXES;
+use crate::format::BOUNDARY_CONTACT_DOUBLES;
+use crate::format::BOUNDARY_CONTACTS;
+use crate::format::CONTACT_DOUBLES;
+use crate::format::FLUID_CONTACTS;
+use crate::format::HEADER_DOUBLES;
+use crate::format::RECORD_DOUBLES;
+use crate::format::VECTOR_WIDTH;
 use crate::read::byte;
 use crate::read::keeps;
 use crate::read::particles;
@@ -37,7 +45,7 @@ fn header(s: &[u8], from: usize) -> Walk
     let Walk::At(at) = max_pressure_iter else {
         return max_pressure_iter;
     };
-    doubles(s, 6, at)
+    doubles(s, HEADER_DOUBLES, at)
 }
 
 // A contact: its name and d doubles.
@@ -72,7 +80,7 @@ fn contacts(s: &[u8], d: usize, n: usize, from: usize) -> Walk
 fn fluid_record(s: &[u8], from: usize) -> Walk
     ensures { λ r. ⌜ r ≡ walk.fluidRecord (now (s .entry)) from ⌝ }
 {
-    let own = doubles(s, 11, from);
+    let own = doubles(s, RECORD_DOUBLES, from);
     let Walk::At(at) = own else {
         return own;
     };
@@ -84,11 +92,13 @@ fn fluid_record(s: &[u8], from: usize) -> Walk
     let Walk::At(at) = boundaries else {
         return boundaries;
     };
-    let fluid_contacts = contacts(s, 4, byte(s, from + 88), at);
+    let n = byte(s, from + FLUID_CONTACTS);
+    let fluid_contacts = contacts(s, CONTACT_DOUBLES, n, at);
     let Walk::At(at) = fluid_contacts else {
         return fluid_contacts;
     };
-    contacts(s, 4, byte(s, from + 89), at)
+    let n = byte(s, from + BOUNDARY_CONTACTS);
+    contacts(s, CONTACT_DOUBLES, n, at)
 }
 
 // A boundary particle, of a boundary that keeps forces if k is 1.
@@ -96,7 +106,7 @@ fn boundary_record(s: &[u8], k: usize, from: usize) -> Walk
     requires { ⌜ k < 2 ⌝ }
     ensures { λ r. ⌜ r ≡ walk.boundaryRecord (now (s .entry)) k from ⌝ }
 {
-    let own = doubles(s, 3 + 3 * k, from);
+    let own = doubles(s, AXES + AXES * k, from);
     let Walk::At(at) = own else {
         return own;
     };
@@ -104,7 +114,8 @@ fn boundary_record(s: &[u8], k: usize, from: usize) -> Walk
     let Walk::At(at) = boundaries else {
         return boundaries;
     };
-    contacts(s, 1, byte(s, from + (24 + 24 * k)), at)
+    let count = VECTOR_WIDTH + VECTOR_WIDTH * k;
+    contacts(s, BOUNDARY_CONTACT_DOUBLES, byte(s, from + count), at)
 }
 
 // A record of the model whose head is at an offset.

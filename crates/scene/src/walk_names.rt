@@ -2,6 +2,13 @@
 use crate::Kind;
 use crate::Refusal;
 use crate::Walk;
+use crate::format::BOUNDARY_CONTACT_WIDTH;
+use crate::format::BOUNDARY_CONTACTS;
+use crate::format::CONTACT_WIDTH;
+use crate::format::FLUID_CONTACTS;
+use crate::format::HEADER_WIDTH;
+use crate::format::RECORD_WIDTH;
+use crate::format::VECTOR_WIDTH;
 use crate::read::byte;
 use crate::read::contact_name;
 use crate::read::first_record;
@@ -49,21 +56,18 @@ fn record_names(
 {
     match kind {
         Kind::Fluid => {
-            let w = names(s, fluids, 34, byte(s, at + 88), at + 90);
+            let n = byte(s, at + FLUID_CONTACTS);
+            let w = names(s, fluids, CONTACT_WIDTH, n, at + RECORD_WIDTH);
             let Walk::At(middle) = w else {
                 return w;
             };
-            names(s, boundaries, 34, byte(s, at + 89), middle)
+            let n = byte(s, at + BOUNDARY_CONTACTS);
+            names(s, boundaries, CONTACT_WIDTH, n, middle)
         }
         Kind::Boundary => {
-            let k = keeps(s, head);
-            names(
-                s,
-                boundaries,
-                10,
-                byte(s, at + (24 + 24 * k)),
-                at + (24 + 24 * k + 1),
-            )
+            let count = VECTOR_WIDTH + VECTOR_WIDTH * keeps(s, head);
+            let n = byte(s, at + count);
+            names(s, boundaries, BOUNDARY_CONTACT_WIDTH, n, at + (count + 1))
         }
     }
 }
@@ -126,7 +130,14 @@ pub fn all_names(s: &[u8], fluids: &[usize; 16], boundaries: &[usize; 16]) -> Wa
     requires { ⌜ walk.fields (now s) ≡ Walk.At (length (now s)) ⌝ }
     ensures { λ r. ⌜ r ≡ walk.allNames (now (s .entry)) ⌝ }
 {
-    let w = models_names(s, Kind::Fluid, fluids, boundaries, byte(s, 0) % 16, 52);
+    let w = models_names(
+        s,
+        Kind::Fluid,
+        fluids,
+        boundaries,
+        byte(s, 0) % 16,
+        HEADER_WIDTH,
+    );
     let Walk::At(at) = w else {
         return w;
     };

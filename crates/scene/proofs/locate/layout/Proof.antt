@@ -10,7 +10,8 @@ use Rattle.scene.proofs.Within.{header-within, fluids-within, boundarie
 use Rattle.scene.proofs.locate.layout.Statement.{statement}
 use Rattle.scene.proofs.locate.layout.Tie as tie
 
-both : {f f′ g g′ : Models} → f ≡ f′ → g ≡ g′ → _≡_ {A = Layout} (record { fluids = f; boundaries = g }) (record { fluids = f′; boundaries = g′ })
+both : {f f′ g g′ : Models} → f ≡ f′ → g ≡ g′
+    → _≡_ {A = Layout} (record { fluids = f; boundaries = g }) (record { fluids = f′; boundaries = g′ })
 both e q = cc
 
 fluids-end : (c : tie.After-models) → c .models .result .end ≡ boundariesStart (c .before .before .before .args .s .now)

@@ -41,21 +41,18 @@ enum-told-2 c = search needs
 keeps-requires : tie.Need-keeps-requires
 keeps-requires c κs = search needs
 
-mul-byte : tie.Need-mul-byte
-mul-byte c = search needs
+mul-count : tie.Need-mul-count
+mul-count c = search needs
+
+add-count : tie.Need-add-count
+add-count c = search needs
 
 add-byte-3 : tie.Need-add-byte-3
 add-byte-3 c = search needs
 
-add-byte-4 : tie.Need-add-byte-4
-add-byte-4 c = search needs
-
 byte-requires-3 : tie.Need-byte-requires-3
 unfolding ownWidth
 byte-requires-3 c κs = omega (arith, c .keeps .ensures .0, rw (c .before .enum-told2 .given .1) at (c .before .before .before .before .pre .own))
-
-mul-result-2 : tie.Need-mul-result-2
-mul-result-2 c = search needs
 
 add-result-3 : tie.Need-add-result-3
 add-result-3 c = search needs
@@ -63,14 +60,11 @@ add-result-3 c = search needs
 add-result-4 : tie.Need-add-result-4
 add-result-4 c = search needs
 
+mul-result-2 : tie.Need-mul-result-2
+mul-result-2 c = search needs
+
 add-result-5 : tie.Need-add-result-5
 add-result-5 c = search needs
-
-mul-result-3 : tie.Need-mul-result-3
-mul-result-3 c = search needs
-
-add-result-6 : tie.Need-add-result-6
-add-result-6 c = search needs
 
 returns : tie.Need-returns
 unfolding kindOf fluidKind
@@ -95,15 +89,13 @@ next-record-spec =
     add-result-2
     enum-told-2
     keeps-requires
-    mul-byte
+    mul-count
+    add-count
     add-byte-3
-    add-byte-4
     byte-requires-3
-    mul-result-2
     add-result-3
     add-result-4
+    mul-result-2
     add-result-5
-    mul-result-3
-    add-result-6
     returns
     returns-2)

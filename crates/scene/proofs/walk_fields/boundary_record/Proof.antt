@@ -58,14 +58,14 @@ returns-2 c =
     let q = c .enum-told2 .given .1 in
     rw (sym (p₁ .before .before .doubles .ensures) ∙ p₁ .own .given .1, sym (r .plain .ensures) ∙ q) q
 
-mul-byte : tie.Need-mul-byte
-mul-byte c = search needs
+mul-count : tie.Need-mul-count
+mul-count c = search needs
+
+add-count : tie.Need-add-count
+add-count c = search needs
 
 add-byte : tie.Need-add-byte
-add-byte c = search needs
-
-add-byte-2 : tie.Need-add-byte-2
-add-byte-2 c = omega (arith, count-there (c .before))
+add-byte c = omega (arith, count-there (c .before))
 
 byte-requires : tie.Need-byte-requires
 byte-requires c κs = omega (arith, count-there (c .before))
@@ -100,9 +100,9 @@ boundary-record-spec =
     enum-known-boundaries
     enum-told-2
     returns-2
-    mul-byte
+    mul-count
+    add-count
     add-byte
-    add-byte-2
     byte-requires
     contacts-requires
     returns-3)

@@ -73,30 +73,24 @@ enum-told-3 c = search needs
 keeps-requires : tie.Need-keeps-requires
 keeps-requires c κs = search needs
 
-mul-byte : tie.Need-mul-byte
-mul-byte c = search needs
+mul-count : tie.Need-mul-count
+mul-count c = search needs
+
+add-count : tie.Need-add-count
+add-count c = search needs
 
 add-byte-3 : tie.Need-add-byte-3
 add-byte-3 c = search needs
 
-add-byte-4 : tie.Need-add-byte-4
-add-byte-4 c = search needs
-
 byte-requires-3 : tie.Need-byte-requires-3
 unfolding ownWidth
 byte-requires-3 c κs = omega (arith, c .keeps .ensures .0, rw (c .before .enum-told3 .given .1) at (c .before .before .before .before .pre .1 .own))
-
-mul-names : tie.Need-mul-names
-mul-names c = search needs
 
 add-names-2 : tie.Need-add-names-2
 add-names-2 c = search needs
 
 add-names-3 : tie.Need-add-names-3
 add-names-3 c = search needs
-
-add-names-4 : tie.Need-add-names-4
-add-names-4 c = search needs
 
 names-requires-3 : tie.Need-names-requires-3
 unfolding kindOf boundaryKind
@@ -144,14 +138,12 @@ record-names-spec =
     names-requires-2
     enum-told-3
     keeps-requires
-    mul-byte
+    mul-count
+    add-count
     add-byte-3
-    add-byte-4
     byte-requires-3
-    mul-names
     add-names-2
     add-names-3
-    add-names-4
     names-requires-3
     returns-2
     returns-3)
