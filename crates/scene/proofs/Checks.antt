@@ -1,8 +1,8 @@
--- What a check answers, from where its walks have come to. Assumes nothing.
+-- What a check answers, from where its walks have come to: each by opening what the check is made of. Assumes nothing.
 use Prim.Native.Nat.{ℕ}
-use mathlib.Core.Path.{_≡_, ap, _∙_}
+use mathlib.Core.Path.{_≡_}
 use mathlib.Core.List.{List}
-use Rattle.scene.specs.Format.{fluidCounts, boundaryCounts}
+use Rattle.scene.specs.Format.{fluidsOf, boundariesOf, fluidCounts, boundaryCounts}
 use Rattle.scene.specs.Walk.{_▹_, fields, allNames, checked}
 use Rattle.scene.specs.Layout.{modelsOf, layoutOf, refusedWith, verdictOf, layoutFor, ChecksTo, CountsAre}
 use Rattle.scene.specs.declared.Checked.{Checked}
@@ -29,7 +29,15 @@ module _ (b : List ℕ) where
   unfolding verdictOf layoutFor
   checks-accepted q e = record { verdict = rw q; layout = rw q e }
 
-  -- the counts of the layout
+  -- what the names are walked by
+  pub layout-fluids : {l : Layout} → l ≡ layoutOf b → l .fluids .number ≡ fluidsOf b
+  unfolding layoutOf modelsOf
+  layout-fluids e = rw e
+
+  pub layout-boundaries : {l : Layout} → l ≡ layoutOf b → l .boundaries .number ≡ boundariesOf b
+  unfolding layoutOf modelsOf
+  layout-boundaries e = rw e
+
   pub layout-counts : {l : Layout} → l ≡ layoutOf b → CountsAre b (l .fluids .counts) (l .boundaries .counts)
   unfolding layoutOf modelsOf fluidCounts boundaryCounts
   layout-counts e = rw e (record { fluid = padded-at (fluidCounts b); boundary = padded-at (boundaryCounts b) })

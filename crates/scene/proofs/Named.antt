@@ -1,9 +1,8 @@
 -- The walk through the names, as the code takes it: it depends only on what each model number counts, and it steps from record to record and from model to model as
 -- the walk through the fields does. From the laws of Reached and Accepted. Assumes nothing.
-use Prim.Native.Nat.{ℕ, _+_, _*_}
+use Prim.Native.Nat.{ℕ}
 use mathlib.Core.Path.{_≡_, refl, ap, fun-ext}
 use mathlib.Core.List.{List}
-use native.Mathlib.Omega.{arith}
 use lib.ListN.{getD}
 use Rattle.scene.specs.Format.{modelAt, fluidKind, boundaryKind, modelEnd, fluidCounts, boundaryCounts}
 use Rattle.scene.specs.Walk.{times, name, names, fluidNames, boundaryRecordNames, boundaryNames}

@@ -1,4 +1,4 @@
-// Where things stand in a packed scene, in bytes unless said otherwise: document 01's scene sheet, as specs/Format.antt has it.
+// Where things stand in a packed scene, in bytes unless said otherwise: as document 01 lays it out and specs/Format.antt says.
 pub const AXES: usize = 3;
 
 // At most so many models of a kind, and so many particles of a model.

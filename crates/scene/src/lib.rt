@@ -156,11 +156,7 @@ pub fn check(scene: &[u8]) -> Checked
         return refused(r);
     }
     let found = layout(scene);
-    let fluids = found.fluids;
-    let boundaries = found.boundaries;
-    let fluid_counts = fluids.counts;
-    let boundary_counts = boundaries.counts;
-    if let Walk::Refused(r) = all_names(scene, &fluid_counts, &boundary_counts) {
+    if let Walk::Refused(r) = all_names(scene, found) {
         return refused(r);
     }
     Checked {

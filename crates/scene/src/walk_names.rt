@@ -1,5 +1,6 @@
 // The walk through the names of contacts, of a scene whose fields are accepted: refusal 7.
 use crate::Kind;
+use crate::Layout;
 use crate::Refusal;
 use crate::Walk;
 use crate::format::BOUNDARY_CONTACT_WIDTH;
@@ -19,7 +20,7 @@ ghost use Prim.Native.Nat.{_+_, _*_, _≤_};
 ghost use lib.ListN.{length};
 ghost use Rattle.scene.specs.Walk as walk;
 ghost use Rattle.scene.specs.Kinds.{recordNamesOf, modelNamesOf, RecordWithin, ModelWithin, ModelsWithin};
-ghost use Rattle.scene.specs.Layout.{CountsAre};
+ghost use Rattle.scene.specs.Layout.{layoutOf, CountsAre};
 
 // A list of n contacts of w bytes. `counts` has the count of each model that they may name, 0 for a model that is not there.
 fn names(s: &[u8], counts: &[usize; 16], w: usize, n: usize, from: usize) -> Walk
@@ -125,21 +126,20 @@ fn models_names(
     Walk::At(at)
 }
 
-pub fn all_names(s: &[u8], fluids: &[usize; 16], boundaries: &[usize; 16]) -> Walk
-    requires { ⌜ CountsAre (now s) (now fluids) (now boundaries) ⌝ }
-    requires { ⌜ walk.fields (now s) ≡ Walk.At (length (now s)) ⌝ }
+// All contacts of a scene, by its layout.
+pub fn all_names(s: &[u8], layout: Layout) -> Walk
+    requires { ⌜ (walk.fields (now s) ≡ Walk.At (length (now s))) × (layout ≡ layoutOf (now s)) ⌝ }
     ensures { λ r. ⌜ r ≡ walk.allNames (now (s .entry)) ⌝ }
 {
-    let w = models_names(
-        s,
-        Kind::Fluid,
-        fluids,
-        boundaries,
-        byte(s, 0) % 16,
-        HEADER_WIDTH,
-    );
+    let fluid_models = layout.fluids;
+    let boundary_models = layout.boundaries;
+    let fluids = fluid_models.counts;
+    let boundaries = boundary_models.counts;
+    let number = fluid_models.number;
+    let w = models_names(s, Kind::Fluid, &fluids, &boundaries, number, HEADER_WIDTH);
     let Walk::At(at) = w else {
         return w;
     };
-    models_names(s, Kind::Boundary, fluids, boundaries, byte(s, 1) / 16, at)
+    let number = boundary_models.number;
+    models_names(s, Kind::Boundary, &fluids, &boundaries, number, at)
 }

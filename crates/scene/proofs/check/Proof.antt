@@ -5,7 +5,7 @@ use borrow.Author.Needs.{needs}
 use Rattle.scene.specs.Walk.{fields}
 use Rattle.scene.specs.declared.Walk.the-variants.{At}
 use Rattle.scene.proofs.Fields.{fields-leads}
-use Rattle.scene.proofs.Checks.{fields-refused, names-decide, checks-refused, checks-accepted, layout-counts}
+use Rattle.scene.proofs.Checks.{fields-refused, names-decide, checks-refused, checks-accepted}
 use Rattle.scene.proofs.check.Statement.{statement}
 use Rattle.scene.proofs.check.Tie as tie
 
@@ -33,9 +33,7 @@ layout-requires : tie.Need-layout-requires
 layout-requires c κs = fields-passed c
 
 all-names-requires : tie.Need-all-names-requires
-all-names-requires c κs =
-    let l = c .before .before .before .before .before .before in
-    (layout-counts _ (l .layout .ensures), fields-passed (l .before))
+all-names-requires c κs = (fields-passed (c .before), c .layout .ensures)
 
 enum-known-r-2 : tie.Need-enum-known-r-2
 enum-known-r-2 c = search needs
@@ -47,7 +45,7 @@ returns-2 : tie.Need-returns-2
 returns-2 c =
     let p = c .before .before in
     let n = p .before .before in
-    let l = n .before .before .before .before .before .before .before in
+    let l = n .before in
     checks-refused _ (names-decide _ (fields-passed (l .before)) ∙ sym (n .all-names .ensures) ∙ p .r2 .given .1) (c .refused2 .ensures)
 
 enum-told-2 : tie.Need-enum-told-2
@@ -56,7 +54,7 @@ enum-told-2 c = search needs
 returns-3 : tie.Need-returns-3
 returns-3 c =
     let n = c .before .before in
-    let l = n .before .before .before .before .before .before .before in
+    let l = n .before in
     checks-accepted _ (names-decide _ (fields-passed (l .before)) ∙ sym (n .all-names .ensures) ∙ c .enum-told2 .given .1) (l .layout .ensures)
 
 pub check-spec : {M : Type 1} → statement M

@@ -1,6 +1,5 @@
 -- `scene::locate::model_end` meets its contract: record by record, with the records that are left within the bytes. Assumes nothing.
 use Prim.Native.Nat.{_-_}
-use native.Mathlib.Omega.{arith}
 use mathlib.Core.Path.{_∙_}
 use borrow.Author.Needs.{needs}
 use Rattle.scene.specs.Format.{modelEnd}

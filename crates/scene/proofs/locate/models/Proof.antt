@@ -1,6 +1,5 @@
 -- `scene::locate::models` meets its contract: model by model, with the models that are left within the bytes and what is still to be stored. Assumes nothing.
 use Prim.Native.Nat.{_-_}
-use mathlib.Core.Path.{_≡_}
 use native.Mathlib.Omega.{arith}
 use borrow.Author.Needs.{needs}
 use Rattle.scene.specs.Format.{modelEnd}

@@ -1,5 +1,4 @@
 -- `scene::walk_fields::record` meets its contract: by the kind. Assumes nothing.
-use native.Mathlib.Omega.{arith}
 use borrow.Author.Needs.{needs}
 use Rattle.scene.specs.Kinds.{recordOf}
 use Rattle.scene.proofs.walk_fields.record.Statement.{statement}
