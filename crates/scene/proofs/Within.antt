@@ -10,7 +10,7 @@ use Rattle.scene.specs.Walk.{fields}
 use Rattle.scene.specs.Kinds.{kindOf, ownWidth, ModelWithin, ModelsWithin}
 use Rattle.scene.specs.declared.Kind.the-variants.{Fluid, Boundary}
 use Rattle.scene.specs.declared.Walk.the-variants.{At}
-use Rattle.scene.proofs.Fields.{FluidOk, BoundaryOk, fields-accepted}
+use Rattle.scene.proofs.Fields.{FluidOk, BoundaryOk, FieldsOk, fields-accepted}
 
 fluid-within : {b : List ℕ} {head : ℕ} → FluidOk b head → ModelWithin Fluid b head
 unfolding kindOf fluidKind ownWidth
