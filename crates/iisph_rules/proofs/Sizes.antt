@@ -21,6 +21,7 @@ use Rattle.scene.specs.SceneOf.{contactAt, contactList, fluidParticleAt, forceA
 use Rattle.scene.proofs.Places.{fluid-size, boundary-size, particle-at, boundary-at}
 use Rattle.scene.proofs.Records.{keeps-below}
 use Rattle.iisph_rules.specs.Coefficients.{overContacts, velocityChange, advectedVelocity, overNamed, dii, Coefficients}
+use Rattle.iisph_rules.specs.Iteration.{dijSum, dijPjl}
 use Rattle.iisph_rules.specs.Step.{boundaryAcceleration, finalVelocityChange, newVelocity, newPosition, fluidAnswer, forceFrom, boundaryForce, boundaryAnswer, answersFrom, answersOf}
 use Rattle.iisph_rules.specs.Answer.{answersAfter, workAfter}
 use Rattle.iisph_rules.proofs.EndToEnd.{length-rows, sum-same}
@@ -82,6 +83,12 @@ module _ (s : Scene) (p : FluidParticle) (gravity : Sized (s .header .axes) (s .
       (fold-keeps (Sized (s .header .axes)) _ _ _ (length-replicate _ _) (λ c m u q. sum-sized u _ q (scaled-sized _ _ (h .fluidContacts c m))))
       (λ c m u q. sum-sized u _ q (scaled-sized _ _ (h .boundaryContacts c m)))
 
+  dij-sized : (co : List Coefficients) (ps : List Float) → Sized (s .header .axes) (dijPjl s co ps p)
+  unfolding dijPjl dijSum
+  dij-sized co ps =
+      scaled-sized _ _
+      (fold-keeps (Sized (s .header .axes)) _ _ _ (length-replicate _ _) (λ c m u q. sum-sized u _ q (scaled-sized _ _ (h .fluidContacts c m))))
+
 pub length-advected : (b : List ℕ) (i : ℕ) → i < fluidSize (sceneOf b) → length (advectedVelocity (sceneOf b) (particle (sceneOf b) i)) ≡ axes
 unfolding sceneOf headerOf
 length-advected b i h = advected-sized (sceneOf b) (particle (sceneOf b) i) (gravity-sized b) (particle-sized b i h)
@@ -89,6 +96,11 @@ length-advected b i h = advected-sized (sceneOf b) (particle (sceneOf b) i) (gra
 pub length-dii : (b : List ℕ) (i : ℕ) → i < fluidSize (sceneOf b) → (rho : Float) → length (dii (sceneOf b) (particle (sceneOf b) i) rho) ≡ axes
 unfolding sceneOf headerOf
 length-dii b i h = dii-sized (sceneOf b) (particle (sceneOf b) i) (gravity-sized b) (particle-sized b i h)
+
+pub length-dij : (b : List ℕ) (i : ℕ) → i < fluidSize (sceneOf b) → (co : List Coefficients) (ps : List Float)
+    → length (dijPjl (sceneOf b) co ps (particle (sceneOf b) i)) ≡ axes
+unfolding sceneOf headerOf
+length-dij b i h = dij-sized (sceneOf b) (particle (sceneOf b) i) (gravity-sized b) (particle-sized b i h)
 
 -- ---- the answers of one particle, from given coefficients and pressures
 

@@ -36,7 +36,7 @@ pub dt-is : (b : List ℕ) → doubleAt b 4 ≡ dt (sceneOf b)
 unfolding sceneOf headerOf
 dt-is b = refl
 
-zero-is : (b : List ℕ) → origin 3 ≡ zeroVector (sceneOf b)
+pub zero-is : (b : List ℕ) → origin 3 ≡ zeroVector (sceneOf b)
 unfolding sceneOf headerOf
 zero-is b = refl
 

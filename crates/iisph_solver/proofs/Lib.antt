@@ -13,3 +13,5 @@ pub mod Sums
 pub mod ContactLists
 pub mod BothKinds
 pub mod Validated
+pub mod IterationReads
+pub mod IterationTerms

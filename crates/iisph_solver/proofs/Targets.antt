@@ -1,8 +1,8 @@
 -- What a pass reads of a contact: its target through the index, and the target's mass, velocity and volume in the work list that it finds. Each is the one field of
 -- Indexed or Prepared that says it, taken at the target. Assumes nothing.
 use Prim.Native.Nat.{ℕ, _+_, _*_, _<_, _≤_}
-use mathlib.Core.Path.{_≡_, sym, ap, _∙_}
-use mathlib.Core.List.{List, map}
+use mathlib.Core.Path.{_≡_, refl, sym, ap, _∙_}
+use mathlib.Core.List.{List, [], _∷_, map}
 use native.Mathlib.Nat.{zero-add, add-zero, add-assoc}
 use native.Mathlib.Omega.{arith}
 use lib.ListN.{length, getD, length-map}
@@ -24,8 +24,8 @@ use Rattle.scene.proofs.Places.{boundary-size}
 use Rattle.scene.proofs.Records.{boundary-particle-ok}
 use Rattle.iisph_rules.specs.Coefficients.{boundaryVolume, particleMass, fluidMass, boundaryMass, advectedVelocity}
 use Rattle.iisph_solver.specs.Index.{Section, Indexed}
-use Rattle.iisph_solver.specs.Passes.{startsOf, sizeOf, massOf, velocityOf, ContactReady, Prepared}
-use Rattle.iisph_solver.specs.WorkList.{elements}
+use Rattle.iisph_solver.specs.Passes.{startsOf, sizeOf, massOf, velocityOf, ContactReady, Prepared, volumes}
+use Rattle.iisph_solver.specs.WorkList.{elements, Rows, Part}
 use Rattle.iisph_rules.proofs.Sizes.{length-advected}
 
 -- ---- targets
@@ -69,21 +69,33 @@ module _ {κ : Kind} {b : List ℕ} {at j : ℕ} (ready : ContactReady κ b at) 
 
 -- ---- what the work list holds of a particle
 
+-- one value of each row
+pub row-value : {n k : ℕ} {l : List Float} (x : ℕ → Float) → Rows 14 n k (λ i. x i ∷ []) l → (j : ℕ) → j < n → getD l (14 * j + k) nan ≡ x j
+row-value {n} {k} {l} x q j h = ap (λ (e : ℕ). getD l (14 * j + e) nan) (sym (add-zero k)) ∙ q .holds j h 0 (omega arith)
+
+-- three of them
+pub row-vector : {n k : ℕ} {l : List Float} (f : ℕ → List Float) → Rows 14 n k f l → (j : ℕ) → j < n → length (f j) ≡ 3 → elements 3 (14 * j + k) l ≡ f j
+row-vector {n} {k} {l} f q j h three =
+    let size = length-table 3 (λ e. getD l (14 * j + k + e) nan) in
+    ext-getD nan _ _ (size ∙ sym three)
+    (λ e m.
+    table-at 3 (λ e. getD l (14 * j + k + e) nan) e nan (omega (arith, size))
+    ∙ ap (λ (i : ℕ). getD l i nan) (add-assoc (14 * j) k e)
+    ∙ q .holds j h e (omega (arith, size)))
+
+pub part-volume : (s : Scene) (n : ℕ) {l : List Float} → Part (14 * n) (volumes s) l → (j : ℕ) → j < boundarySize s
+    → getD l (14 * n + j) nan ≡ boundaryVolume (boundary s j)
+part-volume s n q j h = q .holds j (rw (length-table (boundarySize s)) h) ∙ table-at (boundarySize s) (λ j. boundaryVolume (boundary s j)) j nan h
+
 module _ {s : Scene} {n : ℕ} {work : List Float} (p : Prepared s n work) where
   pub mass-at : (j : ℕ) → j < n → getD work (14 * j + 10) nan ≡ particleMass (particle s j)
-  mass-at j h = p .mass .holds j h 0 (omega arith)
+  mass-at = row-value (λ i. particleMass (particle s i)) (p .mass)
 
-  pub volume-at : (j : ℕ) → j < boundarySize s → getD work (14 * n + j) nan ≡ boundaryVolume (boundary s j)
-  volume-at j h = p .volume .holds j (rw (length-table (boundarySize s)) h) ∙ table-at (boundarySize s) _ j nan h
+  volume-at : (j : ℕ) → j < boundarySize s → getD work (14 * n + j) nan ≡ boundaryVolume (boundary s j)
+  volume-at = part-volume s n (p .volume)
 
   pub advected-at : (j : ℕ) → j < n → length (advectedVelocity s (particle s j)) ≡ 3 → elements 3 (14 * j + 7) work ≡ advectedVelocity s (particle s j)
-  advected-at j h l =
-      let three = length-table 3 (λ e. getD work (14 * j + 7 + e) nan) in
-      ext-getD nan _ _ (three ∙ sym l)
-      (λ e m.
-      table-at 3 (λ e. getD work (14 * j + 7 + e) nan) e nan (omega (arith, three))
-      ∙ ap (λ (k : ℕ). getD work k nan) (add-assoc (14 * j) 7 e)
-      ∙ p .advected .holds j h e (omega (arith, three)))
+  advected-at = row-vector (λ i. advectedVelocity s (particle s i)) (p .advected)
 
 -- ---- records, found through the index
 

@@ -5,3 +5,4 @@ pub mod Traverse
 pub mod Refusals
 pub mod Prepare
 pub mod Validate
+pub mod IterationRows

@@ -3,6 +3,7 @@ mod boundary_volumes;
 mod coefficients;
 mod contacts;
 mod index;
+mod iteration;
 mod prepare;
 mod refusals;
 mod rows;
