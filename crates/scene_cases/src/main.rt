@@ -1,0 +1,66 @@
+// Checks each packed scene of the list data/scenes and prints the verdict, a line for each. The list is of blocks of 512 bytes: a scene, then zeros, and in the last
+// two bytes the scene's length. Both the list and the expected lines come from tools/scene_cases.py.
+use libc::STDOUT_FILENO;
+use scene::Verdict;
+ghost use mathlib.Core.Path.{_≡_};
+ghost use Rattle.scene.specs.Layout.{verdictOf};
+ghost use Rattle.scene.specs.Walk.{checked};
+ghost use Rattle.scene_cases.specs.Printed.{printed};
+
+// Prints "accepted", or a refusal's number and place, and hands back the number, 0 for "accepted".
+fn print_verdict(verdict: Verdict) -> usize
+    ensures { λ n. ⌜ n ≡ printed verdict ⌝ }
+{
+    match verdict {
+        Verdict::Accepted => {
+            io::write_all(STDOUT_FILENO, b"accepted\n");
+            0
+        }
+        Verdict::Refused(refusal) => {
+            let n = scene::number(refusal);
+            io::print_decimal(STDOUT_FILENO, n as u64);
+            io::write_all(STDOUT_FILENO, b" ");
+            io::print_decimal(STDOUT_FILENO, scene::place(refusal) as u64);
+            io::write_all(STDOUT_FILENO, b"\n");
+            n
+        }
+    }
+}
+
+// Checks a packed scene, prints the verdict, and hands back its number.
+fn print_check(s: &[u8]) -> usize
+    ensures { λ n. ⌜ n ≡ printed (verdictOf (checked (now (s .entry)))) ⌝ }
+{
+    let answer = scene::check(s);
+    let verdict = answer.verdict;
+    print_verdict(verdict)
+}
+
+// Checks the scene of the next block, and answers whether there was one.
+fn check_block(fd: i32) -> bool {
+    let mut block = [0u8; 512];
+    let got = io::read_full(fd, &mut block);
+    if got < 512 {
+        return false;
+    }
+    let n = scene::read::be16(&block, 510);
+    if n > 510 {
+        return false;
+    }
+    print_check(&block[..n]);
+    true
+}
+
+// A loop has to end, and nothing says that a file does: the turns are counted down from a number that no list uses up.
+fn check_all(fd: i32) {
+    let mut turns = u64::MAX;
+    while turns > 0 && check_block(fd) {
+        turns -= 1;
+    }
+}
+
+fn main() {
+    let fd = os::open_read(b"scenes");
+    check_all(fd);
+    libc::close(fd);
+}
