@@ -2,6 +2,7 @@
 // two bytes the scene's length. Both the list and the expected lines come from tools/scene_cases.py.
 use libc::STDOUT_FILENO;
 use scene::Verdict;
+ghost use Prim.Native.Nat.{_≤_};
 ghost use mathlib.Core.Path.{_≡_};
 ghost use Rattle.scene.specs.Layout.{verdictOf};
 ghost use Rattle.scene.specs.Walk.{checked};
@@ -51,12 +52,15 @@ fn check_block(fd: i32) -> bool {
     true
 }
 
-// A loop has to end, and nothing says that a file does: the turns are counted down from a number that no list uses up.
-fn check_all(fd: i32) {
-    let mut turns = u64::MAX;
-    while turns > 0 && check_block(fd) {
-        turns -= 1;
+// Checks the scenes of a list, 4,096 at most, and answers how many.
+fn check_all(fd: i32) -> usize
+    ensures { λ n. ⌜ n ≤ 4096 ⌝ }
+{
+    let mut scenes = 0;
+    while scenes < 4096 && check_block(fd) {
+        scenes += 1;
     }
+    scenes
 }
 
 fn main() {

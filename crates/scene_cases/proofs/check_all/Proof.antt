@@ -1,34 +1,35 @@
--- `scene_cases::check_all` ends: the turns that are left fall. Nothing has to hold from turn to turn. Assumes nothing.
-use native.Mathlib.Omega.{arith}
+-- `scene_cases::check_all` meets its contract: the count stays at most 4,096, and what is left falls. Assumes nothing.
+use Prim.Native.Nat.{_≤_, _-_}
+use borrow.Author.Needs.{needs}
 use Rattle.scene_cases.proofs.check_all.Statement.{statement}
 use Rattle.scene_cases.proofs.check_all.Tie as tie
 
 abbrev Inv-loop : tie.InvT-loop
-Inv-loop fd turns₀ turns = Unit {0}
+Inv-loop fd scenes₀ scenes = scenes ≤ 4096
 
 abbrev μ-loop : tie.MeasureT-loop
-μ-loop fd turns₀ turns = turns
+μ-loop fd scenes₀ scenes = 4096 - scenes
 
 loop-holds : tie.Need-loop-holds Inv-loop μ-loop
-loop-holds c = tt
+loop-holds c = search needs
 
 check-block-requires : tie.Need-check-block-requires Inv-loop μ-loop
-check-block-requires c κs = tt
+check-block-requires c κs = search needs
 
-sub-turns : tie.Need-sub-turns Inv-loop μ-loop
-sub-turns c = omega arith
+add-scenes : tie.Need-add-scenes Inv-loop μ-loop
+add-scenes c = search needs
 
 loop-less : tie.Need-loop-less Inv-loop μ-loop
-loop-less c = omega arith
+loop-less c = search needs
 
 loop-again : tie.Need-loop-again Inv-loop μ-loop
-loop-again c = tt
+loop-again c = search needs
 
 returns : tie.Need-returns Inv-loop μ-loop
-returns c = tt
+returns c = search needs
 
 returns-2 : tie.Need-returns-2 Inv-loop μ-loop
-returns-2 c = tt
+returns-2 c = search needs
 
 pub check-all-spec : {M : Type 1} → statement M
-check-all-spec = tie.close (tie.spec Inv-loop μ-loop loop-holds check-block-requires sub-turns loop-less loop-again returns returns-2)
+check-all-spec = tie.close (tie.spec Inv-loop μ-loop loop-holds check-block-requires add-scenes loop-less loop-again returns returns-2)
