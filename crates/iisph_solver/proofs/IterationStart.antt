@@ -15,11 +15,12 @@ use Rattle.scene.specs.Scene.{fluidSize, boundarySize, particle}
 use Rattle.scene.specs.SceneOf.{sceneOf}
 use Rattle.iisph_rules.specs.Coefficients.{density, coefficientsOf}
 use Rattle.iisph_rules.specs.Iteration.{pressure}
-use Rattle.iisph_solver.specs.Passes.{massRow, coefficientRow, volumes, Prepared}
-use Rattle.iisph_solver.specs.Prepare.{rowsFilled, prepared, IterationReady}
+use Rattle.iisph_particles.specs.Passes.{firstPressure, massRow, coefficientRow, volumes, Prepared}
+use Rattle.iisph_solver.specs.Prepare.{rowsFilled, prepared}
+use Rattle.iisph_particles.specs.IterationRows.{IterationReady}
 use Rattle.iisph_rules.specs.Step.{firstPressures}
-use Rattle.iisph_solver.specs.Traverse.{slotOf, firstPressure}
-use Rattle.iisph_solver.specs.WorkList.{Rows, Part}
+use Rattle.iisph_solver.specs.Traverse.{slotOf}
+use Rattle.iisph_particles.specs.WorkList.{Rows, Part}
 use Rattle.iisph_solver.specs.declared.traverse.Pass.the-variants.{Coefficients}
 use Rattle.iisph_solver.proofs.Preparation.{start, two, part-stored, pass-keeps, pass-part, prepared-two, length-prepared, coefficient-rows}
 use Rattle.iisph_rules.proofs.Sizes.{length-dii}

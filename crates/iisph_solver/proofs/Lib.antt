@@ -1,17 +1,5 @@
-pub mod Stores
-pub mod Particles
-pub mod Zeros
 pub mod Traversal
 pub mod Preparation
 pub mod Prepared
 pub mod IterationStart
-pub mod Fills
-pub mod Indexes
-pub mod Volumes
-pub mod Targets
-pub mod Sums
-pub mod ContactLists
-pub mod BothKinds
 pub mod Validated
-pub mod IterationReads
-pub mod IterationTerms

@@ -11,13 +11,13 @@ use lib.Seq.{sets, length-sets, ext-getD, getD-drop}
 use Rattle.math.proofs.Lists.{length-table}
 use Rattle.scene.specs.Scene.{fluidSize, boundarySize}
 use Rattle.scene.specs.SceneOf.{sceneOf}
-use Rattle.iisph_solver.specs.Passes.{massRow, advectedRow, coefficientRow, volumes, Prepared}
+use Rattle.iisph_particles.specs.Passes.{massRow, advectedRow, coefficientRow, volumes, Prepared}
 use Rattle.iisph_solver.specs.Prepare.{afterPass, rowsFilled, prepared}
 use Rattle.iisph_solver.specs.Traverse.{slotOf, rowOf}
-use Rattle.iisph_solver.specs.WorkList.{stored, Rows, Part}
+use Rattle.iisph_particles.specs.WorkList.{stored, Rows, Part}
 use Rattle.iisph_solver.specs.declared.traverse.Pass.{Pass}
 use Rattle.iisph_solver.specs.declared.traverse.Pass.the-variants.{Masses, Advected, Coefficients}
-use Rattle.iisph_solver.proofs.Stores.{sets-in, sets-above, length-stored, stored-beyond, stored-rows, rows-kept, part-kept}
+use Rattle.iisph_particles.proofs.Stores.{sets-in, sets-above, length-stored, stored-beyond, stored-rows, rows-kept, part-kept}
 use Rattle.iisph_solver.proofs.Traversal.{rowLength, row-fits, row-length}
 
 -- equal lengths, and equal elements from k on

@@ -21,21 +21,21 @@ use Rattle.scene.specs.declared.Refusal.{Refusal}
 use Rattle.scene.specs.declared.Refusal.the-variants.{ZeroDensity, ZeroPredictedDensity}
 use Rattle.scene.proofs.Places.{fluid-size, boundary-size, fluid-size-sum, boundary-size-sum}
 use Rattle.iisph_rules.specs.Coefficients.{Coefficients, coefficientsOf, coefficients}
-use Rattle.iisph_solver.specs.Index.{Indexed}
-use Rattle.iisph_solver.specs.Passes.{coefficientRow, volumes}
+use Rattle.iisph_particles.specs.Index.{Indexed}
+use Rattle.iisph_particles.specs.Passes.{coefficientRow, volumes}
 use Rattle.iisph_solver.specs.Prepare.{rowsFilled, prepared, workPrepared, readiness, zeroAnswer}
-use Rattle.iisph_solver.specs.Refusals.{column}
+use Rattle.iisph_particles.specs.Refusals.{column}
 use Rattle.iisph_rules.specs.Step.{reportOf, unlessZero, sceneAnswer}
-use Rattle.iisph_solver.specs.WorkList.{Rows, Part}
+use Rattle.iisph_particles.specs.WorkList.{Rows, Part}
 use Rattle.iisph_rules.specs.declared.Report.{Report}
 use Rattle.iisph_rules.specs.declared.StepAnswer.{StepAnswer}
 use Rattle.iisph_rules.specs.declared.StepAnswer.the-variants as answer
 use Rattle.iisph_solver.specs.declared.prepare.Readiness.{Readiness}
 use Rattle.iisph_solver.specs.declared.prepare.Readiness.the-variants.{Ready, Refused}
 use Rattle.math.proofs.Lists.{table-same, map-table}
-use Rattle.iisph_solver.proofs.Particles.{record-at}
+use Rattle.iisph_particles.proofs.Particles.{record-at}
 use Rattle.iisph_solver.proofs.Preparation.{part-stored, drop-prepared, coefficient-rows}
-use Rattle.iisph_solver.proofs.Zeros.{unless-same}
+use Rattle.iisph_particles.proofs.Zeros.{unless-same}
 
 -- ---- the layout's totals
 

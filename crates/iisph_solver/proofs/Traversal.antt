@@ -12,14 +12,14 @@ use lib.Seq.{sets}
 use Rattle.scene.specs.Scene.{Scene, fluidSize, particle}
 use Rattle.scene.specs.SceneOf.{sceneOf}
 use Rattle.iisph_rules.specs.Coefficients.{particleMass, advectedVelocity, density, coefficientsOf}
-use Rattle.iisph_solver.specs.WorkList.{stored}
-use Rattle.iisph_solver.specs.Passes.{coefficientRow, Prepared, CoefficientsAre}
-use Rattle.iisph_solver.specs.Traverse.{slotOf, rowOf, Ready, firstPressure, coefficientList}
-use Rattle.iisph_solver.specs.declared.coefficients.CoefficientsOf.{CoefficientsOf}
+use Rattle.iisph_particles.specs.WorkList.{stored}
+use Rattle.iisph_particles.specs.Passes.{firstPressure, coefficientRow, Prepared, CoefficientsAre}
+use Rattle.iisph_solver.specs.Traverse.{slotOf, rowOf, Ready, coefficientList}
+use Rattle.iisph_particles.specs.declared.coefficients.CoefficientsOf.{CoefficientsOf}
 use Rattle.iisph_solver.specs.declared.traverse.Pass.{Pass}
 use Rattle.iisph_solver.specs.declared.traverse.Pass.the-variants.{Masses, Advected, Coefficients}
 use Rattle.iisph_rules.proofs.Sizes.{length-advected, length-dii}
-use Rattle.iisph_solver.proofs.Stores.{length-stored, rows-kept, part-kept}
+use Rattle.iisph_particles.proofs.Stores.{length-stored, rows-kept, part-kept}
 
 -- ---- a turn
 

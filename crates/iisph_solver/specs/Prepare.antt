@@ -1,20 +1,18 @@
 -- What stands in the work list before the iterations, and what refusals 9 and 10 answer: the definitions that the contracts of the passes before the iterations cite.
 -- Definitions only.
-use Prim.Native.Nat.{ℕ, _+_, _*_, _≤_}
-use mathlib.Core.List.{List, [], _∷_, _++_}
+use Prim.Native.Nat.{ℕ, _*_}
+use mathlib.Core.List.{List, _++_}
 use lib.Ieee.{Float}
-use lib.ListN.{length, drop, replicate}
+use lib.ListN.{drop, replicate}
 use lib.Seq.{sets}
 use Rattle.math.specs.Real.{+0}
 use Rattle.scene.specs.Format as Format
-use Rattle.scene.specs.Scene.{Scene, fluidSize, boundarySize, particle}
+use Rattle.scene.specs.Scene.{Scene, fluidSize}
 use Rattle.scene.specs.SceneOf.{sceneOf, workNeeded}
 use Rattle.scene.specs.declared.Refusal.the-variants.{ZeroDensity, ZeroPredictedDensity}
-use Rattle.iisph_rules.specs.Coefficients.{coefficientsOf}
-use Rattle.iisph_rules.specs.Iteration as Iteration
 use Rattle.iisph_rules.specs.Step.{unlessZero}
-use Rattle.iisph_solver.specs.WorkList.{rowWidth, densitySlot, predictedSlot, aiiSlot, diiSlot, pressureSlot, massSlot, stored, Rows, Part}
-use Rattle.iisph_solver.specs.Passes.{massRow, volumes}
+use Rattle.iisph_particles.specs.WorkList.{rowWidth, stored}
+use Rattle.iisph_particles.specs.Passes.{volumes}
 use Rattle.iisph_solver.specs.Traverse.{slotOf, rowOf}
 use Rattle.iisph_solver.specs.declared.traverse.Pass.{Pass}
 use Rattle.iisph_solver.specs.declared.traverse.Pass.the-variants as pass
@@ -53,15 +51,3 @@ readiness (answer.Refused r) = Refused r
 abbrev pub zeroAnswer : (ℕ → ℕ) → List Float → List Float → Report → StepAnswer
 zeroAnswer at densities predicted report =
     unlessZero at ZeroDensity densities (unlessZero at ZeroPredictedDensity predicted (answer.Done report))
-
--- ---- what the iterations find: the coefficients of the scene s, the pressures ps, masses and volumes, in n rows
-
-pub record IterationReady (s : Scene) (ps : List Float) (n : ℕ) (work : List Float) : Type 0 where
-  pub room : rowWidth Format.axes * n + boundarySize s ≤ length work
-  pub density : Rows (rowWidth Format.axes) n densitySlot (λ i. coefficientsOf s (particle s i) .density ∷ []) work
-  pub predictedDensity : Rows (rowWidth Format.axes) n predictedSlot (λ i. coefficientsOf s (particle s i) .predictedDensity ∷ []) work
-  pub aii : Rows (rowWidth Format.axes) n aiiSlot (λ i. coefficientsOf s (particle s i) .aii ∷ []) work
-  pub dii : Rows (rowWidth Format.axes) n diiSlot (λ i. coefficientsOf s (particle s i) .dii) work
-  pub pressure : Rows (rowWidth Format.axes) n (pressureSlot Format.axes) (λ i. Iteration.pressure ps i ∷ []) work
-  pub mass : Rows (rowWidth Format.axes) n (massSlot Format.axes) (massRow s) work
-  pub volume : Part (rowWidth Format.axes * n) (volumes s) work

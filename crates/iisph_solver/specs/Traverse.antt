@@ -2,19 +2,14 @@
 use Prim.Native.Nat.{ℕ}
 use mathlib.Core.List.{List, [], _∷_, _++_}
 use lib.Ieee.{Float}
-use Rattle.math.specs.Real.{_⊗_, half}
 use Rattle.math.specs.Vector.{axes}
 use Rattle.scene.specs.Format as Format
-use Rattle.scene.specs.Scene.{Scene, particle}
-use Rattle.iisph_solver.specs.WorkList.{densitySlot, dijSlot, massSlot}
-use Rattle.iisph_solver.specs.Passes.{massRow, advectedRow, coefficientRow, Prepared}
-use Rattle.iisph_solver.specs.declared.coefficients.CoefficientsOf.{CoefficientsOf}
+use Rattle.scene.specs.Scene.{Scene}
+use Rattle.iisph_particles.specs.WorkList.{densitySlot, dijSlot, massSlot}
+use Rattle.iisph_particles.specs.Passes.{massRow, advectedRow, coefficientRow, Prepared}
+use Rattle.iisph_particles.specs.declared.coefficients.CoefficientsOf.{CoefficientsOf}
 use Rattle.iisph_solver.specs.declared.traverse.Pass.{Pass}
 use Rattle.iisph_solver.specs.declared.traverse.Pass.the-variants.{Masses, Advected, Coefficients}
-
--- `step`: the pressure before the iterations
-abbrev pub firstPressure : Scene → ℕ → Float
-firstPressure s i = particle s i .warmPressure ⊗ half
 
 -- the coefficients of the code with a pressure, as `coefficientRow` has them
 abbrev pub coefficientList : CoefficientsOf → Float → List Float

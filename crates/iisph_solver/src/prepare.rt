@@ -1,11 +1,11 @@
 // What a step does before its iterations, on an accepted scene: boundary volumes, masses, advected velocities, coefficients and first pressures, then refusals 9
 // and 10, each over all particles.
-use crate::boundary_volumes::compute_boundary_volumes;
-use crate::refusals::Found;
-use crate::refusals::clear;
-use crate::refusals::first_zero;
 use crate::traverse::Pass;
 use crate::traverse::traverse;
+use iisph_particles::boundary_volumes::compute_boundary_volumes;
+use iisph_particles::refusals::Found;
+use iisph_particles::refusals::clear;
+use iisph_particles::refusals::first_zero;
 use scene::Layout;
 use scene::Refusal;
 ghost use mathlib.Core.Path.{_≡_};
@@ -16,12 +16,12 @@ ghost use Rattle.scene.specs.Layout.{layoutOf};
 ghost use Rattle.scene.specs.Scene.{fluidSize, boundarySize};
 ghost use Rattle.scene.specs.SceneOf.{sceneOf};
 ghost use Rattle.iisph_rules.specs.declared.Report.{Report};
-ghost use Rattle.iisph_solver.specs.Index.{Indexed, indexLength};
-ghost use Rattle.iisph_solver.specs.Passes.{volumes};
+ghost use Rattle.iisph_particles.specs.Index.{Indexed, indexLength};
+ghost use Rattle.iisph_particles.specs.Passes.{volumes};
 ghost use Rattle.iisph_solver.specs.Prepare.{rowsFilled, readiness, workPrepared, zeroAnswer};
-ghost use Rattle.iisph_solver.specs.Refusals.{column};
+ghost use Rattle.iisph_particles.specs.Refusals.{column};
 ghost use Rattle.iisph_rules.specs.Step.{sceneAnswer};
-ghost use Rattle.iisph_solver.specs.WorkList.{Part};
+ghost use Rattle.iisph_particles.specs.WorkList.{Part};
 
 // Whether the iterations can begin.
 pub enum Readiness {

@@ -1,21 +1,20 @@
 // The passes over all fluid particles, in the order of their numbers: each stores some slots of every row of the work list. What a pass reads of the list it does
 // not store, so the order of the rows is free.
-use crate::coefficients::CoefficientsOf;
-use crate::coefficients::coefficients_of;
-use crate::rows::put_vector;
-use math::Vec3;
-use scene::read;
+use iisph_particles::coefficients::CoefficientsOf;
+use iisph_particles::coefficients::coefficients_of;
+use iisph_particles::records::advected_of;
+use iisph_particles::records::first_pressure;
+use iisph_particles::records::mass_of;
+use iisph_particles::rows::put_vector;
 ghost use mathlib.Core.Path.{_≡_};
 ghost use Prim.Native.Nat.{_+_, _*_, _≤_, _<_};
 ghost use lib.ListN.{length};
 ghost use lib.Seq.{sets};
-ghost use Rattle.math.specs.Vector.{axes};
-ghost use Rattle.scene.specs.Scene.{fluidSize, boundarySize, particle};
+ghost use Rattle.scene.specs.Scene.{fluidSize, boundarySize};
 ghost use Rattle.scene.specs.SceneOf.{sceneOf};
-ghost use Rattle.iisph_rules.specs.Coefficients.{particleMass, advectedVelocity};
-ghost use Rattle.iisph_solver.specs.WorkList.{stored};
-ghost use Rattle.iisph_solver.specs.Index.{Indexed};
-ghost use Rattle.iisph_solver.specs.Traverse.{slotOf, rowOf, Ready, firstPressure, coefficientList};
+ghost use Rattle.iisph_particles.specs.WorkList.{stored};
+ghost use Rattle.iisph_particles.specs.Index.{Indexed};
+ghost use Rattle.iisph_solver.specs.Traverse.{slotOf, rowOf, Ready, coefficientList};
 
 // What is stored in every row.
 pub enum Pass {
@@ -25,40 +24,6 @@ pub enum Pass {
     Advected,
     // compute_densities, compute_predicted_densities, compute_dii, compute_aii; the first pressures.
     Coefficients,
-}
-
-// Volume × rest density.
-fn mass_of(scene: &[u8], index: &[usize], n: usize, i: usize) -> f64
-    requires { ⌜ Indexed (now scene) (now index) ⌝ }
-    requires { ⌜ (n ≡ fluidSize (sceneOf (now scene))) × (i < n) ⌝ }
-    ensures { λ r. ⌜ r ≡ particleMass (particle (sceneOf (now (scene .entry))) i) ⌝ }
-{
-    let at = index[32 + i];
-    let head = index[32800 + i];
-    read::double(scene, at + 72) * read::double(scene, head + 2)
-}
-
-// Velocity plus its change before the pressures: 0 + (acceleration + gravity) × dt.
-fn advected_of(scene: &[u8], index: &[usize], n: usize, i: usize) -> Vec3
-    requires { ⌜ Indexed (now scene) (now index) ⌝ }
-    requires { ⌜ (n ≡ fluidSize (sceneOf (now scene))) × (i < n) ⌝ }
-    ensures { λ r. ⌜ axes r ≡ advectedVelocity (sceneOf (now (scene .entry))) (particle (sceneOf (now (scene .entry))) i) ⌝ }
-{
-    let at = index[32 + i];
-    let acceleration = read::vector(scene, at + 48).add(read::vector(scene, 28));
-    let none = Vec3::zero();
-    let change = none.add(acceleration.scale(read::double(scene, 4)));
-    read::vector(scene, at + 24).add(change)
-}
-
-// Half the warm pressure.
-fn first_pressure(scene: &[u8], index: &[usize], n: usize, i: usize) -> f64
-    requires { ⌜ Indexed (now scene) (now index) ⌝ }
-    requires { ⌜ (n ≡ fluidSize (sceneOf (now scene))) × (i < n) ⌝ }
-    ensures { λ r. ⌜ r ≡ firstPressure (sceneOf (now (scene .entry))) i ⌝ }
-{
-    let at = index[32 + i];
-    read::double(scene, at + 80) * 0.5
 }
 
 // Density, predicted density, aii, dii and a pressure, from element k on.

@@ -1,8 +1,8 @@
 // Whether a step would refuse a scene, found without solving it: refusals 1 to 7, 8 for the work list, 9 and 10.
-use crate::index::fill;
 use crate::prepare::Readiness;
 use crate::prepare::prepare;
-use crate::refusals::clear;
+use iisph_particles::index::fill;
+use iisph_particles::refusals::clear;
 use scene::Layout;
 use scene::Refusal;
 use scene::Verdict;

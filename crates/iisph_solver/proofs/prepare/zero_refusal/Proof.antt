@@ -7,11 +7,11 @@ use lib.ListN.{getD}
 use Rattle.math.proofs.Lists.{length-table}
 use Rattle.scene.specs.declared.Refusal.the-variants.{ZeroDensity, ZeroPredictedDensity}
 use Rattle.iisph_solver.specs.Prepare.{readiness}
-use Rattle.iisph_solver.specs.Refusals.{column, foundBelow}
+use Rattle.iisph_particles.specs.Refusals.{column, foundBelow}
 use Rattle.iisph_rules.specs.Step.{firstZero}
 use Rattle.iisph_rules.specs.declared.StepAnswer.the-variants.{Done}
-use Rattle.iisph_solver.specs.declared.refusals.Found.the-variants.{At, Nothing}
-use Rattle.iisph_solver.proofs.Zeros.{found-lt, unless-found, unless-nothing}
+use Rattle.iisph_particles.specs.declared.refusals.Found.the-variants.{At, Nothing}
+use Rattle.iisph_particles.proofs.Zeros.{found-lt, unless-found, unless-nothing}
 use borrow.Author.Needs.{needs}
 use Rattle.iisph_solver.proofs.prepare.zero_refusal.Statement.{statement}
 use Rattle.iisph_solver.proofs.prepare.zero_refusal.Tie as tie

@@ -7,9 +7,9 @@ use denote.Ref.{now}
 use lib.ListN.{length}
 use lib.Seq.{length-sets}
 use Rattle.scene.specs.SceneOf.{sceneOf}
-use Rattle.iisph_solver.specs.WorkList.{stored}
+use Rattle.iisph_particles.specs.WorkList.{stored}
 use Rattle.iisph_solver.specs.Traverse.{slotOf, rowOf}
-use Rattle.iisph_solver.proofs.Stores.{stored-none, stored-next}
+use Rattle.iisph_particles.proofs.Stores.{stored-none, stored-next}
 use Rattle.iisph_solver.proofs.Traversal.{ready-kept}
 use borrow.Author.Needs.{needs}
 use Rattle.iisph_solver.proofs.traverse.traverse.Statement.{statement}

@@ -10,8 +10,8 @@ use Rattle.scene.specs.Accepted.{Bytes}
 use Rattle.scene.specs.Scene.{fluidSize, boundarySize}
 use Rattle.scene.specs.SceneOf.{sceneOf, workNeeded}
 use Rattle.scene.proofs.Records.{fluid-size-few, boundary-size-few}
-use Rattle.iisph_solver.specs.Index.{Indexed}
-use Rattle.iisph_solver.proofs.Indexes.{indexed}
+use Rattle.iisph_particles.specs.Index.{Indexed}
+use Rattle.iisph_particles.proofs.Indexes.{indexed}
 use Rattle.iisph_solver.proofs.Prepared.{fluids-total, boundaries-total, work-needed}
 use Rattle.iisph_solver.proofs.Validated.{short-validates, cleared-validates}
 use Rattle.iisph_solver.proofs.validation.validate_accepted.Statement.{statement}

@@ -1,0 +1,12 @@
+pub mod Stores
+pub mod Particles
+pub mod Zeros
+pub mod Fills
+pub mod Indexes
+pub mod Volumes
+pub mod Targets
+pub mod Sums
+pub mod ContactLists
+pub mod BothKinds
+pub mod IterationReads
+pub mod IterationTerms

@@ -1,0 +1,95 @@
+-- `iisph_particles::boundary_volumes::boundaries` meets its contract: model by model. Assumes nothing.
+use Prim.Native.Nat.{_+_, _-_, _≤_}
+use native.Mathlib.Omega.{arith}
+use lib.ListN.{length}
+use Rattle.scene.specs.Kinds.{kindOf}
+use Rattle.scene.specs.declared.Kind.the-variants.{Boundary}
+use Rattle.iisph_particles.specs.Index.{modelNumber, firstHead}
+use Rattle.iisph_particles.specs.Passes.{volumeAt}
+use Rattle.iisph_particles.proofs.Fills.{Traversed, none-traversed, model-room, one-more-traversed, all-traversed}
+use Rattle.iisph_particles.proofs.Indexes.{Turn, this-turn, number-is}
+use Rattle.iisph_particles.proofs.Volumes.{boundary-ready}
+use borrow.Author.Needs.{needs}
+use Rattle.iisph_particles.proofs.boundary_volumes.boundaries.Statement.{statement}
+use Rattle.iisph_particles.proofs.boundary_volumes.boundaries.Tie as tie
+
+abbrev Inv-loop : tie.InvT-loop
+Inv-loop scene k work₀ heads number to₀ m₀ work to m =
+    Traversed (volumeAt scene) (kindOf Boundary) scene (modelNumber Boundary scene) (firstHead Boundary scene) work₀ k to m work
+
+abbrev μ-loop : tie.MeasureT-loop
+μ-loop scene k work₀ heads number to₀ m₀ work to m = number - m
+
+abbrev start : tie.In-loop Inv-loop μ-loop → tie.Start Inv-loop μ-loop
+start c = c .before .before .before .before .before
+
+turn : (c : tie.In-loop Inv-loop μ-loop) → let a = start c .args in Turn Boundary (a .scene .now) (a .models .heads) (c .before .loop .m)
+turn c = this-turn _ (start c .pre .0) _ (start c .pre .1 .0) _ (c .loop-test .taken)
+
+-- the model's records fit
+room : (c : tie.After-particles Inv-loop μ-loop) → c .before .before .loop .to + c .particles .result ≤ length (c .before .before .loop .work)
+room c =
+    let p = c .before in
+    rw (c .particles .ensures .0) (model-room _ _ _ _ _ _ _ (p .before .loop .inv) (turn p .below) (turn p .head) (start p .pre .1 .1))
+
+loop-holds : tie.Need-loop-holds Inv-loop μ-loop
+loop-holds c = none-traversed _ _ _ _ _ _ _
+
+mul-head : tie.Need-mul-head Inv-loop μ-loop
+mul-head c = omega (arith, turn c .small)
+
+array-read-head : tie.Need-array-read-head Inv-loop μ-loop
+array-read-head c = omega (arith, turn c .small)
+
+particles-requires : tie.Need-particles-requires Inv-loop μ-loop
+particles-requires c κs = turn c .within .headRoom
+
+boundary-requires : tie.Need-boundary-requires Inv-loop μ-loop
+unfolding kindOf
+boundary-requires c κs =
+    let n = c .before in
+    let t = turn (n .before) in
+    (boundary-ready _ (start (n .before) .pre .0) _ (t .below) (t .head), (n .particles .ensures .0, room n))
+
+add-to : tie.Need-add-to Inv-loop μ-loop
+add-to c = omega (arith, room (c .before .before .before .before))
+
+add-m : tie.Need-add-m Inv-loop μ-loop
+add-m c = omega (arith, turn (c .before .before .before .before .before) .small)
+
+loop-less : tie.Need-loop-less Inv-loop μ-loop
+loop-less c = search needs
+
+loop-again : tie.Need-loop-again Inv-loop μ-loop
+unfolding kindOf
+loop-again c =
+    let f = c .before .before in
+    let n = f .before .before in
+    let p = n .before in
+    one-more-traversed _ _ _ _ _ _ _ (p .before .loop .inv) (turn p .below) (turn p .head) (n .particles .ensures .0) (f .boundary .ensures)
+
+same-length : tie.Need-same-length Inv-loop μ-loop
+same-length c = search needs
+
+returns : tie.Need-returns Inv-loop μ-loop
+returns c =
+    let b = c .before .before .before .before .before in
+    all-traversed _ _ _ _ _ _ _ (c .before .loop .inv) (rw (← number-is _ (b .pre .0) _ (b .pre .1 .0)) (c .loop-test .left))
+
+pub boundaries-spec : {M : Type 1} → statement M
+boundaries-spec =
+    tie.close
+    (tie.spec
+    Inv-loop
+    μ-loop
+    loop-holds
+    mul-head
+    array-read-head
+    particles-requires
+    boundary-requires
+    add-to
+    add-m
+    loop-less
+    loop-again
+    same-length
+    returns)

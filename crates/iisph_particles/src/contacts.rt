@@ -1,0 +1,111 @@
+// The contacts of a fluid particle, kind by kind, and what a contact names: the particle's number among all of its kind, its mass and its velocity (document 01's m_j
+// and v_j).
+use crate::rows::vector_at;
+use math::Vec3;
+use scene::Kind;
+use scene::read;
+ghost use mathlib.Core.Path.{_≡_};
+ghost use Prim.Native.Nat.{_<_};
+ghost use Rattle.math.specs.Vector.{axes};
+ghost use Rattle.scene.specs.Format.{fluidPlace};
+ghost use Rattle.scene.specs.Scene.{fluidSize};
+ghost use Rattle.scene.specs.SceneOf.{targetAt, contactAt, sceneOf};
+ghost use Rattle.iisph_particles.specs.Index.{Indexed};
+ghost use Rattle.iisph_particles.specs.Passes.{startsOf, massOf, velocityOf, ContactReady, contactListAt, Prepared};
+
+// The contacts of one kind that a fluid particle has: how many there are and where the first stands, with the rest density of the particle's fluid.
+pub struct ContactList {
+    pub kind: Kind,
+    pub density0: f64,
+    pub count: usize,
+    pub at: usize,
+}
+
+// Those of fluid particle i.
+pub fn contacts_of(scene: &[u8], index: &[usize], kind: Kind, i: usize) -> ContactList
+    requires { ⌜ Indexed (now scene) (now index) ⌝ }
+    requires { ⌜ i < fluidSize (sceneOf (now scene)) ⌝ }
+    ensures { λ r. ⌜ r ≡ contactListAt kind (now (scene .entry)) (fluidPlace (now (scene .entry)) i) ⌝ }
+{
+    let at = index[32 + i];
+    let head = index[32800 + i];
+    let density0 = read::double(scene, head + 2);
+    let fluids = read::byte(scene, at + 88);
+    match kind {
+        Kind::Fluid => ContactList {
+            kind,
+            density0,
+            count: fluids,
+            at: at + 90,
+        },
+        Kind::Boundary => {
+            let count = read::byte(scene, at + 89);
+            ContactList {
+                kind,
+                density0,
+                count,
+                at: at + 90 + 34 * fluids,
+            }
+        }
+    }
+}
+
+pub fn target_of(scene: &[u8], index: &[usize], kind: Kind, at: usize) -> usize
+    requires { ⌜ Indexed (now scene) (now index) ⌝ }
+    requires { ⌜ ContactReady kind (now scene) at ⌝ }
+    ensures { λ r. ⌜ r ≡ targetAt (startsOf kind (now (scene .entry))) (now (scene .entry)) at ⌝ }
+{
+    let name = read::contact_name(scene, at);
+    let model = name.model.0;
+    let particle = name.particle.0;
+    match kind {
+        Kind::Fluid => index[model] + particle,
+        Kind::Boundary => index[16 + model] + particle,
+    }
+}
+
+// The mass that the contact at an offset has for its owner, whose fluid has the rest density `density0`.
+pub fn mass(
+    scene: &[u8],
+    index: &[usize],
+    work: &[f64],
+    n: usize,
+    kind: Kind,
+    density0: f64,
+    at: usize,
+) -> f64
+    requires { ⌜ Indexed (now scene) (now index) ⌝ }
+    requires { ⌜ ContactReady kind (now scene) at ⌝ }
+    requires { ⌜ (n ≡ fluidSize (sceneOf (now scene))) × Prepared (sceneOf (now scene)) n (now work) ⌝ }
+    ensures { λ r. ⌜ r ≡ massOf kind (sceneOf (now (scene .entry))) density0 (contactAt (startsOf kind (now (scene .entry))) (now (scene .entry)) at) ⌝ }
+{
+    let j = target_of(scene, index, kind, at);
+    match kind {
+        Kind::Fluid => work[14 * j + 10],
+        Kind::Boundary => work[14 * n + j] * density0,
+    }
+}
+
+// The velocity of the particle that the contact at an offset names: of a fluid particle with its change before the pressures.
+pub fn velocity(
+    scene: &[u8],
+    index: &[usize],
+    work: &[f64],
+    n: usize,
+    kind: Kind,
+    at: usize,
+) -> Vec3
+    requires { ⌜ Indexed (now scene) (now index) ⌝ }
+    requires { ⌜ ContactReady kind (now scene) at ⌝ }
+    requires { ⌜ (n ≡ fluidSize (sceneOf (now scene))) × Prepared (sceneOf (now scene)) n (now work) ⌝ }
+    ensures { λ r. ⌜ axes r ≡ velocityOf kind (sceneOf (now (scene .entry))) (contactAt (startsOf kind (now (scene .entry))) (now (scene .entry)) at) ⌝ }
+{
+    let j = target_of(scene, index, kind, at);
+    match kind {
+        Kind::Fluid => vector_at(work, 14 * j + 7),
+        Kind::Boundary => {
+            let record = index[65568 + j];
+            read::vector(scene, record)
+        }
+    }
+}

@@ -1,0 +1,55 @@
+// What a pass takes of a fluid particle's own record: mass, velocity with its change before the pressures, and first pressure.
+use math::Vec3;
+use scene::read;
+ghost use mathlib.Core.Path.{_≡_};
+ghost use Prim.Native.Nat.{_<_};
+ghost use Rattle.math.specs.Vector.{axes};
+ghost use Rattle.scene.specs.Scene.{fluidSize, particle};
+ghost use Rattle.scene.specs.SceneOf.{sceneOf};
+ghost use Rattle.iisph_rules.specs.Coefficients.{particleMass, velocityChange, advectedVelocity};
+ghost use Rattle.iisph_particles.specs.Index.{Indexed};
+ghost use Rattle.iisph_particles.specs.Passes.{firstPressure};
+
+// Volume × rest density.
+pub fn mass_of(scene: &[u8], index: &[usize], n: usize, i: usize) -> f64
+    requires { ⌜ Indexed (now scene) (now index) ⌝ }
+    requires { ⌜ (n ≡ fluidSize (sceneOf (now scene))) × (i < n) ⌝ }
+    ensures { λ r. ⌜ r ≡ particleMass (particle (sceneOf (now (scene .entry))) i) ⌝ }
+{
+    let at = index[32 + i];
+    let head = index[32800 + i];
+    read::double(scene, at + 72) * read::double(scene, head + 2)
+}
+
+// 0 + (acceleration + gravity) × dt.
+pub fn velocity_change_of(scene: &[u8], index: &[usize], n: usize, i: usize) -> Vec3
+    requires { ⌜ Indexed (now scene) (now index) ⌝ }
+    requires { ⌜ (n ≡ fluidSize (sceneOf (now scene))) × (i < n) ⌝ }
+    ensures { λ r. ⌜ axes r ≡ velocityChange (sceneOf (now (scene .entry))) (particle (sceneOf (now (scene .entry))) i) ⌝ }
+{
+    let at = index[32 + i];
+    let acceleration = read::vector(scene, at + 48).add(read::vector(scene, 28));
+    let none = Vec3::zero();
+    none.add(acceleration.scale(read::double(scene, 4)))
+}
+
+// Velocity plus its change before the pressures.
+pub fn advected_of(scene: &[u8], index: &[usize], n: usize, i: usize) -> Vec3
+    requires { ⌜ Indexed (now scene) (now index) ⌝ }
+    requires { ⌜ (n ≡ fluidSize (sceneOf (now scene))) × (i < n) ⌝ }
+    ensures { λ r. ⌜ axes r ≡ advectedVelocity (sceneOf (now (scene .entry))) (particle (sceneOf (now (scene .entry))) i) ⌝ }
+{
+    let at = index[32 + i];
+    let change = velocity_change_of(scene, index, n, i);
+    read::vector(scene, at + 24).add(change)
+}
+
+// Half the warm pressure.
+pub fn first_pressure(scene: &[u8], index: &[usize], n: usize, i: usize) -> f64
+    requires { ⌜ Indexed (now scene) (now index) ⌝ }
+    requires { ⌜ (n ≡ fluidSize (sceneOf (now scene))) × (i < n) ⌝ }
+    ensures { λ r. ⌜ r ≡ firstPressure (sceneOf (now (scene .entry))) i ⌝ }
+{
+    let at = index[32 + i];
+    read::double(scene, at + 80) * 0.5
+}
