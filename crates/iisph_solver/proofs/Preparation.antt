@@ -17,8 +17,8 @@ use Rattle.iisph_solver.specs.Traverse.{slotOf, rowOf}
 use Rattle.iisph_particles.specs.WorkList.{stored, Rows, Part}
 use Rattle.iisph_solver.specs.declared.traverse.Pass.{Pass}
 use Rattle.iisph_solver.specs.declared.traverse.Pass.the-variants.{Masses, Advected, Coefficients}
-use Rattle.iisph_particles.proofs.Stores.{sets-in, sets-above, length-stored, stored-beyond, stored-rows, rows-kept, part-kept}
-use Rattle.iisph_solver.proofs.Traversal.{rowLength, row-fits, row-length}
+use Rattle.iisph_particles.proofs.Stores.{sets-in, sets-above, length-stored, stored-beyond, stored-rows}
+use Rattle.iisph_solver.proofs.Traversal.{rowLength, row-fits, row-length, pass-kept, volumes-kept, length-kept}
 
 -- equal lengths, and equal elements from k on
 drop-same : (k : ℕ) (x y : List Float) → length x ≡ length y → ((j : ℕ) → k ≤ j → getD x j nan ≡ getD y j nan) → drop k x ≡ drop k y
@@ -34,30 +34,28 @@ module _ (b : List ℕ) {n : ℕ} (size : n ≡ fluidSize (sceneOf b)) where
   -- ---- one pass
 
   module _ (pass : Pass) (l : List Float) where
-    pub pass-rows : 14 * n ≤ length l → Rows 14 n (slotOf pass) (rowOf (sceneOf b) pass) (stored 14 n (slotOf pass) (rowOf (sceneOf b) pass) l)
-    pass-rows room = stored-rows 14 (slotOf pass) (rowOf (sceneOf b) pass) l n (rowLength pass) (row-length b size pass) (row-fits pass) room
+    pub pass-rows : 14 * n ≤ length l → Rows 14 n (slotOf pass) (rowOf (sceneOf b) l pass) (stored 14 n (slotOf pass) (rowOf (sceneOf b) l pass) l)
+    pass-rows room = stored-rows 14 (slotOf pass) (rowOf (sceneOf b) l pass) l n (rowLength pass) (row-length b size l pass) (row-fits pass) room
 
     pub pass-keeps : (k c : ℕ) {g : ℕ → List Float} → ((i : ℕ) → i < n → length (g i) ≡ c) → k + c ≤ 14
-        → (k + c ≤ slotOf pass) ⊎ (slotOf pass + rowLength pass ≤ k) → Rows 14 n k g l → Rows 14 n k g (stored 14 n (slotOf pass) (rowOf (sceneOf b) pass) l)
-    pass-keeps k c wide fits apart q =
-        rows-kept 14 (slotOf pass) (rowOf (sceneOf b) pass) l n (rowLength pass) (row-length b size pass) (row-fits pass) n (omega arith) k c wide fits apart q
+        → (k + c ≤ slotOf pass) ⊎ (slotOf pass + rowLength pass ≤ k) → Rows 14 n k g l → Rows 14 n k g (stored 14 n (slotOf pass) (rowOf (sceneOf b) l pass) l)
+    pass-keeps k c wide fits apart q = pass-kept b size pass n (omega arith) l k c wide fits apart q
 
-    pub pass-part : {xs : List Float} → Part (14 * n) xs l → Part (14 * n) xs (stored 14 n (slotOf pass) (rowOf (sceneOf b) pass) l)
-    pass-part q =
-        part-kept 14 (slotOf pass) (rowOf (sceneOf b) pass) l n (rowLength pass) (row-length b size pass) (row-fits pass) n (omega arith) (14 * n) (omega arith) q
+    pub pass-part : {xs : List Float} → Part (14 * n) xs l → Part (14 * n) xs (stored 14 n (slotOf pass) (rowOf (sceneOf b) l pass) l)
+    pass-part q = volumes-kept b size pass n (omega arith) l q
 
-    pub room-kept : (m : ℕ) {x : List Float} → 14 * n + m ≤ length l → x ≡ stored 14 n (slotOf pass) (rowOf (sceneOf b) pass) l → 14 * n + m ≤ length x
-    room-kept m h e = rw (e, length-stored 14 (slotOf pass) (rowOf (sceneOf b) pass) l n) h
+    pub room-kept : (m : ℕ) {x : List Float} → 14 * n + m ≤ length l → x ≡ stored 14 n (slotOf pass) (rowOf (sceneOf b) l pass) l → 14 * n + m ≤ length x
+    room-kept m h e = rw (e, length-kept b size pass n (omega arith) l) h
 
-    pub pass-beyond : (j : ℕ) → 14 * n ≤ j → getD (stored 14 n (slotOf pass) (rowOf (sceneOf b) pass) l) j nan ≡ getD l j nan
+    pub pass-beyond : (j : ℕ) → 14 * n ≤ j → getD (stored 14 n (slotOf pass) (rowOf (sceneOf b) l pass) l) j nan ≡ getD l j nan
     pass-beyond j h =
-        stored-beyond 14 (slotOf pass) (rowOf (sceneOf b) pass) l n (rowLength pass) (row-length b size pass) (row-fits pass) n (omega arith) j h
+        stored-beyond 14 (slotOf pass) (rowOf (sceneOf b) l pass) l n (rowLength pass) (row-length b size l pass) (row-fits pass) n (omega arith) j h
 
   -- ---- what the coefficients need, after the first two passes
 
   module _ (l : List Float) (room : 14 * n + boundarySize (sceneOf b) ≤ length l) (v : Part (14 * n) (volumes (sceneOf b)) l) where
-    pub prepared-two : {x y : List Float} → x ≡ stored 14 n (slotOf Masses) (rowOf (sceneOf b) Masses) l
-        → y ≡ stored 14 n (slotOf Advected) (rowOf (sceneOf b) Advected) x → Prepared (sceneOf b) n y
+    pub prepared-two : {x y : List Float} → x ≡ stored 14 n (slotOf Masses) (rowOf (sceneOf b) l Masses) l
+        → y ≡ stored 14 n (slotOf Advected) (rowOf (sceneOf b) x Advected) x → Prepared (sceneOf b) n y
     unfolding slotOf rowOf
     prepared-two {x} {y} e q =
         let s = sceneOf b in
@@ -70,8 +68,8 @@ module _ (b : List ℕ) {n : ℕ} (size : n ≡ fluidSize (sceneOf b)) where
           volume = pass-part Advected x (rw e (pass-part Masses l v));
         }
 
-  pub rows-filled : (w : List Float) {x y z : List Float} → x ≡ stored 14 n (slotOf Masses) (rowOf (sceneOf b) Masses) w
-      → y ≡ stored 14 n (slotOf Advected) (rowOf (sceneOf b) Advected) x → z ≡ stored 14 n (slotOf Coefficients) (rowOf (sceneOf b) Coefficients) y
+  pub rows-filled : (w : List Float) {x y z : List Float} → x ≡ stored 14 n (slotOf Masses) (rowOf (sceneOf b) w Masses) w
+      → y ≡ stored 14 n (slotOf Advected) (rowOf (sceneOf b) x Advected) x → z ≡ stored 14 n (slotOf Coefficients) (rowOf (sceneOf b) y Coefficients) y
       → z ≡ rowsFilled (sceneOf b) w
   unfolding rowsFilled
   rows-filled w p q r = rw (r, q, p, size)

@@ -25,7 +25,7 @@ use Rattle.iisph_solver.specs.declared.prepare.Readiness.the-variants.{R
 -- ---- the list
 
 abbrev pub afterPass : Scene → Pass → List Float → List Float
-afterPass s p work = stored (rowWidth Format.axes) (fluidSize s) (slotOf p) (rowOf s p) work
+afterPass s p work = stored (rowWidth Format.axes) (fluidSize s) (slotOf p) (rowOf s work p) work
 
 -- masses, then advected velocities, then coefficients and first pressures
 unfoldable pub rowsFilled : Scene → List Float → List Float

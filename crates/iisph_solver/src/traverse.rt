@@ -2,6 +2,9 @@
 // not store, so the order of the rows is free.
 use iisph_particles::coefficients::CoefficientsOf;
 use iisph_particles::coefficients::coefficients_of;
+use iisph_particles::iteration::dij_pjl_of;
+use iisph_particles::iteration::next_pressure_of;
+use iisph_particles::iteration::quotient_of;
 use iisph_particles::records::advected_of;
 use iisph_particles::records::first_pressure;
 use iisph_particles::records::mass_of;
@@ -14,7 +17,7 @@ ghost use Rattle.scene.specs.Scene.{fluidSize, boundarySize};
 ghost use Rattle.scene.specs.SceneOf.{sceneOf};
 ghost use Rattle.iisph_particles.specs.WorkList.{stored};
 ghost use Rattle.iisph_particles.specs.Index.{Indexed};
-ghost use Rattle.iisph_solver.specs.Traverse.{slotOf, rowOf, Ready, coefficientList};
+ghost use Rattle.iisph_solver.specs.Traverse.{slotOf, rowOf, rowShare, Ready, coefficientList};
 
 // What is stored in every row.
 pub enum Pass {
@@ -24,6 +27,16 @@ pub enum Pass {
     Advected,
     // compute_densities, compute_predicted_densities, compute_dii, compute_aii; the first pressures.
     Coefficients,
+    // ((-m) × p) / (rho × rho), which compute_dij_pjl takes of every contact.
+    Quotients,
+    // compute_dij_pjl.
+    DijPjl,
+    // compute_next_pressures, beside the old pressures.
+    NextPressures,
+    // The next pressures take the old ones' place.
+    Exchange,
+    // p / (rho × rho), which compute_velocity_changes takes of every contact.
+    Shares,
 }
 
 // Density, predicted density, aii, dii and a pressure, from element k on.
@@ -39,12 +52,22 @@ fn put_coefficients(work: &mut [f64], k: usize, c: CoefficientsOf, pressure: f64
     work[k + 6] = pressure;
 }
 
+// p / (rho × rho) of row i.
+fn share_of(work: &[f64], i: usize) -> f64
+    requires { ⌜ 14 * i + 14 ≤ length (now work) ⌝ }
+    ensures { λ r. ⌜ r ≡ rowShare (now (work .entry)) i ⌝ }
+{
+    let row = 14 * i;
+    let rho = work[row];
+    work[row + 6] / (rho * rho)
+}
+
 // One row.
 fn turn(pass: Pass, scene: &[u8], index: &[usize], n: usize, work: &mut [f64], i: usize)
     requires { ⌜ Indexed (now scene) (now index) ⌝ }
     requires { ⌜ (n ≡ fluidSize (sceneOf (now scene))) × (i < n) ⌝ }
     requires { ⌜ (14 * n + boundarySize (sceneOf (now scene)) ≤ length (now work)) × Ready (sceneOf (now scene)) n (now work) pass ⌝ }
-    ensures { λ _. ⌜ now (work .exit) ≡ sets (now (work .entry)) (14 * i + slotOf pass) (rowOf (sceneOf (now (scene .entry))) pass i) ⌝ }
+    ensures { λ _. ⌜ now (work .exit) ≡ sets (now (work .entry)) (14 * i + slotOf pass) (rowOf (sceneOf (now (scene .entry))) (now (work .entry)) pass i) ⌝ }
 {
     match pass {
         Pass::Masses => {
@@ -60,6 +83,27 @@ fn turn(pass: Pass, scene: &[u8], index: &[usize], n: usize, work: &mut [f64], i
             let pressure = first_pressure(scene, index, n, i);
             put_coefficients(work, 14 * i, c, pressure);
         }
+        Pass::Quotients => {
+            let q = quotient_of(work, i);
+            work[14 * i + 11] = q;
+        }
+        Pass::DijPjl => {
+            let d = dij_pjl_of(scene, index, work, n, i);
+            put_vector(work, 14 * i + 7, d);
+        }
+        Pass::NextPressures => {
+            let next = next_pressure_of(scene, index, work, n, i);
+            work[14 * i + 11] = next.term;
+            work[14 * i + 12] = next.pressure;
+        }
+        Pass::Exchange => {
+            let next = work[14 * i + 12];
+            work[14 * i + 6] = next;
+        }
+        Pass::Shares => {
+            let share = share_of(work, i);
+            work[14 * i + 11] = share;
+        }
     }
 }
 
@@ -68,7 +112,7 @@ pub fn traverse(pass: Pass, scene: &[u8], index: &[usize], n: usize, work: &mut 
     requires { ⌜ Indexed (now scene) (now index) ⌝ }
     requires { ⌜ n ≡ fluidSize (sceneOf (now scene)) ⌝ }
     requires { ⌜ (14 * n + boundarySize (sceneOf (now scene)) ≤ length (now work)) × Ready (sceneOf (now scene)) n (now work) pass ⌝ }
-    ensures { λ _. ⌜ now (work .exit) ≡ stored 14 n (slotOf pass) (rowOf (sceneOf (now (scene .entry))) pass) (now (work .entry)) ⌝ }
+    ensures { λ _. ⌜ now (work .exit) ≡ stored 14 n (slotOf pass) (rowOf (sceneOf (now (scene .entry))) (now (work .entry)) pass) (now (work .entry)) ⌝ }
 {
     let mut i = 0usize;
     while i < n {

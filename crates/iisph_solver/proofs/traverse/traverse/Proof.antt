@@ -10,13 +10,13 @@ use Rattle.scene.specs.SceneOf.{sceneOf}
 use Rattle.iisph_particles.specs.WorkList.{stored}
 use Rattle.iisph_solver.specs.Traverse.{slotOf, rowOf}
 use Rattle.iisph_particles.proofs.Stores.{stored-none, stored-next}
-use Rattle.iisph_solver.proofs.Traversal.{ready-kept}
+use Rattle.iisph_solver.proofs.Traversal.{ready-kept, row-again}
 use borrow.Author.Needs.{needs}
 use Rattle.iisph_solver.proofs.traverse.traverse.Statement.{statement}
 use Rattle.iisph_solver.proofs.traverse.traverse.Tie as tie
 
 abbrev Inv-loop : tie.InvT-loop
-Inv-loop pass scene index n work₀ i₀ work i = (i ≤ n) × (length work ≡ length work₀) × (work ≡ stored 14 i (slotOf pass) (rowOf (sceneOf scene) pass) work₀)
+Inv-loop pass scene index n work₀ i₀ work i = (i ≤ n) × (length work ≡ length work₀) × (work ≡ stored 14 i (slotOf pass) (rowOf (sceneOf scene) work₀ pass) work₀)
 
 abbrev μ-loop : tie.MeasureT-loop
 μ-loop pass scene index n work₀ i₀ work i = n - i
@@ -55,7 +55,8 @@ loop-again c =
     let a = Begin (l .before) .args in (
       omega arith,
       ap length (t .turn .ensures) ∙ simp length-sets (l .loop .inv .1),
-      stored-next 14 (slotOf (a .pass)) (rowOf (sceneOf (now (a .scene))) (a .pass)) (now (a .work)) (l .loop .i) (l .loop .inv .2) (t .turn .ensures),
+      stored-next 14 (slotOf (a .pass)) (rowOf (sceneOf (now (a .scene))) (now (a .work)) (a .pass)) (now (a .work)) (l .loop .i) (l .loop .inv .2)
+          (t .turn .ensures ∙ row-again (now (a .scene)) (Begin (l .before) .pre .1 .0) (l .loop .i) (l .loop .inv .0) (now (a .work)) (a .pass) (l .loop .inv .2)),
     )
 
 same-length : tie.Need-same-length Inv-loop μ-loop
@@ -66,7 +67,7 @@ returns c =
     let l = c .before .loop in
     let a = Begin (c .before .before) .args in
     l .inv .2
-    ∙ ap (λ (k : ℕ). stored 14 k (slotOf (a .pass)) (rowOf (sceneOf (now (a .scene))) (a .pass)) (now (a .work))) (le-antisymm (l .inv .0) (c .loop-test .left))
+    ∙ ap (λ (k : ℕ). stored 14 k (slotOf (a .pass)) (rowOf (sceneOf (now (a .scene))) (now (a .work)) (a .pass)) (now (a .work))) (le-antisymm (l .inv .0) (c .loop-test .left))
 
 pub traverse-spec : {M : Type 1} → statement M
 traverse-spec =
