@@ -1,10 +1,9 @@
 -- The work list before the iterations holds what they need: each coefficient in its slot, the first pressures, masses and volumes. The coefficients' row is taken
 -- apart slot by slot; the other rows and the volumes stay while it is stored. Assumes nothing.
-use Prim.Native.Nat.{ℕ, zero, suc, _+_, _*_, _<_, _≤_}
+use Prim.Native.Nat.{ℕ, suc, _+_, _*_, _<_, _≤_}
 use mathlib.Core.Path.{_≡_, refl, sym, ap, _∙_}
 use mathlib.Core.List.{List, [], _∷_, _++_}
 use mathlib.Core.Logic.{inr}
-use native.Mathlib.Nat.{add-zero, add-assoc, not-suc-le-zero, le-of-suc-le-suc}
 use native.Mathlib.Omega.{arith}
 use lib.Ieee.{Float, nan}
 use lib.ListN.{length, length-append, getD, List·getD-append}
@@ -22,27 +21,9 @@ use Rattle.iisph_rules.specs.Step.{firstPressures}
 use Rattle.iisph_solver.specs.Traverse.{slotOf}
 use Rattle.iisph_particles.specs.WorkList.{Rows, Part}
 use Rattle.iisph_solver.specs.declared.traverse.Pass.the-variants.{Coefficients}
+use Rattle.iisph_solver.proofs.RowParts.{rows-part, rows-one}
 use Rattle.iisph_solver.proofs.Preparation.{start, two, part-stored, pass-keeps, pass-part, prepared-two, length-prepared, coefficient-rows}
 use Rattle.iisph_rules.proofs.Sizes.{length-dii}
-
--- ---- parts of rows: what stands from element e of each row on
-
-module _ {n k : ℕ} {f : ℕ → List Float} {l : List Float} (q : Rows 14 n k f l) (e : ℕ) where
-  rows-part : (g : ℕ → List Float) → ((i : ℕ) → i < n → (a : ℕ) → a < length (g i) → (e + a < length (f i)) × (getD (f i) (e + a) nan ≡ getD (g i) a nan))
-      → Rows 14 n (k + e) g l
-  rows-part g h =
-      record {
-        holds = λ i m a c.
-            ap (λ (j : ℕ). getD l (14 * i + j) nan) (add-assoc k e a) ∙ q .holds i m (e + a) (h i m a c .0) ∙ h i m a c .1;
-      }
-
-  -- one value
-  rows-one : (x : ℕ → Float) → ((i : ℕ) → i < n → (e < length (f i)) × (getD (f i) e nan ≡ x i)) → Rows 14 n (k + e) (λ i. x i ∷ []) l
-  rows-one x h = rows-part (λ i. x i ∷ []) (λ i m a c. one i a c (h i m))
-    where
-      one : (i a : ℕ) → a < 1 → (e < length (f i)) × (getD (f i) e nan ≡ x i) → (e + a < length (f i)) × (getD (f i) (e + a) nan ≡ getD (x i ∷ []) a nan)
-      one i zero c p = rw add-zero p
-      one i (suc a) c p = absurd (not-suc-le-zero (le-of-suc-le-suc c))
 
 -- ---- the coefficients' row
 

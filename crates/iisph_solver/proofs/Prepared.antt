@@ -34,6 +34,7 @@ use Rattle.iisph_solver.specs.declared.prepare.Readiness.{Readiness}
 use Rattle.iisph_solver.specs.declared.prepare.Readiness.the-variants.{Ready, Refused}
 use Rattle.math.proofs.Lists.{table-same, map-table}
 use Rattle.iisph_particles.proofs.Particles.{record-at}
+use Rattle.iisph_solver.proofs.RowParts.{rows-column}
 use Rattle.iisph_solver.proofs.Preparation.{part-stored, drop-prepared, coefficient-rows}
 use Rattle.iisph_particles.proofs.Zeros.{unless-same}
 
@@ -80,11 +81,6 @@ module _ (b : List ℕ) {n : ℕ} (size : n ≡ fluidSize (sceneOf b)) (l : List
       ∙ rw (needed, drop-prepared b l (workNeeded b) (omega (arith, needed)))
 
 -- ---- columns
-
--- slot k of n rows that begin there
-rows-column : {n k : ℕ} {f : ℕ → List Float} {l : List Float} (e : ℕ) (x : ℕ → Float) → Rows 14 n k f l
-    → ((i : ℕ) → i < n → (e < length (f i)) × (getD (f i) e nan ≡ x i)) → column n (k + e) l ≡ table n x
-rows-column {n} {k} {f} {l} e x q h = table-same n _ x (λ i m. q .holds i m e (h i m .0) ∙ h i m .1)
 
 module _ (b : List ℕ) (l : List Float) (room : 14 * fluidSize (sceneOf b) + boundarySize (sceneOf b) ≤ length l) where
   coefficient-column : (e : ℕ) (x : Coefficients → Float)

@@ -1,0 +1,45 @@
+-- What stands in some slots of every row follows from what stands in more of them: a part of the values, one value, a column; and from equal values. Each reads the rows
+-- once. Assumes nothing.
+use Prim.Native.Nat.{ℕ, zero, suc, _+_, _*_, _<_}
+use mathlib.Core.Path.{_≡_, sym, ap, _∙_, subst}
+use mathlib.Core.List.{List, [], _∷_}
+use native.Mathlib.Nat.{add-zero, add-assoc, not-suc-le-zero, le-of-suc-le-suc}
+use native.Mathlib.Omega.{arith}
+use lib.Ieee.{Float, nan}
+use lib.ListN.{length, getD}
+use Rattle.math.specs.Lists.{table}
+use Rattle.math.proofs.Lists.{table-same}
+use Rattle.iisph_particles.specs.Refusals.{column}
+use Rattle.iisph_particles.specs.WorkList.{Rows}
+
+-- ---- parts of rows: what stands from element e of each row on
+
+module _ {n k : ℕ} {f : ℕ → List Float} {l : List Float} (q : Rows 14 n k f l) (e : ℕ) where
+  pub rows-part : (g : ℕ → List Float) → ((i : ℕ) → i < n → (a : ℕ) → a < length (g i) → (e + a < length (f i)) × (getD (f i) (e + a) nan ≡ getD (g i) a nan))
+      → Rows 14 n (k + e) g l
+  rows-part g h =
+      record {
+        holds = λ i m a c.
+            ap (λ (j : ℕ). getD l (14 * i + j) nan) (add-assoc k e a) ∙ q .holds i m (e + a) (h i m a c .0) ∙ h i m a c .1;
+      }
+
+  -- one value
+  pub rows-one : (x : ℕ → Float) → ((i : ℕ) → i < n → (e < length (f i)) × (getD (f i) e nan ≡ x i)) → Rows 14 n (k + e) (λ i. x i ∷ []) l
+  rows-one x h = rows-part (λ i. x i ∷ []) (λ i m a c. one i a c (h i m))
+    where
+      one : (i a : ℕ) → a < 1 → (e < length (f i)) × (getD (f i) e nan ≡ x i) → (e + a < length (f i)) × (getD (f i) (e + a) nan ≡ getD (x i ∷ []) a nan)
+      one i zero c p = rw add-zero p
+      one i (suc a) c p = absurd (not-suc-le-zero (le-of-suc-le-suc c))
+
+-- ---- columns
+
+-- slot k of n rows that begin there
+pub rows-column : {n k : ℕ} {f : ℕ → List Float} {l : List Float} (e : ℕ) (x : ℕ → Float) → Rows 14 n k f l
+    → ((i : ℕ) → i < n → (e < length (f i)) × (getD (f i) e nan ≡ x i)) → column n (k + e) l ≡ table n x
+rows-column {n} {k} {f} {l} e x q h = table-same n _ x (λ i m. q .holds i m e (h i m .0) ∙ h i m .1)
+
+-- ---- equal values
+
+pub rows-same : {n k : ℕ} {f g : ℕ → List Float} {l : List Float} → ((i : ℕ) → i < n → f i ≡ g i) → Rows 14 n k f l → Rows 14 n k g l
+rows-same {n} {k} {f} {g} {l} h q =
+    record { holds = λ i m e c. q .holds i m e (subst (λ (xs : List Float). e < length xs) (sym (h i m)) c) ∙ ap (λ (xs : List Float). getD xs e nan) (h i m) }
