@@ -1,12 +1,12 @@
 -- One iteration's passes yield the rules' iteration: quotients, dij_pjl, next pressures with their error terms, then the exchange. Each pass finds what it needs where an
 -- earlier one stored it, and keeps what later ones need. Assumes nothing.
-use Prim.Native.Nat.{ℕ, _+_, _*_, _<_, _≤_}
+use Prim.Native.Nat.{ℕ, zero, suc, _+_, _*_, _<_, _≤_}
 use mathlib.Core.Path.{_≡_, refl, sym, ap, _∙_}
 use mathlib.Core.Logic.{inl, inr}
 use mathlib.Core.List.{List, [], _∷_, map}
 use native.Mathlib.Omega.{arith}
 use lib.Ieee.{Float}
-use lib.ListN.{length, take, length-map}
+use lib.ListN.{length, take, drop, length-map}
 use lib.Seq.{take-at}
 use Rattle.math.specs.Real.{+0}
 use Rattle.math.specs.Vector.{Vector}
@@ -29,13 +29,13 @@ use Rattle.iisph_particles.specs.Refusals.{column}
 use Rattle.iisph_particles.specs.WorkList.{stored, Rows}
 use Rattle.iisph_particles.proofs.IterationReads.{quotient-made, pressures-are, dijs-are}
 use Rattle.iisph_particles.proofs.Targets.{row-value}
-use Rattle.iisph_solver.specs.Solve.{iterated, Iterates}
+use Rattle.iisph_solver.specs.Solve.{iterated, iteratedTimes, Iterates}
 use Rattle.iisph_solver.specs.Traverse.{slotOf, rowOf, nextList}
 use Rattle.iisph_solver.specs.declared.traverse.Pass.{Pass}
 use Rattle.iisph_solver.specs.declared.traverse.Pass.the-variants.{Quotients, DijPjl, NextPressures, Exchange}
-use Rattle.iisph_solver.proofs.Preparation.{pass-rows}
+use Rattle.iisph_solver.proofs.Preparation.{pass-rows, pass-drop}
 use Rattle.iisph_solver.proofs.RowParts.{rows-one, rows-column, rows-same}
-use Rattle.iisph_solver.proofs.Traversal.{pass-kept, pressures-kept, iteration-kept, iteration-same}
+use Rattle.iisph_solver.proofs.Traversal.{pass-kept, length-kept, pressures-kept, iteration-kept, iteration-same}
 
 -- the list after a pass over n rows
 abbrev After : List ℕ → ℕ → Pass → List Float → List Float
@@ -162,6 +162,40 @@ module _ (b : List ℕ) {n : ℕ} (size : n ≡ fluidSize (sceneOf b)) (l : List
           pub iterated-made : w ≡ iterated (sceneOf b) l
           unfolding iterated
           iterated-made = rw (k, g, f, e, size)
+
+-- ---- the list after an iteration
+
+module _ (b : List ℕ) {n : ℕ} (size : n ≡ fluidSize (sceneOf b)) (l : List Float) where
+  module _ (ready : IterationReady (sceneOf b) (pressuresIn n l) n l) where
+    pub again-pressures : pressuresIn n (iterated (sceneOf b) l) ≡ iteration (sceneOf b) (coefficients (sceneOf b)) (pressuresIn n l) .pressures
+    again-pressures = rw (← iterated-made b size l ready refl refl refl refl) (iterated-pressures b size l ready refl refl refl refl)
+
+    pub again-ready : IterationReady (sceneOf b) (pressuresIn n (iterated (sceneOf b) l)) n (iterated (sceneOf b) l)
+    again-ready = rw (← iterated-made b size l ready refl refl refl refl) (iterated-ready b size l ready refl refl refl refl)
+
+  pub length-iterated : length (iterated (sceneOf b) l) ≡ length l
+  unfolding iterated
+  length-iterated =
+      length-kept b refl Exchange (fluidSize (sceneOf b)) (omega arith) _
+      ∙ length-kept b refl NextPressures (fluidSize (sceneOf b)) (omega arith) _
+      ∙ length-kept b refl DijPjl (fluidSize (sceneOf b)) (omega arith) _
+      ∙ length-kept b refl Quotients (fluidSize (sceneOf b)) (omega arith) l
+
+  -- beyond the rows
+  pub drop-iterated : (k : ℕ) → 14 * fluidSize (sceneOf b) ≤ k → drop k (iterated (sceneOf b) l) ≡ drop k l
+  unfolding iterated
+  drop-iterated k h =
+      pass-drop b refl Exchange _ k h ∙ pass-drop b refl NextPressures _ k h ∙ pass-drop b refl DijPjl _ k h ∙ pass-drop b refl Quotients l k h
+
+pub drop-times : (b : List ℕ) (i : ℕ) (l : List Float) (k : ℕ) → 14 * fluidSize (sceneOf b) ≤ k → drop k (iteratedTimes i (sceneOf b) l) ≡ drop k l
+unfolding iteratedTimes
+drop-times b zero l k h = refl
+drop-times b (suc i) l k h = drop-iterated b refl (iteratedTimes i (sceneOf b) l) k h ∙ drop-times b i l k h
+
+pub length-times : (b : List ℕ) (i : ℕ) (l : List Float) → length (iteratedTimes i (sceneOf b) l) ≡ length l
+unfolding iteratedTimes
+length-times b zero l = refl
+length-times b (suc i) l = length-iterated b refl (iteratedTimes i (sceneOf b) l) ∙ length-times b i l
 
 -- ---- the error
 

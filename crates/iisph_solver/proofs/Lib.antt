@@ -6,3 +6,4 @@ pub mod IterationStart
 pub mod Validated
 pub mod Averages
 pub mod Iterated
+pub mod Solving

@@ -51,6 +51,9 @@ module _ (b : List ℕ) {n : ℕ} (size : n ≡ fluidSize (sceneOf b)) where
     pass-beyond j h =
         stored-beyond 14 (slotOf pass) (rowOf (sceneOf b) l pass) l n (rowLength pass) (row-length b size l pass) (row-fits pass) n (omega arith) j h
 
+    pub pass-drop : (k : ℕ) → 14 * n ≤ k → drop k (stored 14 n (slotOf pass) (rowOf (sceneOf b) l pass) l) ≡ drop k l
+    pass-drop k h = drop-same k _ l (length-kept b size pass n (omega arith) l) (λ j m. pass-beyond j (omega arith))
+
   -- ---- what the coefficients need, after the first two passes
 
   module _ (l : List Float) (room : 14 * n + boundarySize (sceneOf b) ≤ length l) (v : Part (14 * n) (volumes (sceneOf b)) l) where
