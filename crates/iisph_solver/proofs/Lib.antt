@@ -7,3 +7,5 @@ pub mod Validated
 pub mod Averages
 pub mod Iterated
 pub mod Solving
+pub mod Needs
+pub mod Finished

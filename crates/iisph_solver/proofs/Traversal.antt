@@ -23,7 +23,8 @@ use Rattle.iisph_particles.specs.IterationRows.{pressuresIn, dijsIn, rowQuotien
 use Rattle.iisph_particles.specs.declared.coefficients.CoefficientsOf.{CoefficientsOf}
 use Rattle.iisph_particles.specs.declared.iteration.Next.{Next}
 use Rattle.iisph_particles.proofs.Stores.{length-stored, stored-other, rows-kept, part-kept}
-use Rattle.iisph_solver.specs.Traverse.{slotOf, rowOf, Ready, coefficientList, nextList, rowNext, rowShare}
+use Rattle.iisph_solver.specs.Traverse.{slotOf, rowOf, Ready, coefficientList, nextList, rowNext}
+use Rattle.velocity_changes.specs.Changes.{rowShare}
 use Rattle.iisph_solver.specs.declared.traverse.Pass.{Pass}
 use Rattle.iisph_solver.specs.declared.traverse.Pass.the-variants.{Masses, Advected, Coefficients, Quotients, DijPjl, NextPressures, Exchange, Shares}
 

@@ -1,5 +1,6 @@
 pub mod Traverse
 pub mod Errors
+pub mod Needed
 pub mod Prepare
 pub mod Solve
 pub mod Validate

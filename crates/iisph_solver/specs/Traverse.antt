@@ -3,7 +3,6 @@ use Prim.Native.Nat.{ℕ, _+_, _*_}
 use mathlib.Core.List.{List, [], _∷_, _++_}
 use lib.Ieee.{Float, nan}
 use lib.ListN.{getD}
-use Rattle.math.specs.Real.{_⊗_, _⊘_}
 use Rattle.math.specs.Vector.{axes}
 use Rattle.scene.specs.Format as Format
 use Rattle.scene.specs.Scene.{Scene, fluidSize, particle}
@@ -13,6 +12,7 @@ use Rattle.iisph_particles.specs.WorkList.{rowWidth, densitySlot, pressureSlot,
 use Rattle.iisph_particles.specs.Passes.{massRow, advectedRow, coefficientRow, Prepared}
 use Rattle.iisph_particles.specs.IterationRows.{pressuresIn, dijsIn, rowQuotient, quotientRow, IterationReady}
 use Rattle.iisph_particles.specs.declared.coefficients.CoefficientsOf.{CoefficientsOf}
+use Rattle.velocity_changes.specs.Changes.{rowShare}
 use Rattle.iisph_solver.specs.declared.traverse.Pass.{Pass}
 use Rattle.iisph_solver.specs.declared.traverse.Pass.the-variants.{Masses, Advected, Coefficients, Quotients, DijPjl, NextPressures, Exchange, Shares}
 
@@ -27,13 +27,6 @@ nextList k = k .term ∷ k .pressure ∷ []
 -- the next pressure that stands in row i
 abbrev pub rowNext : List Float → ℕ → Float
 rowNext work i = getD work (rowWidth Format.axes * i + nextPressureSlot Format.axes) nan
-
--- p / (rho × rho) of row i
-abbrev pub rowShare : List Float → ℕ → Float
-rowShare work i =
-    let row = rowWidth Format.axes * i in
-    let rho = getD work row nan in
-    getD work (row + pressureSlot Format.axes) nan ⊘ (rho ⊗ rho)
 
 unfoldable pub slotOf : Pass → ℕ
 slotOf Masses = massSlot Format.axes

@@ -9,6 +9,7 @@ use iisph_particles::records::advected_of;
 use iisph_particles::records::first_pressure;
 use iisph_particles::records::mass_of;
 use iisph_particles::rows::put_vector;
+use velocity_changes::acceleration::share_of;
 ghost use mathlib.Core.Path.{_≡_};
 ghost use Prim.Native.Nat.{_+_, _*_, _≤_, _<_};
 ghost use lib.ListN.{length};
@@ -17,7 +18,7 @@ ghost use Rattle.scene.specs.Scene.{fluidSize, boundarySize};
 ghost use Rattle.scene.specs.SceneOf.{sceneOf};
 ghost use Rattle.iisph_particles.specs.WorkList.{stored};
 ghost use Rattle.iisph_particles.specs.Index.{Indexed};
-ghost use Rattle.iisph_solver.specs.Traverse.{slotOf, rowOf, rowShare, Ready, coefficientList};
+ghost use Rattle.iisph_solver.specs.Traverse.{slotOf, rowOf, Ready, coefficientList};
 
 // What is stored in every row.
 pub enum Pass {
@@ -50,16 +51,6 @@ fn put_coefficients(work: &mut [f64], k: usize, c: CoefficientsOf, pressure: f64
     work[k + 2] = c.aii;
     put_vector(work, k + 3, dii);
     work[k + 6] = pressure;
-}
-
-// p / (rho × rho) of row i.
-fn share_of(work: &[f64], i: usize) -> f64
-    requires { ⌜ 14 * i + 14 ≤ length (now work) ⌝ }
-    ensures { λ r. ⌜ r ≡ rowShare (now (work .entry)) i ⌝ }
-{
-    let row = 14 * i;
-    let rho = work[row];
-    work[row + 6] / (rho * rho)
 }
 
 // One row.

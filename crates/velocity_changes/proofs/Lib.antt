@@ -1,0 +1,3 @@
+pub mod Accelerations
+pub mod Losses
+pub mod Motions

@@ -1,0 +1,116 @@
+-- `velocity_changes::changes::loss` meets its contract: by the kind, the row or the volume that the contact names is in the work list. Assumes nothing.
+use Prim.Native.Nat.{_<_}
+use native.Mathlib.Omega.{arith}
+use borrow.Author.Needs.{needs}
+use Rattle.iisph_particles.proofs.Sums.{contact-room}
+use Rattle.iisph_particles.proofs.Targets.{fluid-named, vector-finite}
+use Rattle.velocity_changes.proofs.Losses.{boundary-ready, fluid-loss, boundary-loss}
+use Rattle.velocity_changes.proofs.changes.loss.Statement.{statement}
+use Rattle.velocity_changes.proofs.changes.loss.Tie as tie
+
+abbrev Begin : tie.After-target-of → tie.Start
+Begin c = c .before .before .before .before .before .before
+
+abbrev BeginBoundary : tie.After-enum-told2 → tie.Start
+BeginBoundary c = c .before .before .before .before .before
+
+-- the row that a fluid contact names
+below : (c : tie.After-target-of) → c .target-of .result < Begin c .args .n
+below c =
+    let p = Begin c .pre in
+    omega (arith, p .1 .1 .0, fluid-named (p .1 .0) (c .target-of .ensures) (c .before .enum-told .given .1))
+
+enum-told : tie.Need-enum-told
+enum-told c = search needs
+
+target-of-requires : tie.Need-target-of-requires
+target-of-requires c κs =
+    let p = c .before .before .before .before .before .pre in
+    (p .0, p .1 .0)
+
+mul-row : tie.Need-mul-row
+mul-row c =
+    let p = Begin c .pre in
+    omega (arith, below c, p .0 .fluidFew, p .1 .1 .0)
+
+add-m : tie.Need-add-m
+add-m c =
+    let p = Begin c .pre in
+    omega (arith, below c, p .0 .fluidFew, p .1 .1 .0)
+
+mul-m : tie.Need-mul-m
+mul-m c =
+    let p = Begin c .pre in
+    omega (arith, below c, p .0 .fluidFew, p .1 .1 .0)
+
+shared-slice-read-m : tie.Need-shared-slice-read-m
+shared-slice-read-m c = omega (arith, below (c .before), Begin (c .before) .pre .1 .1 .1 .iteration .room)
+
+add-share : tie.Need-add-share
+add-share c =
+    let p = Begin (c .before) .pre in
+    omega (arith, below (c .before), p .0 .fluidFew, p .1 .1 .0)
+
+mul-share : tie.Need-mul-share
+mul-share c =
+    let p = Begin (c .before) .pre in
+    omega (arith, below (c .before), p .0 .fluidFew, p .1 .1 .0)
+
+shared-slice-read-share : tie.Need-shared-slice-read-share
+shared-slice-read-share c =
+    let t = c .before .before in
+    omega (arith, below t, Begin t .pre .1 .1 .1 .iteration .room)
+
+add-vector : tie.Need-add-vector
+add-vector c = omega (arith, contact-room (Begin (c .before .before) .pre .1 .0))
+
+vector-requires : tie.Need-vector-requires
+vector-requires c κs = vector-finite (Begin (c .before .before) .pre .1 .0 .doubles .gradient)
+
+scale-requires : tie.Need-scale-requires
+scale-requires c κs = search needs
+
+enum-told-2 : tie.Need-enum-told-2
+enum-told-2 c = search needs
+
+boundary-acceleration-requires : tie.Need-boundary-acceleration-requires
+boundary-acceleration-requires c κs =
+    let p = BeginBoundary c .pre in
+    (p .0, (boundary-ready _ (p .1 .0) (c .enum-told2 .given .1), (p .1 .1 .0, p .1 .1 .1 .iteration)))
+
+scale-requires-2 : tie.Need-scale-requires-2
+scale-requires-2 c κs = search needs
+
+returns : tie.Need-returns
+returns c =
+    let v = c .before .before in
+    let t = v .before .before .before in
+    let p = Begin t .pre in
+    fluid-loss _ (p .1 .0) (p .1 .1 .0) (p .1 .1 .1) _ _ (t .before .enum-told .given .1) (t .target-of .ensures) (v .vector .ensures) (c .scale .ensures)
+
+returns-2 : tie.Need-returns-2
+returns-2 c =
+    let a = c .before in
+    boundary-loss _ _ _ _ _ (a .before .enum-told2 .given .1) (a .boundary-acceleration .ensures) (c .scale2 .ensures)
+
+pub loss-spec : {M : Type 1} → statement M
+loss-spec =
+    tie.close
+    (tie.spec
+    enum-told
+    target-of-requires
+    mul-row
+    add-m
+    mul-m
+    shared-slice-read-m
+    add-share
+    mul-share
+    shared-slice-read-share
+    add-vector
+    vector-requires
+    scale-requires
+    enum-told-2
+    boundary-acceleration-requires
+    scale-requires-2
+    returns
+    returns-2)
