@@ -3,7 +3,9 @@ pub mod RowParts
 pub mod Preparation
 pub mod Prepared
 pub mod IterationStart
+pub mod Cases
 pub mod Validated
+pub mod Stepped
 pub mod Averages
 pub mod Iterated
 pub mod Solving

@@ -4,3 +4,4 @@ pub mod Needed
 pub mod Prepare
 pub mod Solve
 pub mod Validate
+pub mod Step

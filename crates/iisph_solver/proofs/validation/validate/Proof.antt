@@ -1,7 +1,8 @@
 -- `iisph_solver::validation::validate` meets its contract: by the verdict of the check. Assumes nothing.
 use denote.Ref.{now}
 use borrow.Author.Needs.{needs}
-use Rattle.iisph_solver.proofs.Validated.{refused-validates, verdict-refused, verdict-accepted, layout-accepted}
+use Rattle.iisph_solver.proofs.Cases.{verdict-refused, verdict-accepted, layout-accepted}
+use Rattle.iisph_solver.proofs.Validated.{refused-validates}
 use Rattle.iisph_solver.proofs.validation.validate.Statement.{statement}
 use Rattle.iisph_solver.proofs.validation.validate.Tie as tie
 

@@ -1,0 +1,79 @@
+-- A step meets its contract in each case: refused by the check, by a short list or by a zero density, or done. From the cases of the rules' answer and what the passes
+-- left in both lists. Assumes nothing.
+use Prim.Native.Nat.{ℕ, _≤_, _<_}
+use mathlib.Core.Path.{_≡_, refl, sym, ap, _∙_}
+use mathlib.Core.List.{List, _++_}
+use lib.Ieee.{Float}
+use lib.ListN.{length}
+use Rattle.scene.specs.Format.{fluidPlace}
+use Rattle.scene.specs.SceneOf.{sceneOf, answersNeeded, workNeeded}
+use Rattle.scene.specs.Walk.{checked}
+use Rattle.scene.specs.declared.Refusal.{Refusal}
+use Rattle.scene.specs.declared.Refusal.the-variants.{ShortList}
+use Rattle.scene.specs.declared.Walk.the-variants as walk
+use Rattle.iisph_rules.specs.Answer.{stepAnswer}
+use Rattle.iisph_rules.specs.Step.{reportOf, sceneAnswer}
+use Rattle.iisph_rules.specs.declared.Report.{Report}
+use Rattle.iisph_rules.specs.declared.StepAnswer.the-variants.{Done, Refused}
+use Rattle.iisph_rules.proofs.Reports.{answers-done, work-done}
+use Rattle.iisph_solver.specs.Prepare.{prepared, workPrepared, readiness}
+use Rattle.iisph_solver.specs.Step.{Steps, Finishes}
+use Rattle.iisph_solver.specs.declared.prepare.Readiness.the-variants as before
+use Rattle.iisph_solver.proofs.Cases.{refused-answer, short-answers, short-work, scene-answer, answers-refused, work-refused, work-short, work-cleared}
+use Rattle.iisph_solver.proofs.Prepared.{refused-step, ready-step}
+use Rattle.iisph_solver.proofs.Validated.{beyond}
+
+module _ (b : List ℕ) (answers work : List Float) where
+  -- refusals 1 to 7
+  pub refused-steps : {r : Refusal} → checked b ≡ walk.Refused r → Steps b answers work (Refused r) answers work
+  refused-steps q =
+      let a = refused-answer b (length answers) (length work) q in
+      record {
+        answer = sym a;
+        answersThen = sym (answers-refused b (length answers) (length work) a answers);
+        workThen = sym (work-refused b (length answers) (length work) q work);
+      }
+
+  -- 8
+  short-steps : stepAnswer b (length answers) (length work) ≡ Refused ShortList → Steps b answers work (Refused ShortList) answers work
+  short-steps a =
+      record {
+        answer = sym a;
+        answersThen = sym (answers-refused b (length answers) (length work) a answers);
+        workThen = sym (work-short b (length answers) (length work) a work);
+      }
+
+  module _ {e : ℕ} (q : checked b ≡ walk.At e) where
+    pub short-answers-steps : length answers < answersNeeded b → Steps b answers work (Refused ShortList) answers work
+    short-answers-steps h = short-steps (short-answers b (length answers) (length work) q h)
+
+    module _ (l : answersNeeded b ≤ length answers) where
+      pub short-work-steps : length work < workNeeded b → Steps b answers work (Refused ShortList) answers work
+      short-work-steps h = short-steps (short-work b (length answers) (length work) q l h)
+
+      module _ (h : workNeeded b ≤ length work) where
+        -- 9 and 10
+        pub zero-steps : {r : Refusal} {after : List Float} → before.Refused r ≡ readiness (sceneAnswer (λ i. fluidPlace b i .at) (sceneOf b))
+            → after ≡ workPrepared b (before.Refused r) work → Steps b answers work (Refused r) answers after
+        unfolding workPrepared
+        zero-steps {r} z w =
+            let s = scene-answer b (length answers) (length work) q l h in
+            let a = s ∙ refused-step _ z in
+            record {
+              answer = sym a;
+              answersThen = sym (answers-refused b (length answers) (length work) a answers);
+              workThen = w ∙ sym (work-cleared b (length answers) (length work) s work);
+            }
+
+        -- done
+        pub done-steps : {x : List Float} {report : Report} {answers′ work′ : List Float}
+            → before.Ready ≡ readiness (sceneAnswer (λ i. fluidPlace b i .at) (sceneOf b))
+            → x ≡ workPrepared b before.Ready work → Finishes b answers x report answers′ work′ → Steps b answers work (Done report) answers′ work′
+        done-steps {x} {report} z p f =
+            let s = scene-answer b (length answers) (length work) q l h in
+            let a : stepAnswer b (length answers) (length work) ≡ Done report = s ∙ ready-step _ (sceneOf b) z ∙ ap Done (sym (f .report)) in
+            record {
+              answer = sym a;
+              answersThen = f .answersThen ∙ sym (answers-done b (length answers) (length work) a answers);
+              workThen = f .workThen ∙ rw (p, beyond b work before.Ready) (sym (work-done b (length answers) (length work) a work));
+            }
