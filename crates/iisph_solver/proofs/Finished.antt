@@ -13,11 +13,17 @@ use Rattle.math.specs.Real.{+0}
 use Rattle.math.specs.Lists.{table}
 use Rattle.math.proofs.Lists.{table-snoc}
 use Rattle.scene.specs.Accepted.{Bytes}
+use Rattle.scene.specs.Bytes.{doubleAt}
 use Rattle.scene.specs.Format.{joined}
 use Rattle.scene.specs.Scene.{fluidSize, boundarySize}
-use Rattle.scene.specs.SceneOf.{sceneOf, answersNeeded, workNeeded}
+use Rattle.scene.specs.SceneOf.{headerOf, sceneOf, answersNeeded, workNeeded}
+use Rattle.scene.proofs.Places.{scene-header}
+use Rattle.timestep_manager.specs.Clock.{advanced}
+use Rattle.timestep_manager.specs.declared.Clock.{Clock}
 use Rattle.iisph_rules.specs.Coefficients.{coefficients}
-use Rattle.iisph_rules.specs.Step.{firstPressures, solution, fluidAnswer, boundaryAnswer, answersFrom, answersOf}
+use Rattle.iisph_rules.specs.Step.{firstPressures, solution, fluidAnswer, boundaryAnswer, answersFrom, answersOf, reportOf}
+use Rattle.iisph_rules.specs.declared.Ending.{Ending}
+use Rattle.iisph_rules.specs.declared.Report.{Report}
 use Rattle.iisph_rules.proofs.EndToEnd.{length-rows, sum-same}
 use Rattle.iisph_rules.proofs.Iterations.{pressuresAfter, solution-pressures}
 use Rattle.iisph_rules.proofs.Sizes.{length-fluid, length-answers}
@@ -107,3 +113,12 @@ module _ (b : List ℕ) (y : Bytes b) {n : ℕ} (size : n ≡ fluidSize (sceneOf
       ∙ sym (sets-append fs bs old 0)
       ∙ sets-eq (fs ++ bs) old 0 (omega (arith, all))
       ∙ rw (zero-add, all, p))
+
+-- ---- the report
+
+pub report-made : (b : List ℕ) {t rest : Float} {clock : Clock} {iterations : ℕ} {ending : Ending} → t ≡ doubleAt b 4 → rest ≡ doubleAt b 12
+    → clock ≡ advanced (record { «total_step_size» = t; dt = +0; «inv_dt» = +0; «remaining_time» = rest })
+    → iterations ≡ solution (sceneOf b) .iterations → ending ≡ solution (sceneOf b) .ending
+    → _≡_ {A = Report} (record { clock = clock; iterations = iterations; ending = ending }) (reportOf (sceneOf b))
+unfolding reportOf headerOf
+report-made b te re ce ie ee = rw (ce, te, re, ie, ee, scene-header b)

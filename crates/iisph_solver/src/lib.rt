@@ -3,6 +3,7 @@ mod errors;
 mod needed;
 mod prepare;
 mod solve;
+mod step;
 mod traverse;
 mod validation;
 

@@ -58,7 +58,8 @@ boundary-loss b at ps own t e ae xe = xe ∙ ap (λ (a : Vector). a ⊡ t) ae �
 -- ---- of the particle's own values a loss is the rule's
 
 module _ {s : Scene} {ps : List Float} {i : ℕ} {own : Own} (h : OwnIs s ps i own) {t : Float} (te : t ≡ dt s) (c : Contact) where
-  fluid-rule : lossOf Fluid s ps t own c ≡ c .gradient ⊡ (dt s ⊗ fluidMass s c ⊗ (pressureShare (coefficients s) ps i ⊕ pressureShare (coefficients s) ps (c .target)))
+  fluid-rule : lossOf Fluid s ps t own c
+      ≡ c .gradient ⊡ (dt s ⊗ fluidMass s c ⊗ (pressureShare (coefficients s) ps i ⊕ pressureShare (coefficients s) ps (c .target)))
   unfolding lossOf
   fluid-rule = rw (te, h .share)
 
@@ -68,7 +69,8 @@ module _ {s : Scene} {ps : List Float} {i : ℕ} {own : Own} (h : OwnIs s ps i o
 
 -- ---- both kinds of contacts
 
-over-losses : {b : List ℕ} {κ : Kind} {p : FluidParticle} {list : ContactList} → ContactsAre b κ p list → (s : Scene) (ps : List Float) (t : Float) (own : Own) (a : Vector)
+over-losses : {b : List ℕ} {κ : Kind} {p : FluidParticle} {list : ContactList} → ContactsAre b κ p list
+    → (s : Scene) (ps : List Float) (t : Float) (own : Own) (a : Vector)
     → overList b list (withLoss (list .kind) s ps t own) a ≡ fold (withLoss κ s ps t own) a (contactsOf κ p)
 over-losses {b} {κ} {p} {list} h s ps t own a =
     over-list h (withLoss (list .kind) s ps t own) a ∙ ap (λ k. fold (withLoss k s ps t own) a (contactsOf κ p)) (h .kind)

@@ -79,7 +79,13 @@ fn less_losses(
 }
 
 // The velocity change of fluid particle i, where the shares stand in the rows.
-pub fn final_change_of(scene: &[u8], index: &[usize], work: &[f64], n: usize, i: usize) -> Vec3
+pub(crate) fn final_change_of(
+    scene: &[u8],
+    index: &[usize],
+    work: &[f64],
+    n: usize,
+    i: usize,
+) -> Vec3
     requires { ⌜ Indexed (now scene) (now index) ⌝ }
     requires { ⌜ (n ≡ fluidSize (sceneOf (now scene))) × (i < n) ⌝ }
     requires { ⌜ ChangesReady (sceneOf (now scene)) n (now work) ⌝ }

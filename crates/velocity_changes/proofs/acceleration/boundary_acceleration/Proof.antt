@@ -57,7 +57,7 @@ returns c =
     let v = c .before .before .before in
     let t = v .before .before .before in
     let p = Begin t .pre in
-    acceleration-made (p .1 .1 .1) (p .1 .0) (t .target-of .ensures) _ (v .vector .ensures) (c .scale .ensures)
+    acceleration-made (p .1 .1 .1) (p .1 .0) (t .target-of .ensures) (Begin t .args .own) (v .vector .ensures) (c .scale .ensures)
 
 pub boundary-acceleration-spec : {M : Type 1} → statement M
 boundary-acceleration-spec =

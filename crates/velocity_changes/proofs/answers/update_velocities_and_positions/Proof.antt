@@ -66,7 +66,8 @@ returns c =
     let a = Begin (c .before) .args in
     let s = sceneOf (now (a .scene)) in
     l .inv .2
-    ∙ ap (λ (k : ℕ). stored 7 k 0 (fluidAnswer s (coefficients s) (pressuresIn (a .n) (now (a .work)))) (now (a .answers))) (le-antisymm (l .inv .0) (c .loop-test .left))
+    ∙ ap (λ (k : ℕ). stored 7 k 0 (fluidAnswer s (coefficients s) (pressuresIn (a .n) (now (a .work)))) (now (a .answers)))
+    (le-antisymm (l .inv .0) (c .loop-test .left))
 
 pub update-velocities-and-positions-spec : {M : Type 1} → statement M
 update-velocities-and-positions-spec =

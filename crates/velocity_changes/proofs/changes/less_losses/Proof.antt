@@ -1,5 +1,5 @@
--- `velocity_changes::changes::less_losses` meets its contract. The invariant: the change is what the rule leaves of it after the contacts passed; a turn takes off one more.
--- The measure is the number of contacts left. Assumes nothing.
+-- `velocity_changes::changes::less_losses` meets its contract. The invariant: the change is what the rule leaves of it after the contacts passed; a turn
+-- takes off one more. The measure is the number of contacts left. Assumes nothing.
 use Prim.Native.Nat.{_+_, _*_, _-_, _≤_}
 use mathlib.Core.Path.{_≡_, refl, ap, _∙_}
 use native.Mathlib.Nat.{le-antisymm}

@@ -85,13 +85,18 @@ returns : tie.Need-returns
 returns c =
     let v = c .before .before in
     let t = v .before .before .before in
-    let p = Begin t .pre in
-    fluid-loss _ (p .1 .0) (p .1 .1 .0) (p .1 .1 .1) _ _ (t .before .enum-told .given .1) (t .target-of .ensures) (v .vector .ensures) (c .scale .ensures)
+    let s = Begin t in
+    let p = s .pre in
+    fluid-loss _ (p .1 .0) (p .1 .1 .0) (p .1 .1 .1) (s .args .own) (s .args .dt) (t .before .enum-told .given .1)
+    (t .target-of .ensures)
+    (v .vector .ensures)
+    (c .scale .ensures)
 
 returns-2 : tie.Need-returns-2
 returns-2 c =
     let a = c .before in
-    boundary-loss _ _ _ _ _ (a .before .enum-told2 .given .1) (a .boundary-acceleration .ensures) (c .scale2 .ensures)
+    let s = BeginBoundary (a .before) in
+    boundary-loss _ _ _ (s .args .own) (s .args .dt) (a .before .enum-told2 .given .1) (a .boundary-acceleration .ensures) (c .scale2 .ensures)
 
 pub loss-spec : {M : Type 1} → statement M
 loss-spec =
