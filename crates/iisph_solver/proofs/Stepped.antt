@@ -3,24 +3,29 @@
 use Prim.Native.Nat.{ℕ, _≤_, _<_}
 use mathlib.Core.Path.{_≡_, refl, sym, ap, _∙_}
 use mathlib.Core.List.{List, _++_}
+use native.Mathlib.Omega.{arith}
 use lib.Ieee.{Float}
 use lib.ListN.{length}
 use Rattle.scene.specs.Format.{fluidPlace}
+use Rattle.scene.specs.Scene.{fluidSize}
 use Rattle.scene.specs.SceneOf.{sceneOf, answersNeeded, workNeeded}
 use Rattle.scene.specs.Walk.{checked}
 use Rattle.scene.specs.declared.Refusal.{Refusal}
 use Rattle.scene.specs.declared.Refusal.the-variants.{ShortList}
 use Rattle.scene.specs.declared.Walk.the-variants as walk
 use Rattle.iisph_rules.specs.Answer.{stepAnswer}
-use Rattle.iisph_rules.specs.Step.{reportOf, sceneAnswer}
+use Rattle.iisph_rules.specs.Step.{firstPressures, reportOf, sceneAnswer}
 use Rattle.iisph_rules.specs.declared.Report.{Report}
 use Rattle.iisph_rules.specs.declared.StepAnswer.the-variants.{Done, Refused}
 use Rattle.iisph_rules.proofs.Reports.{answers-done, work-done}
-use Rattle.iisph_solver.specs.Prepare.{prepared, workPrepared, readiness}
+use Rattle.iisph_particles.specs.IterationRows.{IterationReady}
+use Rattle.iisph_solver.specs.Prepare.{workPrepared, readiness}
 use Rattle.iisph_solver.specs.Step.{Steps, Finishes}
+use Rattle.iisph_solver.specs.declared.prepare.Readiness.{Readiness}
 use Rattle.iisph_solver.specs.declared.prepare.Readiness.the-variants as before
 use Rattle.iisph_solver.proofs.Cases.{refused-answer, short-answers, short-work, scene-answer, answers-refused, work-refused, work-short, work-cleared}
-use Rattle.iisph_solver.proofs.Prepared.{refused-step, ready-step}
+use Rattle.iisph_solver.proofs.IterationStart.{iteration-ready}
+use Rattle.iisph_solver.proofs.Prepared.{work-needed, refused-step, ready-step}
 use Rattle.iisph_solver.proofs.Validated.{beyond}
 
 module _ (b : List ℕ) (answers work : List Float) where
@@ -77,3 +82,9 @@ module _ (b : List ℕ) (answers work : List Float) where
               answersThen = f .answersThen ∙ sym (answers-done b (length answers) (length work) a answers);
               workThen = f .workThen ∙ rw (p, beyond b work before.Ready) (sym (work-done b (length answers) (length work) a work));
             }
+
+-- what the iterations find, once the passes before them have refused nothing
+pub prepared-ready : (b : List ℕ) (work : List Float) → workNeeded b ≤ length work → {r : Readiness} {x : List Float} → r ≡ before.Ready → x ≡ workPrepared b r work
+    → IterationReady (sceneOf b) (firstPressures (sceneOf b)) (fluidSize (sceneOf b)) x
+unfolding workPrepared
+prepared-ready b work h e q = rw (q, e) (iteration-ready b work (omega (arith, work-needed b {n = fluidSize (sceneOf b)} refl refl)))

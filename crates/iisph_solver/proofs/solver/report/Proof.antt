@@ -1,10 +1,10 @@
--- `iisph_solver::step::report` meets its contract: the clock is that of the header, advanced. Assumes nothing.
+-- `iisph_solver::solver::report` meets its contract: the clock is that of the header, advanced. Assumes nothing.
 use Rattle.scene.specs.SceneOf.{sceneOf}
 use Rattle.scene.proofs.Accepted.{accepted}
 use Rattle.iisph_solver.proofs.Finished.{report-made}
 use borrow.Author.Needs.{needs}
-use Rattle.iisph_solver.proofs.step.report.Statement.{statement}
-use Rattle.iisph_solver.proofs.step.report.Tie as tie
+use Rattle.iisph_solver.proofs.solver.report.Statement.{statement}
+use Rattle.iisph_solver.proofs.solver.report.Tie as tie
 
 double-requires : tie.Need-double-requires
 double-requires c κs = accepted _ (c .before .pre .0) .fields .header .totalStepSize

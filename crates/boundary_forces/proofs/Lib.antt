@@ -1,0 +1,5 @@
+pub mod Offsets
+pub mod Rows
+pub mod Gathered
+pub mod GivenAnswers
+pub mod Contacts
