@@ -11,3 +11,4 @@ pub mod Iterated
 pub mod Solving
 pub mod Needs
 pub mod Finished
+pub mod TwoSteps
