@@ -26,7 +26,7 @@ use Rattle.worked_examples.specs.Rows.{rows}
 use Rattle.worked_examples.specs.Starred
 use Rattle.worked_examples.specs.Further
 
-evaluation : ℕ
+unfoldable pub evaluation : ℕ
 unfolding zipWith
     Ieee.add Ieee.sub Ieee.mul Ieee.div Ieee.neg Ieee.lt Ieee.le Ieee.eq Ieee.ofInt Ieee.ofBits
     Ieee.toBits Real.magnitude

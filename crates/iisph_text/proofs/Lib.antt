@@ -1,0 +1,11 @@
+pub mod Written
+pub mod Numbers
+pub mod Widths
+pub mod ModelLines
+pub mod Counted
+pub mod Behind
+pub mod Room
+pub mod Texts
+pub mod Done
+pub mod Ran
+pub mod Examples

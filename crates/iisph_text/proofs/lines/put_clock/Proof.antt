@@ -1,0 +1,58 @@
+-- `iisph_text::lines::put_clock` meets its contract: its parts one after the other. Assumes nothing.
+use native.Mathlib.Omega.{arith}
+use Rattle.iisph_text.specs.Text.{clockLine}
+use Rattle.iisph_text.proofs.Written.{_then_}
+use Rattle.iisph_text.proofs.Widths.{length-double, length-clock}
+use borrow.Author.Needs.{needs}
+use Rattle.iisph_text.proofs.lines.put_clock.Statement.{statement}
+use Rattle.iisph_text.proofs.lines.put_clock.Tie as tie
+
+slice-aggregate-put-word : tie.Need-slice-aggregate-put-word
+slice-aggregate-put-word c = search needs
+
+put-word-requires : tie.Need-put-word-requires
+put-word-requires c κs = omega (arith, length-clock (c .before .before .before .args .clock))
+
+put-double-requires : tie.Need-put-double-requires
+put-double-requires c κs = omega (arith, length-clock (c .before .before .before .before .before .before .before .args .clock))
+
+put-double-requires-2 : tie.Need-put-double-requires-2
+put-double-requires-2 c κs =
+    let k = c .before .before .before .before .before .before .before .before .before .before .before .args .clock in
+    omega (arith, length-clock k, length-double (k .dt))
+
+put-double-requires-3 : tie.Need-put-double-requires-3
+put-double-requires-3 c κs =
+    let k = c .before .before .before .before .before .before .before .before .before .before .before .before .before .before .before .args .clock in
+    omega (arith, length-clock k, length-double (k .dt), length-double (k .«inv_dt»))
+
+put-byte-requires : tie.Need-put-byte-requires
+put-byte-requires c κs =
+    let k = c .before .before .before .before .before .before .before .before .before .before .before .before .before .before .before .before .before .before .before .args .clock in
+    omega (arith, length-clock k, length-double (k .dt), length-double (k .«inv_dt»), length-double (k .«remaining_time»))
+
+same-length : tie.Need-same-length
+same-length c = search needs
+
+returns : tie.Need-returns
+unfolding clockLine
+returns c =
+    let w₅ = c .before .before in
+    let w₄ = w₅ .before .before .before .before in
+    let w₃ = w₄ .before .before .before .before in
+    let w₂ = w₃ .before .before .before .before in
+    let w₁ = w₂ .before .before .before .before in
+    w₁ .put-word .ensures then w₂ .put-double .ensures then w₃ .put-double2 .ensures then w₄ .put-double3 .ensures then w₅ .put-byte .ensures
+
+pub put-clock-spec : {M : Type 1} → statement M
+put-clock-spec =
+    tie.close
+    (tie.spec
+    slice-aggregate-put-word
+    put-word-requires
+    put-double-requires
+    put-double-requires-2
+    put-double-requires-3
+    put-byte-requires
+    same-length
+    returns)

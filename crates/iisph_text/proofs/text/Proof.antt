@@ -1,0 +1,33 @@
+-- `iisph_text::text` meets its contract: both lists are long enough. Assumes nothing.
+use Prim.Native.Nat.{ℕ, _≤_}
+use native.Mathlib.Omega.{arith}
+use lib.ListN.{length, replicate, length-replicate}
+use Rattle.math.specs.Real.{+0}
+use Rattle.iisph_text.proofs.Ran.{text-written}
+use borrow.Author.Needs.{needs}
+use Rattle.iisph_text.proofs.text.Statement.{statement}
+use Rattle.iisph_text.proofs.text.Tie as tie
+
+long : (n : ℕ) → n ≤ length (replicate n +0)
+long n = omega (arith, length-replicate n +0)
+
+slice-aggregate-run : tie.Need-slice-aggregate-run
+slice-aggregate-run c = search needs
+
+slice-aggregate-run-2 : tie.Need-slice-aggregate-run-2
+slice-aggregate-run-2 c = search needs
+
+run-requires : tie.Need-run-requires
+run-requires c κs = search needs
+
+same-length : tie.Need-same-length
+same-length c = search needs
+
+returns : tie.Need-returns
+returns c =
+    let r = c .before .before .before .before in
+    text-written (λ i. omega (arith, r .before .before .before .before .before .shared-slice-known .given i)) (long 4096) (long 8192) (r .run .ensures)
+
+pub text-spec : {M : Type 1} → statement M
+text-spec =
+    tie.close (tie.spec slice-aggregate-run slice-aggregate-run-2 run-requires same-length returns)
