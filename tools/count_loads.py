@@ -17,10 +17,11 @@ ARCHIVE = ROOT / "target" / "staticlib" / "libiisph_c.a"
 
 # function: doubles read, single bytes loaded at most
 EXPECTED = {
-    "iisph_solver::coefficients::densities": (7, 3),     # weight, gradient, a boundary particle's velocity
-    "iisph_solver::coefficients::dii": (3, 3),           # gradient
-    "iisph_solver::coefficients::aii": (3, 3),           # gradient
-    "iisph_solver::traverse::traverse": (15, 5),         # volume, rest density, velocity, acceleration, gravity, dt and warm pressure, some of them shared; two counts
+    "iisph_particles::coefficients::densities": (7, 3),      # weight, gradient, a boundary particle's velocity
+    "iisph_particles::coefficients::dii": (3, 3),            # gradient
+    "iisph_particles::coefficients::aii": (3, 3),            # gradient
+    "iisph_particles::iteration::pressure_sum": (3, 3),      # gradient
+    "velocity_changes::changes::less_losses": (6, 4),        # gradient, in the branch of each kind
 }
 
 

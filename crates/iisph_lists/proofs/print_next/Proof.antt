@@ -1,12 +1,12 @@
--- `iisph_cases::print_next` is safe: a scene's length is at most that of the buffer. Assumes nothing.
+-- `iisph_lists::print_next` is safe: a scene's length is at most that of the buffer. Assumes nothing.
 use Prim.Native.Nat.{ℕ, _≤_}
 use mathlib.Core.Path.{_≡_, sym}
 use native.Mathlib.Omega.{arith}
 use lib.ListN.{length, take, replicate, length-replicate}
 use lib.Seq.{length-take-le}
 use borrow.Author.Needs.{needs}
-use Rattle.iisph_cases.proofs.print_next.Statement.{statement}
-use Rattle.iisph_cases.proofs.print_next.Tie as tie
+use Rattle.iisph_lists.proofs.print_next.Statement.{statement}
+use Rattle.iisph_lists.proofs.print_next.Tie as tie
 
 front : (n m : ℕ) → n ≤ m → n ≡ length (take n (replicate {A = ℕ} m 0))
 front n m h = sym (length-take-le n (replicate m 0) (omega (arith, length-replicate {A = ℕ} m 0)))

@@ -1,4 +1,4 @@
--- `iisph_cases::print_text` meets its contract: the buffer has room for every text. Assumes nothing.
+-- `iisph_lists::print_text` meets its contract: the buffer has room for every text. Assumes nothing.
 use Prim.Native.Nat.{ℕ, _≤_}
 use mathlib.Core.Path.{sym}
 use native.Mathlib.Omega.{arith}
@@ -7,8 +7,8 @@ use lib.ListN.{length, replicate, length-replicate}
 use lib.Seq.{length-take-le}
 use Rattle.iisph_text.proofs.Ran.{text-in-front}
 use borrow.Author.Needs.{needs}
-use Rattle.iisph_cases.proofs.print_text.Statement.{statement}
-use Rattle.iisph_cases.proofs.print_text.Tie as tie
+use Rattle.iisph_lists.proofs.print_text.Statement.{statement}
+use Rattle.iisph_lists.proofs.print_text.Tie as tie
 
 long : (n : ℕ) → n ≤ length (replicate {A = ℕ} n 0)
 long n = omega (arith, length-replicate {A = ℕ} n 0)

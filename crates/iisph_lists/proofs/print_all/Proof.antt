@@ -1,8 +1,8 @@
--- `iisph_cases::print_all` meets its contract: the count stays at most 65,536, and what is left falls. Assumes nothing.
+-- `iisph_lists::print_all` meets its contract: the count stays at most 65,536, and what is left falls. Assumes nothing.
 use Prim.Native.Nat.{_≤_, _-_}
 use borrow.Author.Needs.{needs}
-use Rattle.iisph_cases.proofs.print_all.Statement.{statement}
-use Rattle.iisph_cases.proofs.print_all.Tie as tie
+use Rattle.iisph_lists.proofs.print_all.Statement.{statement}
+use Rattle.iisph_lists.proofs.print_all.Tie as tie
 
 abbrev Inv-loop : tie.InvT-loop
 Inv-loop fd scenes₀ scenes = scenes ≤ 65536
