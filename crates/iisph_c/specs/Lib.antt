@@ -1,1 +1,4 @@
 pub mod Numbers
+pub mod Step
+pub mod Needs
+pub mod Kernel

@@ -1,6 +1,55 @@
 // The C interface (include/iisph.h). A slice is a pointer and a length.
+mod write;
+
+use crate::write::write_kernel;
+use crate::write::write_lengths;
+use crate::write::write_refusal;
+use crate::write::write_report;
+use iisph_rules::StepAnswer;
+use iisph_solver::Needs;
 use iisph_solver::Readiness;
+ghost use Rattle.cubic_spline.specs.Shape.{weight, slope};
 ghost use Rattle.iisph_c.specs.Numbers.{ValidatesTo};
+ghost use Rattle.iisph_c.specs.Step.{StepsTo};
+ghost use Rattle.iisph_c.specs.Needs.{NeedsTo};
+ghost use Rattle.iisph_c.specs.Kernel.{KernelTo};
+
+// One step: 0 unswept, 1 settled, 2 ran out, 100 + n for refusal n, 99 where `numbers` or `counts` is too short. Takes up to 1 MiB of stack.
+#[no_mangle]
+pub extern "C" fn iisph_step(
+    scene: &[u8],
+    answers: &mut [f64],
+    work: &mut [f64],
+    numbers: &mut [f64],
+    counts: &mut [u64],
+) -> u64
+    ensures { λ r. ⌜ StepsTo (now (scene .entry)) (now (answers .entry)) (now (work .entry)) (now (numbers .entry)) (now (counts .entry)) r (now (answers .exit)) (now (work .exit)) (now (numbers .exit)) (now (counts .exit)) ⌝ }
+{
+    if numbers.len() < 4 {
+        return 99;
+    }
+    if counts.len() < 2 {
+        return 99;
+    }
+    match iisph_solver::step(scene, answers, work) {
+        StepAnswer::Done(report) => write_report(report, numbers, counts),
+        StepAnswer::Refused(refusal) => write_refusal(refusal, counts),
+    }
+}
+
+// The lengths that the answer and the work list of a step must have, or refusals 1 to 7.
+#[no_mangle]
+pub extern "C" fn iisph_needed(scene: &[u8], counts: &mut [u64]) -> u64
+    ensures { λ r. ⌜ NeedsTo (now (scene .entry)) (now (counts .entry)) r (now (counts .exit)) ⌝ }
+{
+    if counts.len() < 2 {
+        return 99;
+    }
+    match iisph_solver::lengths_needed(scene) {
+        Needs::Lists(lengths) => write_lengths(lengths, counts),
+        Needs::Refused(refusal) => write_refusal(refusal, counts),
+    }
+}
 
 // The number of the refusal that a step with a long enough answer list would give, 0 if none. Takes up to 1 MiB of stack.
 #[no_mangle]
@@ -11,4 +60,20 @@ pub extern "C" fn iisph_validate(scene: &[u8], work: &mut [f64]) -> usize
         Readiness::Ready => 0,
         Readiness::Refused(refusal) => scene::number(refusal),
     }
+}
+
+// The kernel at the distance r, with the radius h.
+#[no_mangle]
+pub extern "C" fn iisph_weight(r: f64, h: f64, out: &mut [f64]) -> u64
+    ensures { λ n. ⌜ KernelTo r h (weight r h) (now (out .entry)) n (now (out .exit)) ⌝ }
+{
+    write_kernel(cubic_spline::scalar_apply(r, h), out)
+}
+
+// The kernel's derivative there.
+#[no_mangle]
+pub extern "C" fn iisph_slope(r: f64, h: f64, out: &mut [f64]) -> u64
+    ensures { λ n. ⌜ KernelTo r h (slope r h) (now (out .entry)) n (now (out .exit)) ⌝ }
+{
+    write_kernel(cubic_spline::scalar_apply_diff(r, h), out)
 }

@@ -13,11 +13,17 @@ use Rattle.scene.specs.Accepted.{Bytes}
 use Rattle.scene.specs.Format.{axes, boundariesOf, Kind, boundaryKind, keepsAt, trail, modelPlaces, headsFrom, Place, joined, boundariesStart, boundaryPlaces}
 use Rattle.scene.specs.Layout.{modelsOf, layoutOf}
 use Rattle.scene.specs.Scene.{fluidSize, boundarySize}
-use Rattle.scene.specs.SceneOf.{sizeSum, sceneOf, answersNeeded}
+use Rattle.scene.specs.SceneOf.{sizeSum, sceneOf, answersNeeded, workNeeded}
 use Rattle.scene.specs.declared.Layout.{Layout}
 use Rattle.scene.proofs.Filled.{padded-at}
 use Rattle.scene.proofs.Numbering.{length-trail, getD-map}
-use Rattle.scene.proofs.Places.{fluid-size}
+use Rattle.scene.proofs.Places.{fluid-size, boundary-size}
+use Rattle.scene.specs.Walk.{checked}
+use Rattle.scene.specs.declared.Refusal.{Refusal}
+use Rattle.scene.specs.declared.Walk.the-variants as walk
+use Rattle.iisph_solver.specs.Needs.{layoutLengths, lengthsOf, needsAfter, needsOf}
+use Rattle.iisph_solver.specs.declared.needed.Lengths.{Lengths}
+use Rattle.iisph_solver.specs.declared.needed.Needs.the-variants.{Lists, Refused}
 use Rattle.iisph_solver.specs.Needed.{boundaryAnswersNeeded, layoutAnswersNeeded, Few}
 
 -- ---- a loop over the boundaries
@@ -126,3 +132,17 @@ module _ (b : List ℕ) where
     pub layout-needs : layout .fluids .total ≡ fluidSize (sceneOf b) → layoutAnswersNeeded layout ≡ answersNeeded b
     unfolding answersNeeded layoutAnswersNeeded
     layout-needs size = omega (arith, size, fluid-size b, boundaries-needed)
+
+-- ---- what is said of a scene, by its check
+
+module _ (b : List ℕ) where
+  pub refused-needs : {r : Refusal} → checked b ≡ walk.Refused r → Refused r ≡ needsOf b
+  unfolding needsOf needsAfter
+  refused-needs q = rw q
+
+  pub accepted-needs : {e : ℕ} {layout : Layout} {l : Lengths} → checked b ≡ walk.At e → layout ≡ layoutOf b → layout .fluids .total ≡ fluidSize (sceneOf b)
+      → layout .boundaries .total ≡ boundarySize (sceneOf b) → l ≡ layoutLengths layout → Lists l ≡ needsOf b
+  unfolding needsOf needsAfter layoutLengths lengthsOf workNeeded
+  accepted-needs {layout = layout} q is fluids boundaries h =
+      let work : (5 + 3 * axes) * layout .fluids .total + layout .boundaries .total ≡ workNeeded b = omega (arith, fluids, boundaries, fluid-size b, boundary-size b) in
+      rw (q, h, layout-needs b is fluids, work)

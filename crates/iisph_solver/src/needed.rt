@@ -1,8 +1,23 @@
-// How many doubles the answer list must have.
+// How many doubles a step's two lists must have.
 use scene::Layout;
+use scene::Refusal;
+use scene::Verdict;
 ghost use mathlib.Core.Path.{_≡_};
 ghost use Prim.Native.Nat.{_≤_};
 ghost use Rattle.iisph_solver.specs.Needed.{boundaryAnswersNeeded, layoutAnswersNeeded, Few};
+ghost use Rattle.iisph_solver.specs.Needs.{layoutLengths, needsOf};
+
+// The length of each list.
+pub struct Lengths {
+    pub answers: usize,
+    pub work: usize,
+}
+
+// What a step on a scene needs, or why the scene is turned down: refusals 1 to 7.
+pub enum Needs {
+    Lists(Lengths),
+    Refused(Refusal),
+}
 
 // Of each boundary particle its volume and, if kept, its force.
 fn boundary_answers_needed(counts: [usize; 16], keeps: [usize; 16], number: usize) -> usize
@@ -28,4 +43,29 @@ pub fn answers_needed(layout: Layout) -> usize
     let keeps = boundaries.keeps;
     let behind = boundary_answers_needed(counts, keeps, boundaries.number);
     7 * layout.fluids.total + behind
+}
+
+// Of both lists, as a layout says.
+fn layout_lengths(layout: Layout) -> Lengths
+    requires { ⌜ (layout .fluids .total ≤ 32768) × (layout .boundaries .total ≤ 32768) ⌝ }
+    requires { ⌜ Few (layout .boundaries .counts) (layout .boundaries .keeps) (layout .boundaries .number) ⌝ }
+    ensures { λ r. ⌜ r ≡ layoutLengths layout ⌝ }
+{
+    Lengths {
+        answers: answers_needed(layout),
+        work: 14 * layout.fluids.total + layout.boundaries.total,
+    }
+}
+
+// The lengths that the answer list and the work list of a step must have at least.
+pub fn lengths_needed(scene: &[u8]) -> Needs
+    ensures { λ r. ⌜ r ≡ needsOf (now (scene .entry)) ⌝ }
+{
+    let found = scene::check(scene);
+    let verdict = found.verdict;
+    let layout = found.layout;
+    match verdict {
+        Verdict::Refused(refusal) => Needs::Refused(refusal),
+        Verdict::Accepted => Needs::Lists(layout_lengths(layout)),
+    }
 }

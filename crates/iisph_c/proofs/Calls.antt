@@ -1,0 +1,143 @@
+-- What the C interface's calls come to, case by case: lists that are too short, done, or refused. Each case unfolds the call's definitions once. Assumes nothing.
+use Prim.Native.Nat.{ℕ, _+_, _<_, _≤_}
+use mathlib.Core.Path.{_≡_, refl, sym, ap, _∙_}
+use mathlib.Core.Bool.{true, false}
+use mathlib.Core.List.{List, [], _∷_}
+use native.Mathlib.Omega.{arith}
+use lib.Ieee.{Float}
+use lib.ListN.{length, set}
+use lib.Seq.{sets}
+use borrow.Author.Tests.{le-leb, lt-leb}
+use Rattle.math.specs.Lists.{choose}
+use Rattle.cubic_spline.specs.declared.KernelAnswer.{KernelAnswer}
+use Rattle.cubic_spline.specs.declared.KernelAnswer.the-variants as kernel
+use Rattle.cubic_spline.specs.declared.KernelRefusal.{KernelRefusal}
+use Rattle.scene.specs.Walk.{numberOf, placeOf, checked}
+use Rattle.scene.specs.declared.Refusal.{Refusal}
+use Rattle.scene.specs.declared.Refusal.the-variants as refusal
+use Rattle.scene.specs.declared.Walk.{Walk}
+use Rattle.scene.specs.declared.Walk.the-variants as walk
+use Rattle.iisph_rules.specs.Answer.{stepAnswer}
+use Rattle.iisph_rules.specs.declared.Report.{Report}
+use Rattle.iisph_rules.specs.declared.StepAnswer.{StepAnswer}
+use Rattle.iisph_rules.specs.declared.StepAnswer.the-variants.{Done, Refused}
+use Rattle.iisph_solver.specs.Needs.{lengthsOf, needsAfter, needsOf}
+use Rattle.iisph_solver.specs.Step.{Steps}
+use Rattle.iisph_solver.specs.declared.needed.Lengths.{Lengths}
+use Rattle.iisph_solver.specs.declared.needed.Needs.{Needs}
+use Rattle.iisph_solver.specs.declared.needed.Needs.the-variants as needs
+use Rattle.iisph_c.specs.Kernel.{refusalCode, kernelCode, valueAfter, Gives}
+use Rattle.iisph_c.specs.Needs.{needsCode, lengthsAfter, NeedsTo}
+use Rattle.iisph_c.specs.Step.{endingCode, reportNumbers, stepCode, numbersAfter, countsAfter, hasRoom, StepsTo}
+
+-- a refusal's number is small
+pub number-few : (r : Refusal) → numberOf r ≤ 10
+number-few (refusal.Missing at) = omega arith
+number-few (refusal.Form at) = omega arith
+number-few (refusal.Models at) = omega arith
+number-few (refusal.Count at) = omega arith
+number-few (refusal.Trailing at) = omega arith
+number-few (refusal.NotFinite at) = omega arith
+number-few (refusal.NotThere at) = omega arith
+number-few refusal.ShortList = omega arith
+number-few (refusal.ZeroDensity at) = omega arith
+number-few (refusal.ZeroPredictedDensity at) = omega arith
+
+-- ---- the step
+
+module _ (b : List ℕ) (answers work numbers : List Float) (counts : List ℕ) where
+  -- 99
+  unchanged : hasRoom numbers counts ≡ false → StepsTo b answers work numbers counts 99 answers work numbers counts
+  unfolding choose
+  unchanged h = record { result = rw h; answersThen = rw h; workThen = rw h; numbersThen = rw h; countsThen = rw h }
+
+  pub numbers-short : length numbers < 4 → StepsTo b answers work numbers counts 99 answers work numbers counts
+  unfolding hasRoom
+  numbers-short h = unchanged (rw (lt-leb 4 (length numbers) h))
+
+  pub counts-short : 4 ≤ length numbers → length counts < 2 → StepsTo b answers work numbers counts 99 answers work numbers counts
+  unfolding hasRoom
+  counts-short l h = unchanged (rw (le-leb 4 (length numbers) l, lt-leb 2 (length counts) h))
+
+  module _ (l : 4 ≤ length numbers) (m : 2 ≤ length counts) where
+    room : hasRoom numbers counts ≡ true
+    unfolding hasRoom
+    room = rw (le-leb 4 (length numbers) l, le-leb 2 (length counts) m)
+
+    module _ {a : StepAnswer} {answers′ work′ : List Float} (s : Steps b answers work a answers′ work′) {n : ℕ} {counts′ : List ℕ} where
+      -- 0, 1, 2
+      pub done-to : {r : Report} {numbers′ : List Float} → a ≡ Done r → n ≡ endingCode (r .ending) → numbers′ ≡ sets numbers 0 (reportNumbers r) → counts′ ≡ set counts 0 (r .iterations)
+          → StepsTo b answers work numbers counts n answers′ work′ numbers′ counts′
+      unfolding choose stepCode numbersAfter countsAfter
+      done-to {r} q e f g =
+          let t : stepAnswer b (length answers) (length work) ≡ Done r = sym (s .answer) ∙ q in
+          record { result = rw (room, t) e; answersThen = rw room (s .answersThen); workThen = rw room (s .workThen); numbersThen = rw (room, t) f; countsThen = rw (room, t) g }
+
+      -- 100 + n
+      pub refused-to : {r : Refusal} → a ≡ Refused r → n ≡ 100 + numberOf r → counts′ ≡ set counts 1 (placeOf r) → StepsTo b answers work numbers counts n answers′ work′ numbers counts′
+      unfolding choose stepCode numbersAfter countsAfter
+      refused-to {r} q e g =
+          let t : stepAnswer b (length answers) (length work) ≡ Refused r = sym (s .answer) ∙ q in
+          record { result = rw (room, t) e; answersThen = rw room (s .answersThen); workThen = rw room (s .workThen); numbersThen = rw (room, t); countsThen = rw (room, t) g }
+
+-- ---- what a step needs
+
+-- the check, from what is said of a scene
+module _ (b : List ℕ) where
+  refused-check : {r : Refusal} → needs.Refused r ≡ needsOf b → checked b ≡ walk.Refused r
+  unfolding needsOf needsAfter
+  refused-check q = go (checked b) q
+    where
+      go : {r : Refusal} (w : Walk) → needs.Refused r ≡ needsAfter b w → w ≡ walk.Refused r
+      go (walk.At e) p = let z : _≡_ {A = ℕ} 0 1 = cc in absurd (omega arith)
+      go (walk.Refused r) p = cc
+
+  -- of an accepted scene: where its check ended, and the lengths
+  record Told (l : Lengths) : Type 0 where
+    pub end : ℕ
+    pub ended : checked b ≡ walk.At end
+    pub lengths : l ≡ lengthsOf b
+
+  lists-check : {l : Lengths} → needs.Lists l ≡ needsOf b → Told l
+  unfolding needsOf needsAfter
+  lists-check {l} q = go (checked b) refl q
+    where
+      go : (w : Walk) → checked b ≡ w → needs.Lists l ≡ needsAfter b w → Told l
+      go (walk.At e) t p = record { end = e; ended = t; lengths = cc }
+      go (walk.Refused r) t p = let z : _≡_ {A = ℕ} 0 1 = cc in absurd (omega arith)
+
+  module _ (counts : List ℕ) where
+    pub needs-short : length counts < 2 → NeedsTo b counts 99 counts
+    unfolding choose
+    needs-short h = let f = lt-leb 2 (length counts) h in record { result = rw f; countsThen = rw f }
+
+    module _ (m : 2 ≤ length counts) {s : Needs} (is : s ≡ needsOf b) {n : ℕ} {counts′ : List ℕ} where
+      pub needs-refused : {r : Refusal} → s ≡ needs.Refused r → n ≡ 100 + numberOf r → counts′ ≡ set counts 1 (placeOf r) → NeedsTo b counts n counts′
+      unfolding choose needsCode lengthsAfter
+      needs-refused q e g =
+          let t = le-leb 2 (length counts) m in
+          let w = refused-check (sym q ∙ is) in
+          record { result = rw (t, w) e; countsThen = rw (t, w) g }
+
+      pub needs-lists : {l : Lengths} → s ≡ needs.Lists l → n ≡ 0 → counts′ ≡ sets counts 0 (l .answers ∷ l .work ∷ []) → NeedsTo b counts n counts′
+      unfolding choose needsCode lengthsAfter lengthsOf
+      needs-lists q e g =
+          let t = le-leb 2 (length counts) m in
+          let w = lists-check (sym q ∙ is) in
+          record { result = rw (t, w .ended) e; countsThen = rw (t, w .ended) (g ∙ ap (λ (l : Lengths). sets counts 0 (l .answers ∷ l .work ∷ [])) (w .lengths)) }
+
+-- ---- the kernel
+
+module _ (a : KernelAnswer) (out : List Float) where
+  pub out-empty : length out < 1 → Gives a out 99 out
+  unfolding choose
+  out-empty h = let f = lt-leb 1 (length out) h in record { result = rw f; outThen = rw f }
+
+  module _ (l : 1 ≤ length out) where
+    pub value-given : {x : Float} {out′ : List Float} → a ≡ kernel.Value x → out′ ≡ set out 0 x → Gives a out 0 out′
+    unfolding choose kernelCode valueAfter
+    value-given q g = let t = le-leb 1 (length out) l in record { result = rw (t, q); outThen = rw (t, q) g }
+
+    pub refusal-given : {k : KernelRefusal} {n : ℕ} → a ≡ kernel.Refused k → n ≡ refusalCode k → Gives a out n out
+    unfolding choose kernelCode valueAfter
+    refusal-given q e = let t = le-leb 1 (length out) l in record { result = rw (t, q) e; outThen = rw (t, q) }

@@ -1,0 +1,46 @@
+-- `iisph_c::write::write_kernel` meets its contract: by the list's length and the kernel's answer. Assumes nothing.
+use mathlib.Core.Path.{refl}
+use native.Mathlib.Omega.{arith}
+use borrow.Author.Needs.{needs}
+use Rattle.iisph_c.proofs.Calls.{out-empty, value-given, refusal-given}
+use Rattle.iisph_c.proofs.write.write_kernel.Statement.{statement}
+use Rattle.iisph_c.proofs.write.write_kernel.Tie as tie
+
+returns : tie.Need-returns
+returns c = out-empty _ _ (c .if1 .taken)
+
+enum-known-answer : tie.Need-enum-known-answer
+enum-known-answer c = search needs
+
+slice-write-out : tie.Need-slice-write-out
+slice-write-out c = search needs
+
+enum-known-answer-2 : tie.Need-enum-known-answer-2
+enum-known-answer-2 c = search needs
+
+refusal-code-requires : tie.Need-refusal-code-requires
+refusal-code-requires c κs = search needs
+
+same-length : tie.Need-same-length
+same-length c = search needs
+
+returns-2 : tie.Need-returns-2
+returns-2 c = value-given _ _ (omega (arith, c .before .before .before .if1 .left)) (c .before .answer .given .1) refl
+
+returns-3 : tie.Need-returns-3
+returns-3 c =
+    let t = c .before .before in
+    refusal-given _ _ (omega (arith, t .before .before .if1 .left)) (t .answer2 .given .1) (c .refusal-code .ensures)
+
+pub write-kernel-spec : {M : Type 1} → statement M
+write-kernel-spec =
+    tie.close
+    (tie.spec
+    returns
+    enum-known-answer
+    slice-write-out
+    enum-known-answer-2
+    refusal-code-requires
+    same-length
+    returns-2
+    returns-3)

@@ -1,0 +1,31 @@
+-- `iisph_c::write::write_refusal` meets its contract: one store; a refusal's number is small. Assumes nothing.
+use Prim.Native.Nat.{ℕ, _+_, _≤_}
+use mathlib.Core.Path.{ap}
+use native.Mathlib.Omega.{arith}
+use borrow.Author.Needs.{needs}
+use Rattle.iisph_c.proofs.Calls.{number-few}
+use Rattle.iisph_c.proofs.write.write_refusal.Statement.{statement}
+use Rattle.iisph_c.proofs.write.write_refusal.Tie as tie
+
+place-requires : tie.Need-place-requires
+place-requires c κs = search needs
+
+slice-write-counts : tie.Need-slice-write-counts
+slice-write-counts c = search needs
+
+number-requires : tie.Need-number-requires
+number-requires c κs = search needs
+
+add-result : tie.Need-add-result
+add-result c = let few : c .number .result ≤ 10 = omega (arith, c .number .ensures, number-few (c .before .before .before .args .refusal)) in omega (arith, few)
+
+same-length : tie.Need-same-length
+same-length c = search needs
+
+returns : tie.Need-returns
+returns c = (ap (λ (n : ℕ). 100 + n) (c .number .ensures), rw (c .before .place .ensures))
+
+pub write-refusal-spec : {M : Type 1} → statement M
+write-refusal-spec =
+    tie.close
+    (tie.spec place-requires slice-write-counts number-requires add-result same-length returns)
