@@ -1,0 +1,34 @@
+/* For each line of standard input with a distance and a radius, 16 hex digits each: weight and slope, or the refusal. tools/compare.py holds it against the Rust:
+     gcc -O2 -Wall -Wextra -Iinclude bindings/c/kernel_pairs.c target/staticlib/libiisph_c.a -o target/kernel_pairs
+     tools/compare.py --kernel 10000 --subject target/kernel_pairs */
+#include "iisph.h"
+#include <inttypes.h>
+#include <math.h>
+#include <stdio.h>
+#include <string.h>
+
+/* every not-a-number alike */
+static uint64_t bits(double x) {
+    uint64_t b;
+    memcpy(&b, &x, 8);
+    return isnan(x) ? UINT64_C(0x7FF8000000000000) : b;
+}
+
+int main(void) {
+    uint64_t distance, radius;
+    while (scanf("%16" SCNx64 " %16" SCNx64, &distance, &radius) == 2) {
+        double r, h, weight, slope;
+        memcpy(&r, &distance, 8);
+        memcpy(&h, &radius, 8);
+        uint64_t answer = iisph_weight(r, h, &weight, 1);
+        if (answer != iisph_slope(r, h, &slope, 1)) {
+            fprintf(stderr, "weight and slope are not refused alike\n");
+            return 1;
+        }
+        if (answer != 0)
+            printf("refused %" PRIu64 "\n", answer - 100);
+        else
+            printf("%016" PRIX64 " %016" PRIX64 "\n", bits(weight), bits(slope));
+    }
+    return 0;
+}
