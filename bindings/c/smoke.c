@@ -1,0 +1,73 @@
+/* Each function once through the archive, on document 01's scene A. Prints `ok`, or the line of the first difference.
+     gcc -O2 -Wall -Wextra -Iinclude bindings/c/smoke.c target/staticlib/libiisph_c.a -o target/smoke && target/smoke */
+#include "iisph.h"
+#include <math.h>
+#include <stdio.h>
+#include <string.h>
+
+static uint8_t scene[512];
+static size_t len;
+
+static void byte(unsigned v) { scene[len++] = (uint8_t)v; }
+
+static void real(double v) {
+    uint64_t bits;
+    memcpy(&bits, &v, 8);
+    for (int k = 56; k >= 0; k -= 8) byte((unsigned)(bits >> k) & 255);
+}
+
+static void scene_a(void) {
+    len = 0;
+    byte(0x11); byte(0); byte(1); byte(50);
+    real(0.5); real(1); real(0.05); real(0); real(0); real(-4);
+    byte(0); byte(1); real(2);
+    for (int k = 0; k < 9; k++) real(0);
+    real(0.5); real(0); byte(1); byte(0);
+    byte(0); byte(0); real(2); real(0); real(0); real(0);
+}
+
+#define SAME(x) do { if (!(x)) { printf("%s:%d: %s\n", __FILE__, __LINE__, #x); return 1; } } while (0)
+
+int main(void) {
+    double answers[8], work[15], numbers[5], out[2] = {7, 7};
+    uint64_t counts[3] = {7, 7, 7};
+    for (int k = 0; k < 15; k++) work[k] = 7;
+    for (int k = 0; k < 8; k++) answers[k] = 7;
+    for (int k = 0; k < 5; k++) numbers[k] = 7;
+    scene_a();
+
+    /* too short: nothing is written */
+    SAME(iisph_step(scene, len, answers, 8, work, 15, numbers, 3, counts, 3) == 99);
+    SAME(iisph_step(scene, len, answers, 8, work, 15, numbers, 5, counts, 1) == 99);
+    SAME(iisph_needed(scene, len, counts, 1) == 99);
+    SAME(iisph_weight(0.5, 1, out, 0) == 99 && iisph_slope(0.5, 1, NULL, 0) == 99);
+    SAME(answers[0] == 7 && work[0] == 7 && numbers[0] == 7 && counts[0] == 7 && counts[1] == 7 && out[0] == 7);
+
+    /* refused: 8, then 1 */
+    SAME(iisph_step(scene, len, answers, 6, work, 15, numbers, 5, counts, 3) == 108);
+    SAME(counts[0] == 7 && counts[1] == 0 && answers[0] == 7 && work[0] == 7 && numbers[0] == 7);
+    SAME(iisph_step(scene, 51, NULL, 0, NULL, 0, numbers, 5, counts, 3) == 101 && counts[1] == 44);
+    SAME(iisph_step(NULL, 0, NULL, 0, NULL, 0, numbers, 5, counts, 3) == 101 && counts[1] == 0);
+    SAME(iisph_needed(scene, 51, counts, 3) == 101 && counts[0] == 7 && counts[1] == 44);
+
+    /* done */
+    SAME(iisph_needed(scene, len, counts, 3) == 0 && counts[0] == 7 && counts[1] == 14 && counts[2] == 7);
+    SAME(iisph_validate(scene, len, work, 15) == 0 && work[0] == 0 && work[14] == 7);
+    SAME(iisph_step(scene, len, answers, 8, work, 15, numbers, 5, counts, 3) == 1);
+    static const double expected[8] = {0, 0, -1, 0, 0, -2, 0, 7};
+    SAME(memcmp(answers, expected, sizeof expected) == 0);
+    static const double expected_numbers[5] = {0, 0.5, 2, 0.5, 7};
+    SAME(memcmp(numbers, expected_numbers, sizeof expected_numbers) == 0);
+    SAME(counts[0] == 2 && counts[1] == 14 && counts[2] == 7);
+    for (int k = 0; k < 14; k++) SAME(work[k] == 0 && !signbit(work[k]));
+    SAME(work[14] == 7);
+
+    /* the kernel: the shapes at 0.5 are 0.25 and -1.5 */
+    const double normalizer = 8 / 3.141592653589793;
+    SAME(iisph_weight(0.5, 1, out, 2) == 0 && out[0] == normalizer * 0.25 && out[1] == 7);
+    SAME(iisph_slope(0.5, 1, out, 2) == 0 && out[0] == normalizer * -1.5);
+    SAME(iisph_weight(-1, 0, out, 2) == 111 && iisph_slope(1, 0, out, 2) == 112 && out[0] == normalizer * -1.5);
+    SAME(iisph_weight(-0.0, 1, out, 2) == 0 && out[0] == normalizer);
+    puts("ok");
+    return 0;
+}

@@ -1,0 +1,245 @@
+//! One IISPH pressure step over a packed scene, and its smoothing kernel: a safe interface to `libiisph_c.a`, whose functions are proved to meet their contracts
+//! for all arguments. `include/iisph.h` has the format of a packed scene and of the lists.
+//!
+//! ```
+//! # fn example(scene: &[u8]) -> Result<(), iisph::Refusal> {
+//! let lengths = iisph::needed(scene)?;
+//! let mut answers = vec![0.0; lengths.answers];
+//! let mut work = vec![0.0; lengths.work];
+//! let report = iisph::step(scene, &mut answers, &mut work)?;
+//! println!("{} iterations, {:?}", report.iterations, report.ending);
+//! # Ok(())
+//! # }
+//! ```
+//!
+//! [`step`] takes up to 1 MiB of stack: give a thread of your own at least 2 MiB, the standard library's default.
+#![warn(missing_docs)]
+
+use std::error::Error;
+use std::fmt;
+
+mod c {
+    extern "C" {
+        #[allow(clippy::too_many_arguments)]
+        pub fn iisph_step(
+            scene: *const u8,
+            scene_len: usize,
+            answers: *mut f64,
+            answers_len: usize,
+            work: *mut f64,
+            work_len: usize,
+            numbers: *mut f64,
+            numbers_len: usize,
+            counts: *mut u64,
+            counts_len: usize,
+        ) -> u64;
+        pub fn iisph_needed(scene: *const u8, scene_len: usize, counts: *mut u64, counts_len: usize) -> u64;
+        pub fn iisph_weight(r: f64, h: f64, out: *mut f64, out_len: usize) -> u64;
+        pub fn iisph_slope(r: f64, h: f64, out: *mut f64, out_len: usize) -> u64;
+    }
+}
+
+/// Why a packed scene is turned down. The variants stand in the order of their numbers, 1 to 10.
+#[derive(Clone, Copy, Debug, PartialEq, Eq, Hash)]
+pub enum Reason {
+    /// A field is not wholly there.
+    Missing = 1,
+    /// The version is not 1, or the four zero bits are not zero.
+    Form,
+    /// More than 8 fluids or boundaries.
+    Models,
+    /// A count above 4,096.
+    Count,
+    /// Bytes follow the last record.
+    Trailing,
+    /// A double is infinite or not a number.
+    NotFinite,
+    /// A contact names a model or a particle that is not there.
+    NotThere,
+    /// The answer or the work list is shorter than needed.
+    ShortList,
+    /// A density is zero.
+    ZeroDensity,
+    /// A predicted density is zero.
+    ZeroPredictedDensity,
+}
+
+impl Reason {
+    const ALL: [Reason; 10] = [
+        Reason::Missing,
+        Reason::Form,
+        Reason::Models,
+        Reason::Count,
+        Reason::Trailing,
+        Reason::NotFinite,
+        Reason::NotThere,
+        Reason::ShortList,
+        Reason::ZeroDensity,
+        Reason::ZeroPredictedDensity,
+    ];
+
+    /// Its number, 1 to 10.
+    pub fn number(self) -> u8 {
+        self as u8
+    }
+
+    fn text(self) -> &'static str {
+        match self {
+            Reason::Missing => "a field is not wholly there",
+            Reason::Form => "the version is not 1, or the four zero bits are not zero",
+            Reason::Models => "more than 8 fluids or boundaries",
+            Reason::Count => "a count above 4096",
+            Reason::Trailing => "bytes follow the last record",
+            Reason::NotFinite => "a double is infinite or not a number",
+            Reason::NotThere => "a contact names a model or a particle that is not there",
+            Reason::ShortList => "the answer or the work list is shorter than needed",
+            Reason::ZeroDensity => "a density is zero",
+            Reason::ZeroPredictedDensity => "a predicted density is zero",
+        }
+    }
+}
+
+/// A scene that is turned down, with the offset of the byte where the field, contact or record begins (0 for a short list).
+#[derive(Clone, Copy, Debug, PartialEq, Eq, Hash)]
+pub struct Refusal {
+    /// Why.
+    pub reason: Reason,
+    /// Where.
+    pub offset: u64,
+}
+
+impl fmt::Display for Refusal {
+    fn fmt(&self, f: &mut fmt::Formatter<'_>) -> fmt::Result {
+        write!(f, "refused {} at byte {}: {}", self.reason.number(), self.offset, self.reason.text())
+    }
+}
+
+impl Error for Refusal {}
+
+/// The lengths that the lists of a step must have at least.
+#[derive(Clone, Copy, Debug, PartialEq, Eq, Hash)]
+pub struct Lengths {
+    /// Of the answer list.
+    pub answers: usize,
+    /// Of the work list.
+    pub work: usize,
+}
+
+/// How the iterations ended, with the last iteration's error.
+#[derive(Clone, Copy, Debug, PartialEq)]
+pub enum Ending {
+    /// There were none.
+    Unswept,
+    /// The last one met the stopping test.
+    Settled(f64),
+    /// The last one did not.
+    RanOut(f64),
+}
+
+/// What a step reports beside its answers.
+#[derive(Clone, Copy, Debug, PartialEq)]
+pub struct Report {
+    /// How the iterations ended.
+    pub ending: Ending,
+    /// How many were carried out.
+    pub iterations: u64,
+    /// The step's length.
+    pub dt: f64,
+    /// 1 / dt, or 0 for a zero.
+    pub inv_dt: f64,
+    /// The remaining time after the step.
+    pub remaining_time: f64,
+}
+
+/// The kernel's argument that is turned down.
+#[derive(Clone, Copy, Debug, PartialEq, Eq, Hash)]
+pub enum KernelRefusal {
+    /// 11: the distance is not finite or below 0.
+    Distance,
+    /// 12: the radius is not finite or not above 0.
+    Radius,
+}
+
+impl fmt::Display for KernelRefusal {
+    fn fmt(&self, f: &mut fmt::Formatter<'_>) -> fmt::Result {
+        f.write_str(match self {
+            KernelRefusal::Distance => "refused 11: the distance is not finite or below 0",
+            KernelRefusal::Radius => "refused 12: the radius is not finite or not above 0",
+        })
+    }
+}
+
+impl Error for KernelRefusal {}
+
+// 100 + n, n from 1 to 10; the contracts leave no other number.
+fn refusal(code: u64, offset: u64) -> Refusal {
+    match code.checked_sub(101).and_then(|n| Reason::ALL.get(n as usize)) {
+        Some(&reason) => Refusal { reason, offset },
+        None => unreachable!("the archive answered {code}"),
+    }
+}
+
+/// The lengths that the answer list and the work list of a step must have. Refuses what is wrong with the scene itself, numbers 1 to 7.
+pub fn needed(scene: &[u8]) -> Result<Lengths, Refusal> {
+    let mut counts = [0u64; 2];
+    // SAFETY: pointers and lengths of slices; `counts` is lent to nobody else.
+    let code = unsafe { c::iisph_needed(scene.as_ptr(), scene.len(), counts.as_mut_ptr(), counts.len()) };
+    match code {
+        0 => Ok(Lengths { answers: counts[0] as usize, work: counts[1] as usize }),
+        _ => Err(refusal(code, counts[1])),
+    }
+}
+
+/// A packed scene, one step on. The answer list gets, per fluid particle, position, velocity and pressure (7 doubles), then per boundary particle its volume and, if kept,
+/// its force; a refused call leaves it unchanged. The work list is scratch. Elements beyond the needed lengths are never touched.
+pub fn step(scene: &[u8], answers: &mut [f64], work: &mut [f64]) -> Result<Report, Refusal> {
+    let mut numbers = [0f64; 4];
+    let mut counts = [0u64; 2];
+    // SAFETY: pointers and lengths of slices; those that are written are lent by `&mut`, so none overlaps another.
+    let code = unsafe {
+        c::iisph_step(
+            scene.as_ptr(),
+            scene.len(),
+            answers.as_mut_ptr(),
+            answers.len(),
+            work.as_mut_ptr(),
+            work.len(),
+            numbers.as_mut_ptr(),
+            numbers.len(),
+            counts.as_mut_ptr(),
+            counts.len(),
+        )
+    };
+    let [error, dt, inv_dt, remaining_time] = numbers;
+    let ending = match code {
+        0 => Ending::Unswept,
+        1 => Ending::Settled(error),
+        2 => Ending::RanOut(error),
+        _ => return Err(refusal(code, counts[1])),
+    };
+    Ok(Report { ending, iterations: counts[0], dt, inv_dt, remaining_time })
+}
+
+fn kernel(function: unsafe extern "C" fn(f64, f64, *mut f64, usize) -> u64, r: f64, h: f64) -> Result<f64, KernelRefusal> {
+    let mut out = [0f64; 1];
+    // SAFETY: the pointer and the length of an array that is lent to nobody else.
+    match unsafe { function(r, h, out.as_mut_ptr(), out.len()) } {
+        0 => Ok(out[0]),
+        111 => Err(KernelRefusal::Distance),
+        112 => Err(KernelRefusal::Radius),
+        code => unreachable!("the archive answered {code}"),
+    }
+}
+
+/// The cubic spline at the distance `r`, with the radius `h`.
+pub fn weight(r: f64, h: f64) -> Result<f64, KernelRefusal> {
+    kernel(c::iisph_weight, r, h)
+}
+
+/// Its derivative there.
+pub fn slope(r: f64, h: f64) -> Result<f64, KernelRefusal> {
+    kernel(c::iisph_slope, r, h)
+}
+
+#[cfg(test)]
+mod tests;
