@@ -1,0 +1,150 @@
+//! Times our step and the Rust's on the same packed lattice scenes, in one process. Ours takes the packed scene, so it also checks and decodes it; the Rust's
+//! structures are filled before the clock starts. With libiisph_c.a built (`rt staticlib iisph_c`), in the folder oracle:
+//!   cargo run --release --offline --features bench --bin bench -- [REPEATS [SIZES]]
+
+use std::time::Instant;
+
+use oracle::kernel::{CubicSplineKernel, Kernel};
+use oracle::run::fill;
+use oracle::scene::read;
+
+extern "C" {
+    fn iisph_step(
+        scene: *const u8,
+        scene_len: usize,
+        answers: *mut f64,
+        answers_len: usize,
+        work: *mut f64,
+        work_len: usize,
+        numbers: *mut f64,
+        numbers_len: usize,
+        counts: *mut u64,
+        counts_len: usize,
+    ) -> u64;
+}
+
+/// Contacts reach this far on a lattice of distance 1: 32 neighbours and the particle itself.
+const REACH: i32 = 2;
+const RADIUS: f64 = 2.2;
+
+/// The step through the C interface, on lists that are long enough.
+fn step(scene: &[u8], answers: &mut [f64], work: &mut [f64]) -> u64 {
+    let (mut numbers, mut counts) = ([0.0; 4], [0; 2]);
+    let (a, w) = ((answers.as_mut_ptr(), answers.len()), (work.as_mut_ptr(), work.len()));
+    unsafe { iisph_step(scene.as_ptr(), scene.len(), a.0, a.1, w.0, w.1, numbers.as_mut_ptr(), 4, counts.as_mut_ptr(), 2) }
+}
+
+struct Packed(Vec<u8>);
+
+impl Packed {
+    fn double(&mut self, x: f64) {
+        self.0.extend(x.to_bits().to_be_bytes());
+    }
+
+    fn doubles(&mut self, xs: &[f64]) {
+        xs.iter().for_each(|x| self.double(*x));
+    }
+
+    fn name(&mut self, model: usize, particle: usize) {
+        self.0.extend(((model << 12 | particle) as u16).to_be_bytes());
+    }
+
+    fn contact(&mut self, model: usize, particle: usize, offset: [i32; 3]) {
+        let [x, y, z] = offset.map(f64::from);
+        let r = (x * x + y * y + z * z).sqrt();
+        self.name(model, particle);
+        self.double(CubicSplineKernel::scalar_apply(r, RADIUS));
+        let slope = if r > 0.0 { -CubicSplineKernel::scalar_apply_diff(r, RADIUS) / r } else { 0.0 };
+        self.doubles(&[x * slope, y * slope, z * slope]);
+    }
+}
+
+fn offsets() -> Vec<[i32; 3]> {
+    let span = -REACH..=REACH;
+    let all = span.clone().flat_map(|z| span.clone().flat_map(move |y| (-REACH..=REACH).map(move |x| [x, y, z])));
+    all.filter(|[x, y, z]| x * x + y * y + z * z <= REACH * REACH).collect()
+}
+
+/// Fluids of side × side × side particles, each upon a wall of side × side that keeps its forces.
+fn lattice(fluids: usize, side: i32, iterations: u8) -> Vec<u8> {
+    let mut packed = Packed(vec![0x10 | fluids as u8, 0x10, iterations.saturating_sub(1), iterations]);
+    packed.doubles(&[0.01, 1.0, -1.0, 0.0, 0.0, -9.81]);
+    let inside = |at: [i32; 3]| at.iter().all(|x| (0..side).contains(x));
+    let number = |[x, y, z]: [i32; 3]| (x + side * (y + side * z)) as usize;
+    for fluid in 0..fluids {
+        packed.0.extend((side.pow(3) as u16).to_be_bytes());
+        packed.double(1.0);
+        for z in 0..side {
+            for y in 0..side {
+                for x in 0..side {
+                    let shaken = f64::from((x * 7 + y * 3 + z) % 11) * 0.001;
+                    packed.doubles(&[f64::from(x), f64::from(y), f64::from(z), shaken, -shaken, shaken, 0.0, shaken, 0.0, 0.9, 0.5]);
+                    let counts = packed.0.len();
+                    packed.0.extend([0, 0]);
+                    for [dx, dy, dz] in offsets() {
+                        let at = [x + dx, y + dy, z + dz];
+                        if inside(at) {
+                            packed.contact(fluid, number(at), [dx, dy, dz]);
+                            packed.0[counts] += 1;
+                        }
+                    }
+                    for [dx, dy, dz] in offsets() {
+                        if z + dz == -1 && inside([x + dx, y + dy, 0]) {
+                            packed.contact(0, number([x + dx, y + dy, 0]), [dx, dy, dz]);
+                            packed.0[counts + 1] += 1;
+                        }
+                    }
+                }
+            }
+        }
+    }
+    packed.0.extend((0x8000 | side.pow(2) as u16).to_be_bytes());
+    for y in 0..side {
+        for x in 0..side {
+            packed.doubles(&[0.0; 6]);
+            let count = packed.0.len();
+            packed.0.push(0);
+            for [dx, dy, dz] in offsets() {
+                if dz == 0 && inside([x + dx, y + dy, 0]) {
+                    packed.name(0, number([x + dx, y + dy, 0]));
+                    packed.double(CubicSplineKernel::scalar_apply(f64::from(dx * dx + dy * dy).sqrt(), RADIUS));
+                    packed.0[count] += 1;
+                }
+            }
+        }
+    }
+    packed.0
+}
+
+fn main() {
+    let repeats: usize = std::env::args().nth(1).and_then(|text| text.parse().ok()).unwrap_or(15);
+    println!("particles contacts iterations    ours ms    rust ms   ours/rust   ours: ns a contact and iteration");
+    let sizes: usize = std::env::args().nth(2).and_then(|text| text.parse().ok()).unwrap_or(3);
+    for (fluids, side) in [(1, 10), (1, 16), (8, 16)].into_iter().take(sizes) {
+        for iterations in [0, 2, 50] {
+            let bytes = lattice(fluids, side, iterations);
+            let scene = read(&bytes).ok().expect("the scene is accepted");
+            let count = fluids * side.pow(3) as usize;
+            let contacts: usize = scene.fluids.iter().flat_map(|f| &f.particles).map(|p| p.fluid_contacts.len() + p.boundary_contacts.len()).sum();
+            let mut answers = vec![0.0; 7 * count + 4 * side.pow(2) as usize];
+            let mut work = vec![0.0; 14 * count + side.pow(2) as usize];
+            let (mut ours, mut rusts) = (f64::INFINITY, f64::INFINITY);
+            let mut last = fill(&scene);
+            for _ in 0..repeats {
+                let began = Instant::now();
+                let ending = step(&bytes, &mut answers, &mut work);
+                ours = ours.min(began.elapsed().as_secs_f64());
+                assert!(ending <= 2, "refused");
+                last = fill(&scene);
+                let began = Instant::now();
+                last.step();
+                rusts = rusts.min(began.elapsed().as_secs_f64());
+            }
+            for (i, (p, v)) in last.fluids.iter().flat_map(|f| f.positions.iter().zip(&f.velocities)).enumerate() {
+                assert_eq!(answers[7 * i..7 * i + 6], [p.x, p.y, p.z, v.x, v.y, v.z], "fluid particle {i}");
+            }
+            let each = if iterations == 0 { 0.0 } else { ours * 1e9 / contacts as f64 / f64::from(iterations) };
+            println!("{count:9} {contacts:8} {iterations:10} {:10.3} {:10.3} {:11.3} {each:10.3}", ours * 1e3, rusts * 1e3, ours / rusts);
+        }
+    }
+}

@@ -1,0 +1,156 @@
+//! Hands a scene to the Rust's solver, and writes document 01's lines from what it did.
+
+use std::fmt::Write;
+use std::panic::{catch_unwind, resume_unwind, AssertUnwindSafe};
+use std::sync::RwLock;
+
+use crate::counters::Counters;
+use crate::geometry::{Contact, ContactManager, HGrid, ParticlesContacts};
+use crate::math::Vector;
+use crate::object::interaction_groups::InteractionGroups;
+use crate::object::{Boundary, Fluid};
+use crate::scene::{read, BoundaryRecord, FluidRecord, Named, Refused, Scene, LONGEST};
+use crate::solver::{IISPHSolver, PressureSolver};
+use crate::{TimestepManager, ZeroDensity};
+
+/// The step asks for a kernel radius and a particle radius but uses neither, as contacts come with their weights.
+const UNUSED: f64 = 1.0;
+
+/// A scene in the Rust's own structures.
+pub struct Filled {
+    pub solver: IISPHSolver,
+    pub timestep: TimestepManager,
+    pub gravity: Vector<f64>,
+    pub contacts: ContactManager,
+    pub fluids: Vec<Fluid>,
+    pub boundaries: Vec<Boundary>,
+}
+
+pub fn fill(scene: &Scene) -> Filled {
+    let fluids: Vec<Fluid> = scene.fluids.iter().map(fluid_of).collect();
+    let boundaries: Vec<Boundary> = scene.boundaries.iter().map(boundary_of).collect();
+    let contacts = contacts_of(scene, &fluids, &boundaries);
+
+    let mut solver: IISPHSolver = IISPHSolver::new();
+    solver.min_pressure_iter = scene.least;
+    solver.max_pressure_iter = scene.most;
+    solver.max_density_error = scene.limit;
+    solver.init_with_fluids(&fluids);
+    solver.init_with_boundaries(&boundaries);
+    for (pressures, record) in solver.pressures.iter_mut().zip(&scene.fluids) {
+        *pressures = record.particles.iter().map(|p| p.warm).collect();
+    }
+
+    let mut timestep = TimestepManager::new(UNUSED);
+    timestep.reset(scene.step_length);
+    timestep.remaining_time = scene.remaining;
+    Filled { solver, timestep, gravity: scene.gravity, contacts, fluids, boundaries }
+}
+
+fn fluid_of(record: &FluidRecord) -> Fluid {
+    let positions = record.particles.iter().map(|p| p.position).collect();
+    let mut fluid = Fluid::new(positions, UNUSED, record.rest, InteractionGroups::all());
+    fluid.velocities = record.particles.iter().map(|p| p.velocity).collect();
+    fluid.accelerations = record.particles.iter().map(|p| p.acceleration).collect();
+    fluid.volumes = record.particles.iter().map(|p| p.volume).collect();
+    fluid
+}
+
+fn boundary_of(record: &BoundaryRecord) -> Boundary {
+    let mut boundary = Boundary::new(vec![Vector::zeros(); record.particles.len()], InteractionGroups::all());
+    boundary.velocities = record.particles.iter().map(|p| p.velocity).collect();
+    boundary.forces = record.keeps.then(|| RwLock::new(record.particles.iter().map(|p| p.force).collect()));
+    boundary
+}
+
+/// A search in an empty grid gives every particle its empty lists; then the given contacts go in.
+fn contacts_of(scene: &Scene, fluids: &[Fluid], boundaries: &[Boundary]) -> ContactManager {
+    let mut contacts = ContactManager::new();
+    contacts.update_contacts(&mut Counters::new(), UNUSED, fluids, boundaries, &HGrid::new(UNUSED));
+    for (model, record) in scene.fluids.iter().enumerate() {
+        for (i, particle) in record.particles.iter().enumerate() {
+            put(&contacts.fluid_fluid_contacts, model, i, &particle.fluid_contacts);
+            put(&contacts.fluid_boundary_contacts, model, i, &particle.boundary_contacts);
+        }
+    }
+    for (model, record) in scene.boundaries.iter().enumerate() {
+        for (i, particle) in record.particles.iter().enumerate() {
+            put(&contacts.boundary_boundary_contacts, model, i, &particle.contacts);
+        }
+    }
+    contacts
+}
+
+fn put(lists: &[ParticlesContacts], model: usize, i: usize, named: &[Named]) {
+    let list = named.iter().map(|c| Contact { i, i_model: model, j: c.number, j_model: c.model, weight: c.weight, gradient: c.gradient });
+    lists[model].particle_contacts(i).write().unwrap().extend(list);
+}
+
+impl Filled {
+    /// The two calls that are ported: `compute_densities`, then `step`.
+    pub fn step(&mut self) {
+        self.solver.compute_densities(&self.contacts, &self.fluids, &mut self.boundaries);
+        let (counters, fluids) = (&mut Counters::new(), &mut self.fluids);
+        self.solver.step(counters, &mut self.timestep, &self.gravity, &mut self.contacts, UNUSED, fluids, &self.boundaries);
+    }
+
+    /// The step, or the zero density that its asserts found. Any other panic goes on.
+    pub fn try_step(&mut self) -> Result<(), ZeroDensity> {
+        catch_unwind(AssertUnwindSafe(|| self.step())).map_err(|thrown| match thrown.downcast::<ZeroDensity>() {
+            Ok(found) => *found,
+            Err(other) => resume_unwind(other),
+        })
+    }
+}
+
+/// A double's bits; every not-a-number alike.
+pub fn bits(x: f64) -> String {
+    if x.is_nan() {
+        "7FF8000000000000".to_string()
+    } else {
+        format!("{:016X}", x.to_bits())
+    }
+}
+
+fn row(head: &str, numbers: &[f64]) -> String {
+    numbers.iter().fold(head.to_string(), |text, x| text + " " + &bits(*x)) + "\n"
+}
+
+/// The lines for one scene. Where an average was -0 the Rust leaves a sign open, and the line is `skipped`.
+pub fn lines(bytes: &[u8], any_length: bool) -> String {
+    if bytes.len() > LONGEST && !any_length {
+        return "too long\n".to_string();
+    }
+    match read(bytes).and_then(|scene| stepped(&scene)) {
+        Ok(text) => text,
+        Err(Refused(number, place)) => format!("refused {number} {place}\n"),
+    }
+}
+
+fn stepped(scene: &Scene) -> Result<String, Refused> {
+    let mut state = fill(scene);
+    if let Err(found) = state.try_step() {
+        return Err(Refused(found.number, scene.fluids[found.fluid].particles[found.particle].place));
+    }
+    if state.solver.minus_zero {
+        return Ok("skipped\n".to_string());
+    }
+    let mut text = match state.solver.last_error {
+        None => "step unswept 0\n".to_string(),
+        Some(error) => format!("step {} {} {}\n", if state.solver.settled { "settled" } else { "ranout" }, state.solver.iterations, bits(error)),
+    };
+    text += &row("clock", &[state.timestep.dt(), state.timestep.inv_dt(), state.timestep.remaining_time]);
+    for (m, fluid) in state.fluids.iter().enumerate() {
+        for (i, (p, v)) in fluid.positions.iter().zip(&fluid.velocities).enumerate() {
+            text += &row(&format!("fluid {m} {i}"), &[p.x, p.y, p.z, v.x, v.y, v.z, state.solver.pressures[m][i]]);
+        }
+    }
+    for (m, boundary) in state.boundaries.iter().enumerate() {
+        let forces = boundary.forces.as_ref().map(|list| list.read().unwrap());
+        for (i, volume) in boundary.volumes.iter().enumerate() {
+            let _ = write!(text, "wall {m} {i} {}", bits(*volume));
+            text += &forces.as_ref().map_or("\n".to_string(), |list| row("", &[list[i].x, list[i].y, list[i].z]));
+        }
+    }
+    Ok(text)
+}
