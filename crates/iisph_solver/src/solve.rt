@@ -5,6 +5,7 @@ use crate::traverse::traverse;
 use iisph_rules::Ending;
 use scene::Layout;
 use scene::read;
+use scene::reader::header_numbers;
 ghost use mathlib.Core.Path.{_≡_};
 ghost use Rattle.scene.specs.Layout.{layoutOf};
 ghost use Rattle.scene.specs.Scene.{fluidSize};
@@ -62,7 +63,7 @@ pub fn pressure_solve(
 {
     let least = read::byte(scene, 2);
     let most = read::byte(scene, 3);
-    let limit = read::double(scene, 20);
+    let limit = header_numbers(scene).max_density_error;
     let mut error = 0.0;
     let mut i = 0usize;
     while i < most {

@@ -14,7 +14,7 @@ use iisph_rules::StepAnswer;
 use scene::Layout;
 use scene::Refusal;
 use scene::Verdict;
-use scene::read;
+use scene::reader::header_numbers;
 use timestep_manager::Clock;
 use timestep_manager::advance;
 use velocity_changes::answers::update_velocities_and_positions;
@@ -37,11 +37,12 @@ fn report(scene: &[u8], solved: Solved) -> Report
     requires { ⌜ (solved .iterations ≡ solution (sceneOf (now scene)) .iterations) × (solved .ending ≡ solution (sceneOf (now scene)) .ending) ⌝ }
     ensures { λ r. ⌜ r ≡ reportOf (sceneOf (now (scene .entry))) ⌝ }
 {
+    let header = header_numbers(scene);
     let clock = advance(Clock {
-        total_step_size: read::double(scene, 4),
+        total_step_size: header.total_step_size,
         dt: 0.0,
         inv_dt: 0.0,
-        remaining_time: read::double(scene, 12),
+        remaining_time: header.remaining_time,
     });
     let ending = solved.ending;
     Report {

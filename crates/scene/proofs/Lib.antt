@@ -12,3 +12,4 @@ pub mod Filled
 pub mod Checks
 pub mod Rows
 pub mod Early
+mod Held

@@ -8,3 +8,4 @@ pub mod Layout
 pub mod Packed
 pub mod Accepted
 pub mod Same
+pub mod Reading

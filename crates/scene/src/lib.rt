@@ -2,6 +2,7 @@
 pub mod format;
 mod locate;
 pub mod read;
+pub mod reader;
 mod single_fields;
 mod walk_fields;
 mod walk_names;

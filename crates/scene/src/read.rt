@@ -68,6 +68,14 @@ pub fn double(s: &[u8], at: usize) -> f64
     f64::from_bits(be64(s, at))
 }
 
+// The offset behind a double.
+pub fn double_end(s: &[u8], at: usize) -> usize
+    requires { ⌜ FiniteAt (now s) at ⌝ }
+    ensures { λ r. ⌜ r ≡ at + 8 ⌝ }
+{
+    at + 8
+}
+
 pub fn vector(s: &[u8], at: usize) -> Vec3
     requires { ⌜ FiniteAt (now s) at × FiniteAt (now s) (at + 8) × FiniteAt (now s) (at + 16) ⌝ }
     ensures { λ r. ⌜ axes r ≡ vectorAt 3 (now (s .entry)) at ⌝ }

@@ -29,3 +29,10 @@ pub fn advance(clock: Clock) -> Clock
         remaining_time: clock.remaining_time - dt,
     }
 }
+
+// The same on a clock that is lent (the Rust's `advance(&mut self)`): it is advanced where its owner keeps it.
+pub fn advance_in_place(clock: &mut Clock)
+    ensures { λ _. ⌜ now (clock .exit) ≡ advanced (now (clock .entry)) ⌝ }
+{
+    *clock = advance(*clock);
+}

@@ -5,6 +5,7 @@ use mathlib.Core.Path.{_≡_, refl, sym, ap, _∙_}
 use native.Mathlib.Omega.{arith}
 use denote.Ref.{now}
 use lib.Ieee
+use Rattle.scene.specs.Reading.{headerNumbersOf}
 use Rattle.scene.specs.SceneOf.{sceneOf}
 use Rattle.scene.proofs.Accepted.{accepted}
 use Rattle.iisph_solver.proofs.Solving.{Solving, none-solved, next-solved, solved-early, solved, is-last, not-least, not-small, least-is, most-is, limit-is}
@@ -27,8 +28,10 @@ byte-requires c κs = omega (arith, accepted _ (c .before .before .before .pre .
 byte-requires-2 : tie.Need-byte-requires-2 Inv-loop μ-loop
 byte-requires-2 c κs = omega (arith, accepted _ (Begin c .pre .0 .accepted) .fields .header .room)
 
-double-requires : tie.Need-double-requires Inv-loop μ-loop
-double-requires c κs = accepted _ (Begin (c .before) .pre .0 .accepted) .fields .header .maxDensityError
+header-numbers-requires : tie.Need-header-numbers-requires Inv-loop μ-loop
+header-numbers-requires c κs =
+    let header = accepted _ (Begin (c .before) .pre .0 .accepted) .fields .header in
+    (header .totalStepSize, header .remainingTime, header .maxDensityError)
 
 loop-holds : tie.Need-loop-holds Inv-loop μ-loop
 loop-holds c =
@@ -48,8 +51,9 @@ most c = c .byte2 .ensures .0 ∙ most-is _
 least : (c : tie.After-byte Inv-loop μ-loop) → c .byte .result ≡ sceneOf (now (Begin c .args .scene)) .header .minPressureIter
 least c = c .byte .ensures .0 ∙ least-is _
 
-limit : (c : tie.After-double Inv-loop μ-loop) → c .double .result ≡ sceneOf (now (Begin (c .before .before) .args .scene)) .header .maxDensityError
-limit c = c .double .ensures ∙ limit-is _
+limit : (c : tie.After-header-numbers Inv-loop μ-loop) → c .header-numbers .result .«max_density_error» ≡ sceneOf (now (Begin (c .before .before) .args .scene)) .header .maxDensityError
+unfolding headerNumbersOf
+limit c = ap (λ h. h .«max_density_error») (c .header-numbers .ensures) ∙ limit-is _
 
 below : (c : tie.In-loop Inv-loop μ-loop) → c .before .loop .i < sceneOf (now (Begin (c .before .before .before .before) .args .scene)) .header .maxPressureIter
 below c = omega (arith, c .loop-test .taken, most (c .before .before .before))
@@ -62,8 +66,8 @@ few c =
 add-i : tie.Need-add-i Inv-loop μ-loop
 add-i c = omega (arith, few (c .before .before .before .before .before))
 
-cast-t17 : tie.Need-cast-t17 Inv-loop μ-loop
-cast-t17 c = omega (arith, few (c .before .before .before .before .before .before .before))
+cast-t18 : tie.Need-cast-t18 Inv-loop μ-loop
+cast-t18 c = omega (arith, few (c .before .before .before .before .before .before .before))
 
 same-length : tie.Need-same-length Inv-loop μ-loop
 same-length c = search needs
@@ -106,8 +110,8 @@ loop-again-2 c =
 ending-after-requires : tie.Need-ending-after-requires Inv-loop μ-loop
 ending-after-requires c κs = search needs
 
-cast-t19 : tie.Need-cast-t19 Inv-loop μ-loop
-cast-t19 c = omega (arith, few (c .before .before))
+cast-t20 : tie.Need-cast-t20 Inv-loop μ-loop
+cast-t20 c = omega (arith, few (c .before .before))
 
 same-length-2 : tie.Need-same-length-2 Inv-loop μ-loop
 same-length-2 c = search needs
@@ -128,11 +132,11 @@ pressure-solve-spec =
     μ-loop
     byte-requires
     byte-requires-2
-    double-requires
+    header-numbers-requires
     loop-holds
     iterate-requires
     add-i
-    cast-t17
+    cast-t18
     same-length
     returns
     loop-less
@@ -140,6 +144,6 @@ pressure-solve-spec =
     loop-less-2
     loop-again-2
     ending-after-requires
-    cast-t19
+    cast-t20
     same-length-2
     returns-2)

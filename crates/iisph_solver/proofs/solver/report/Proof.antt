@@ -1,25 +1,26 @@
 -- `iisph_solver::solver::report` meets its contract: the clock is that of the header, advanced. Assumes nothing.
-use Rattle.scene.specs.SceneOf.{sceneOf}
+use mathlib.Core.Path.{ap}
+use Rattle.scene.specs.Reading.{headerNumbersOf}
 use Rattle.scene.proofs.Accepted.{accepted}
 use Rattle.iisph_solver.proofs.Finished.{report-made}
 use borrow.Author.Needs.{needs}
 use Rattle.iisph_solver.proofs.solver.report.Statement.{statement}
 use Rattle.iisph_solver.proofs.solver.report.Tie as tie
 
-double-requires : tie.Need-double-requires
-double-requires c κs = accepted _ (c .before .pre .0) .fields .header .totalStepSize
-
-double-requires-2 : tie.Need-double-requires-2
-double-requires-2 c κs = accepted _ (c .before .before .pre .0) .fields .header .remainingTime
+header-numbers-requires : tie.Need-header-numbers-requires
+header-numbers-requires c κs =
+    let header = accepted _ (c .before .pre .0) .fields .header in
+    (header .totalStepSize, header .remainingTime, header .maxDensityError)
 
 advance-requires : tie.Need-advance-requires
 advance-requires c κs = search needs
 
 returns : tie.Need-returns
+unfolding headerNumbersOf
 returns c =
-    let d = c .before .before in
+    let d = c .before in
     let p = d .before .before .pre in
-    report-made _ (d .double .ensures) (c .before .double2 .ensures) (c .advance .ensures) (p .1 .0) (p .1 .1)
+    report-made _ (ap (λ h. h .«total_step_size») (d .header-numbers .ensures)) (ap (λ h. h .«remaining_time») (d .header-numbers .ensures)) (c .advance .ensures) (p .1 .0) (p .1 .1)
 
 pub report-spec : {M : Type 1} → statement M
-report-spec = tie.close (tie.spec double-requires double-requires-2 advance-requires returns)
+report-spec = tie.close (tie.spec header-numbers-requires advance-requires returns)

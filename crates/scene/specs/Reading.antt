@@ -1,0 +1,17 @@
+-- A reader at an offset of a scene, and one double further on; the header's three doubles that stand by themselves. Definitions only.
+use Prim.Native.Nat.{ℕ, _+_}
+use mathlib.Core.List.{List}
+use denote.Ref.{RefT}
+use Rattle.scene.specs.Bytes.{doubleAt}
+use Rattle.scene.specs.declared.reader.Reader.{Reader}
+use Rattle.scene.specs.declared.reader.HeaderNumbers.{HeaderNumbers}
+
+abbrev pub readerAt : RefT (List ℕ) → ℕ → Reader
+readerAt s at = record { scene = s; at = at }
+
+abbrev pub pastDouble : Reader → Reader
+pastDouble r = record { scene = r .scene; at = r .at + 8 }
+
+-- step length, remaining time and error limit (document 01, the header)
+unfoldable pub headerNumbersOf : List ℕ → HeaderNumbers
+headerNumbersOf b = record { «total_step_size» = doubleAt b 4; «remaining_time» = doubleAt b 12; «max_density_error» = doubleAt b 20 }

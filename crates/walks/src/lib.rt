@@ -1,0 +1,1 @@
+// No code: what the walks by hand of other crates share stands in proofs/.
