@@ -4,6 +4,7 @@ fn main() {
     // the benchmark alone calls our step
     let archive = std::env::current_dir().unwrap().join("../target/staticlib/libiisph_c.a");
     if std::env::var_os("CARGO_FEATURE_BENCH").is_some() {
+        println!("cargo:rerun-if-changed={}", archive.display());
         println!("cargo:rustc-link-arg-bin=bench={}", archive.display());
     }
     println!("cargo:rerun-if-changed=src/salva");
