@@ -3,14 +3,14 @@
 use Prim.Native.Nat.{ℕ, zero, suc, _+_, _*_, _<_, _≤_}
 use mathlib.Core.Path.{_≡_, refl, sym, ap, _∙_}
 use mathlib.Core.List.{List, [], _∷_, _++_, map, map-map, map-append}
-use native.Mathlib.Nat.{mul-zero, zero-mul, mul-suc, mul-comm, mul-le-mul-left}
+use native.Mathlib.Nat.{zero-mul, mul-suc, mul-comm, mul-le-mul-left}
 use native.Mathlib.Numerals.{add-one}
 use native.Mathlib.Omega.{arith}
-use lib.ListN.{length, getD, length-map}
+use lib.ListN.{length, getD}
 use Rattle.math.specs.Lists.{table}
 use Rattle.math.proofs.Lists.{table-same, table-map}
 use Rattle.scene.specs.Accepted.{Bytes}
-use Rattle.scene.specs.Format.{axes, boundariesOf, Kind, boundaryKind, keepsAt, trail, modelPlaces, headsFrom, Place, joined, boundariesStart, boundaryPlaces}
+use Rattle.scene.specs.Format.{axes, boundariesOf, boundaryKind, keepsAt, trail, modelPlaces, headsFrom, joined, boundariesStart, boundaryPlaces}
 use Rattle.scene.specs.Layout.{modelsOf, layoutOf}
 use Rattle.scene.specs.Scene.{fluidSize, boundarySize}
 use Rattle.scene.specs.SceneOf.{sizeSum, sceneOf, answersNeeded, workNeeded}

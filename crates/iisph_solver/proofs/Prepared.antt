@@ -10,15 +10,19 @@ use lib.Ieee.{Float, nan}
 use lib.ListN.{length, length-map, getD, drop, replicate}
 use lib.Seq.{sets, length-sets}
 use Rattle.math.specs.Real.{+0}
-use Rattle.math.specs.Lists.{table, choose}
+use Rattle.math.specs.Lists.{choose}
 use Rattle.math.proofs.Lists.{length-table}
+use Rattle.scene.specs.Accepted.{Bytes}
 use Rattle.scene.specs.Format.{fluidCounts, boundaryCounts, fluidPlace}
 use Rattle.scene.specs.Layout.{layoutOf, modelsOf}
 use Rattle.scene.specs.Scene.{Scene, fluidSize, boundarySize, particle}
 use Rattle.scene.specs.SceneOf.{sceneOf, workNeeded}
+use Rattle.scene.specs.Walk.{checked}
 use Rattle.scene.specs.declared.Layout.{Layout}
 use Rattle.scene.specs.declared.Refusal.{Refusal}
 use Rattle.scene.specs.declared.Refusal.the-variants.{ZeroDensity, ZeroPredictedDensity}
+use Rattle.scene.specs.declared.Walk.the-variants.{At}
+use Rattle.scene.proofs.Records.{fluid-size-few, boundary-size-few}
 use Rattle.scene.proofs.Places.{fluid-size, boundary-size, fluid-size-sum, boundary-size-sum}
 use Rattle.iisph_rules.specs.Coefficients.{Coefficients, coefficientsOf, coefficients}
 use Rattle.iisph_particles.specs.Index.{Indexed}
@@ -26,13 +30,13 @@ use Rattle.iisph_particles.specs.Passes.{coefficientRow, volumes}
 use Rattle.iisph_solver.specs.Prepare.{rowsFilled, prepared, workPrepared, readiness, zeroAnswer}
 use Rattle.iisph_particles.specs.Refusals.{column}
 use Rattle.iisph_rules.specs.Step.{reportOf, unlessZero, sceneAnswer}
-use Rattle.iisph_particles.specs.WorkList.{Rows, Part}
+use Rattle.iisph_particles.specs.WorkList.{Part}
 use Rattle.iisph_rules.specs.declared.Report.{Report}
 use Rattle.iisph_rules.specs.declared.StepAnswer.{StepAnswer}
 use Rattle.iisph_rules.specs.declared.StepAnswer.the-variants as answer
 use Rattle.iisph_solver.specs.declared.prepare.Readiness.{Readiness}
 use Rattle.iisph_solver.specs.declared.prepare.Readiness.the-variants.{Ready, Refused}
-use Rattle.math.proofs.Lists.{table-same, map-table}
+use Rattle.math.proofs.Lists.{map-table}
 use Rattle.iisph_particles.proofs.Particles.{record-at}
 use Rattle.iisph_solver.proofs.RowParts.{rows-column}
 use Rattle.iisph_solver.proofs.Preparation.{part-stored, drop-prepared, coefficient-rows}
@@ -54,6 +58,24 @@ module _ (b : List ℕ) {layout : Layout} (e : layout ≡ layoutOf b) where
 pub work-needed : (b : List ℕ) {n m : ℕ} → n ≡ fluidSize (sceneOf b) → m ≡ boundarySize (sceneOf b) → 14 * n + m ≡ workNeeded b
 unfolding workNeeded
 work-needed b size few = omega (arith, fluid-size b, boundary-size b)
+
+-- what an accepted scene's layout says of its sizes
+pub record Sizes (b : List ℕ) (layout : Layout) : Type 0 where
+  pub fluids : layout .fluids .total ≡ fluidSize (sceneOf b)
+  pub boundaries : layout .boundaries .total ≡ boundarySize (sceneOf b)
+  pub fewFluids : layout .fluids .total ≤ 32768
+  pub fewBoundaries : layout .boundaries .total ≤ 32768
+  pub needed : 14 * layout .fluids .total + layout .boundaries .total ≡ workNeeded b
+
+pub sizes : (b : List ℕ) {e : ℕ} {layout : Layout} → Bytes b → checked b ≡ At e → layout ≡ layoutOf b → Sizes b layout
+sizes b y q is =
+    record {
+      fluids = fluids-total b is;
+      boundaries = boundaries-total b is;
+      fewFluids = omega (arith, fluids-total b is, fluid-size-few b y q);
+      fewBoundaries = omega (arith, boundaries-total b is, boundary-size-few b y q);
+      needed = work-needed b (fluids-total b is) (boundaries-total b is);
+    }
 
 -- the volumes, then the rows
 pub prepared-made : (b : List ℕ) (l : List Float) {x z : List Float} → x ≡ sets l (14 * fluidSize (sceneOf b)) (volumes (sceneOf b)) → z ≡ rowsFilled (sceneOf b) x

@@ -1,12 +1,11 @@
 -- The loop of `pressure_solve`: what remains from iteration i on is the whole, since each turn either goes on as the rule does or stops where it stops. By one unfolding
 -- of the rule at a turn. Assumes nothing.
-use Prim.Native.Nat.{ℕ, zero, suc, _+_, _*_, _-_, _<_, _≤_}
+use Prim.Native.Nat.{ℕ, zero, suc, _+_, _-_, _<_, _≤_}
 use mathlib.Core.Path.{_≡_, refl, sym, ap, _∙_}
 use mathlib.Core.Bool.{Bool, true, false, _&&_}
 use mathlib.Core.List.{List}
 use native.Mathlib.Numerals.{add-one}
 use native.Mathlib.Omega.{arith}
-use lib.Dec.{leb}
 use lib.Ieee
 use lib.Ieee.{Float}
 use lib.ListN.{length}
@@ -21,7 +20,7 @@ use Rattle.iisph_rules.specs.Step.{firstPressures, isLast, Solution, iterateFro
 use Rattle.iisph_rules.specs.declared.Ending.{Ending}
 use Rattle.iisph_rules.specs.declared.Ending.the-variants.{Unswept, Settled, RanOut}
 use Rattle.iisph_particles.specs.IterationRows.{pressuresIn, IterationReady}
-use Rattle.iisph_solver.specs.Solve.{iterated, iteratedTimes, endingAfter, Iterates, Solves}
+use Rattle.iisph_solver.specs.Solve.{iteratedTimes, endingAfter, Iterates, Solves}
 use Rattle.iisph_solver.specs.declared.solve.Solved.{Solved}
 use Rattle.iisph_solver.proofs.Iterated.{again-ready, again-pressures, length-iterated}
 

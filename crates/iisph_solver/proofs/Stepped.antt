@@ -2,7 +2,7 @@
 -- left in both lists. Assumes nothing.
 use Prim.Native.Nat.{ℕ, _≤_, _<_}
 use mathlib.Core.Path.{_≡_, refl, sym, ap, _∙_}
-use mathlib.Core.List.{List, _++_}
+use mathlib.Core.List.{List}
 use native.Mathlib.Omega.{arith}
 use lib.Ieee.{Float}
 use lib.ListN.{length}
@@ -14,7 +14,7 @@ use Rattle.scene.specs.declared.Refusal.{Refusal}
 use Rattle.scene.specs.declared.Refusal.the-variants.{ShortList}
 use Rattle.scene.specs.declared.Walk.the-variants as walk
 use Rattle.iisph_rules.specs.Answer.{stepAnswer}
-use Rattle.iisph_rules.specs.Step.{firstPressures, reportOf, sceneAnswer}
+use Rattle.iisph_rules.specs.Step.{firstPressures, sceneAnswer}
 use Rattle.iisph_rules.specs.declared.Report.{Report}
 use Rattle.iisph_rules.specs.declared.StepAnswer.the-variants.{Done, Refused}
 use Rattle.iisph_rules.proofs.Reports.{answers-done, work-done}

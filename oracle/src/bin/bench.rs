@@ -5,7 +5,7 @@
 use std::time::Instant;
 
 use oracle::kernel::{CubicSplineKernel, Kernel};
-use oracle::run::fill;
+use oracle::run::{fill, Filled};
 use oracle::scene::read;
 
 extern "C" {
@@ -116,6 +116,19 @@ fn lattice(fluids: usize, side: i32, iterations: u8) -> Vec<u8> {
     packed.0
 }
 
+/// Every answer of ours is the Rust's.
+fn compare(state: &Filled, answers: &[f64]) {
+    let pressures = state.solver.pressures.iter().flatten();
+    let moved = state.fluids.iter().flat_map(|f| f.positions.iter().zip(&f.velocities));
+    let mut expected: Vec<f64> = moved.zip(pressures).flat_map(|((p, v), q)| [p.x, p.y, p.z, v.x, v.y, v.z, *q]).collect();
+    for boundary in &state.boundaries {
+        let forces = boundary.forces.as_ref().expect("the wall keeps forces").read().unwrap();
+        expected.extend(boundary.volumes.iter().zip(forces.iter()).flat_map(|(volume, f)| [*volume, f.x, f.y, f.z]));
+    }
+    let bits = |list: &[f64]| list.iter().map(|x| x.to_bits()).collect::<Vec<_>>();
+    assert!(bits(&expected) == bits(answers), "an answer differs");
+}
+
 fn main() {
     let repeats: usize = std::env::args().nth(1).and_then(|text| text.parse().ok()).unwrap_or(15);
     println!("particles contacts iterations    ours ms    rust ms   ours/rust   ours: ns a contact and iteration");
@@ -140,9 +153,7 @@ fn main() {
                 last.step();
                 rusts = rusts.min(began.elapsed().as_secs_f64());
             }
-            for (i, (p, v)) in last.fluids.iter().flat_map(|f| f.positions.iter().zip(&f.velocities)).enumerate() {
-                assert_eq!(answers[7 * i..7 * i + 6], [p.x, p.y, p.z, v.x, v.y, v.z], "fluid particle {i}");
-            }
+            compare(&last, &answers);
             let each = if iterations == 0 { 0.0 } else { ours * 1e9 / contacts as f64 / f64::from(iterations) };
             println!("{count:9} {contacts:8} {iterations:10} {:10.3} {:10.3} {:11.3} {each:10.3}", ours * 1e3, rusts * 1e3, ours / rusts);
         }

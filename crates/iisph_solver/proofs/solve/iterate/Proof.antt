@@ -1,7 +1,6 @@
 -- `iisph_solver::solve::iterate` meets its contract: each pass finds what it needs, which the earlier ones stored, and the error is that of the terms in the rows.
 -- Assumes nothing.
 use native.Mathlib.Omega.{arith}
-use denote.Ref.{now}
 use Rattle.iisph_solver.specs.Traverse.{Ready}
 use Rattle.iisph_solver.proofs.Iterated.{quotients-there, quotients-room, dij-there, next-room, iterated-ready, few-fluids, counts-sum, iterates-made}
 use borrow.Author.Needs.{needs}

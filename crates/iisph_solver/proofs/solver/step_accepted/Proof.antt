@@ -1,46 +1,29 @@
 -- `iisph_solver::solver::step_accepted` meets its contract: lists that are too short are 8; else the index is filled, the passes prepare the work list and may refuse, and
 -- what follows finishes the step. Assumes nothing.
-use Prim.Native.Nat.{ℕ, _+_, _*_, _≤_}
+use Prim.Native.Nat.{ℕ, _≤_}
 use mathlib.Core.Path.{_≡_, sym, ap, _∙_}
 use native.Mathlib.Omega.{arith}
 use denote.Ref.{now}
 use lib.ListN.{length, replicate, length-replicate}
 use borrow.Author.Needs.{needs}
 use Rattle.scene.specs.Accepted.{Bytes}
-use Rattle.scene.specs.Scene.{fluidSize, boundarySize}
-use Rattle.scene.specs.SceneOf.{sceneOf, answersNeeded, workNeeded}
+use Rattle.scene.specs.SceneOf.{answersNeeded, workNeeded}
 use Rattle.scene.proofs.Accepted.{accepted}
-use Rattle.scene.proofs.Records.{fluid-size-few, boundary-size-few}
 use Rattle.iisph_particles.specs.Index.{Indexed}
 use Rattle.iisph_particles.proofs.Indexes.{indexed}
-use Rattle.iisph_solver.specs.Needed.{Few}
 use Rattle.iisph_solver.specs.Prepare.{workPrepared}
 use Rattle.iisph_solver.specs.declared.prepare.Readiness.{Readiness}
 use Rattle.iisph_solver.proofs.Needs.{layout-few, layout-needs}
-use Rattle.iisph_solver.proofs.Prepared.{fluids-total, boundaries-total, work-needed}
+use Rattle.iisph_solver.proofs.Prepared.{Sizes, sizes}
 use Rattle.iisph_solver.proofs.Stepped.{short-answers-steps, short-work-steps, zero-steps, done-steps, prepared-ready}
 use Rattle.iisph_solver.proofs.solver.step_accepted.Statement.{statement}
 use Rattle.iisph_solver.proofs.solver.step_accepted.Tie as tie
 
-module _ (c : tie.After-shared-slice-known) where
-  below : Bytes (now (c .before .args .scene))
-  below i = omega (arith, c .shared-slice-known .given i)
+below : (c : tie.After-shared-slice-known) → Bytes (now (c .before .args .scene))
+below c i = omega (arith, c .shared-slice-known .given i)
 
-  -- the layout's totals are the scene's sizes, which are few
-  fluids : c .before .args .layout .fluids .total ≡ fluidSize (sceneOf (now (c .before .args .scene)))
-  fluids = fluids-total (now (c .before .args .scene)) (c .before .pre .1)
-
-  boundaries : c .before .args .layout .boundaries .total ≡ boundarySize (sceneOf (now (c .before .args .scene)))
-  boundaries = boundaries-total (now (c .before .args .scene)) (c .before .pre .1)
-
-  few : (c .before .args .layout .fluids .total ≤ 32768) × (c .before .args .layout .boundaries .total ≤ 32768)
-  few = (
-    omega (arith, fluids, fluid-size-few (now (c .before .args .scene)) below (c .before .pre .0)),
-    omega (arith, boundaries, boundary-size-few (now (c .before .args .scene)) below (c .before .pre .0)),
-  )
-
-  needed : 14 * c .before .args .layout .fluids .total + c .before .args .layout .boundaries .total ≡ workNeeded (now (c .before .args .scene))
-  needed = work-needed (now (c .before .args .scene)) fluids boundaries
+sized : (c : tie.After-shared-slice-known) → Sizes (now (c .before .args .scene)) (c .before .args .layout)
+sized c = sizes _ (below c) (c .before .pre .0) (c .before .pre .1)
 
 long : (n : ℕ) → n ≤ length (replicate {A = ℕ} n 0)
 long n = omega (arith, length-replicate {A = ℕ} n 0)
@@ -49,13 +32,13 @@ abbrev Known : tie.After-answers-needed → tie.After-shared-slice-known
 Known c = c .before .before .before
 
 answers : (c : tie.After-answers-needed) → c .answers-needed .result ≡ answersNeeded (now (Known c .before .args .scene))
-answers c = c .answers-needed .ensures ∙ layout-needs (now (Known c .before .args .scene)) (Known c .before .pre .1) (fluids (Known c))
+answers c = c .answers-needed .ensures ∙ layout-needs (now (Known c .before .args .scene)) (Known c .before .pre .1) (sized (Known c) .fluids)
 
 answers-needed-requires : tie.Need-answers-needed-requires
 answers-needed-requires c κs =
     let k = c .before .before in
     let p = k .before .pre in
-    (few k .0, layout-few (now (k .before .args .scene)) (p .1) (below k) (accepted _ (p .0) .fields .header .boundaries))
+    (sized k .fewFluids, layout-few (now (k .before .args .scene)) (p .1) (below k) (accepted _ (p .0) .fields .header .boundaries))
 
 returns : tie.Need-returns
 returns c =
@@ -64,10 +47,10 @@ returns c =
     short-answers-steps (now (s .args .scene)) (now (s .args .answers)) (now (s .args .work)) (s .pre .0) (omega (arith, c .if1 .taken, answers a))
 
 mul-if2 : tie.Need-mul-if2
-mul-if2 c = omega (arith, few (Known (c .before .before)))
+mul-if2 c = omega (arith, sized (Known (c .before .before)) .fewFluids, sized (Known (c .before .before)) .fewBoundaries)
 
 add-if2 : tie.Need-add-if2
-add-if2 c = omega (arith, few (Known (c .before .before .before)))
+add-if2 c = omega (arith, sized (Known (c .before .before .before)) .fewFluids, sized (Known (c .before .before .before)) .fewBoundaries)
 
 -- the answer list is long enough
 enough : (c : tie.Else1) → answersNeeded (now (Known (c .before) .before .args .scene)) ≤ length (now (Known (c .before) .before .args .answers))
@@ -78,14 +61,14 @@ returns-2 c =
     let e = c .before .before .before in
     let k = Known (e .before) in
     let s = k .before in
-    short-work-steps (now (s .args .scene)) (now (s .args .answers)) (now (s .args .work)) (s .pre .0) (enough e) (omega (arith, c .if2 .taken, needed k))
+    short-work-steps (now (s .args .scene)) (now (s .args .answers)) (now (s .args .work)) (s .pre .0) (enough e) (omega (arith, c .if2 .taken, sized k .needed))
 
 abbrev Long : tie.Else2 → tie.After-shared-slice-known
 Long c = Known (c .before .before .before .before)
 
 -- and so is the work list
 room : (c : tie.Else2) → workNeeded (now (Long c .before .args .scene)) ≤ length (now (Long c .before .args .work))
-room c = omega (arith, c .if2 .left, needed (Long c))
+room c = omega (arith, c .if2 .left, sized (Long c) .needed)
 
 slice-aggregate-fill : tie.Need-slice-aggregate-fill
 slice-aggregate-fill c = search needs
@@ -109,7 +92,7 @@ prepare-requires c κs =
     let f = c .before .before .before in
     let e = f .before .before in
     let k = Long e in
-    (index f, (k .before .pre .1, omega (arith, e .if2 .left, fluids k, boundaries k)))
+    (index f, (k .before .pre .1, omega (arith, e .if2 .left, sized k .fluids, sized k .boundaries)))
 
 enum-known-readiness : tie.Need-enum-known-readiness
 enum-known-readiness c = search needs

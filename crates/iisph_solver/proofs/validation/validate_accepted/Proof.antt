@@ -1,55 +1,36 @@
 -- `iisph_solver::validation::validate_accepted` meets its contract: a list that is too short is 8; else the index is filled and the passes prepare the list, which
 -- is then cleared. Assumes nothing.
-use Prim.Native.Nat.{ℕ, _+_, _*_, _≤_}
-use mathlib.Core.Path.{_≡_, sym, ap, _∙_}
+use Prim.Native.Nat.{ℕ, _≤_}
 use native.Mathlib.Omega.{arith}
 use denote.Ref.{now}
 use lib.ListN.{length, replicate, length-replicate}
 use borrow.Author.Needs.{needs}
 use Rattle.scene.specs.Accepted.{Bytes}
-use Rattle.scene.specs.Scene.{fluidSize, boundarySize}
-use Rattle.scene.specs.SceneOf.{sceneOf, workNeeded}
-use Rattle.scene.proofs.Records.{fluid-size-few, boundary-size-few}
-use Rattle.iisph_particles.specs.Index.{Indexed}
 use Rattle.iisph_particles.proofs.Indexes.{indexed}
-use Rattle.iisph_solver.proofs.Prepared.{fluids-total, boundaries-total, work-needed}
+use Rattle.iisph_solver.proofs.Prepared.{Sizes, sizes}
 use Rattle.iisph_solver.proofs.Validated.{short-validates, cleared-validates}
 use Rattle.iisph_solver.proofs.validation.validate_accepted.Statement.{statement}
 use Rattle.iisph_solver.proofs.validation.validate_accepted.Tie as tie
 
-module _ (c : tie.After-shared-slice-known) where
-  below : Bytes (now (c .before .args .scene))
-  below i = omega (arith, c .shared-slice-known .given i)
+below : (c : tie.After-shared-slice-known) → Bytes (now (c .before .args .scene))
+below c i = omega (arith, c .shared-slice-known .given i)
 
-  -- the layout's totals are the scene's sizes, which are few
-  fluids : c .before .args .layout .fluids .total ≡ fluidSize (sceneOf (now (c .before .args .scene)))
-  fluids = fluids-total (now (c .before .args .scene)) (c .before .pre .1)
-
-  boundaries : c .before .args .layout .boundaries .total ≡ boundarySize (sceneOf (now (c .before .args .scene)))
-  boundaries = boundaries-total (now (c .before .args .scene)) (c .before .pre .1)
-
-  few : (c .before .args .layout .fluids .total ≤ 32768) × (c .before .args .layout .boundaries .total ≤ 32768)
-  few = (
-    omega (arith, fluids, fluid-size-few (now (c .before .args .scene)) below (c .before .pre .0)),
-    omega (arith, boundaries, boundary-size-few (now (c .before .args .scene)) below (c .before .pre .0)),
-  )
-
-  needed : 14 * c .before .args .layout .fluids .total + c .before .args .layout .boundaries .total ≡ workNeeded (now (c .before .args .scene))
-  needed = work-needed (now (c .before .args .scene)) fluids boundaries
+sized : (c : tie.After-shared-slice-known) → Sizes (now (c .before .args .scene)) (c .before .args .layout)
+sized c = sizes _ (below c) (c .before .pre .0) (c .before .pre .1)
 
 long : (n : ℕ) → n ≤ length (replicate {A = ℕ} n 0)
 long n = omega (arith, length-replicate {A = ℕ} n 0)
 
 mul-needed : tie.Need-mul-needed
-mul-needed c = omega (arith, few (c .before .before))
+mul-needed c = omega (arith, sized (c .before .before) .fewFluids, sized (c .before .before) .fewBoundaries)
 
 add-needed : tie.Need-add-needed
-add-needed c = omega (arith, few (c .before .before .before))
+add-needed c = omega (arith, sized (c .before .before .before) .fewFluids, sized (c .before .before .before) .fewBoundaries)
 
 returns : tie.Need-returns
 returns c =
     let k = c .before .before .before .before in
-    short-validates (now (k .before .args .scene)) (now (k .before .args .work)) (k .before .pre .0) (omega (arith, c .if1 .taken, needed k))
+    short-validates (now (k .before .args .scene)) (now (k .before .args .work)) (k .before .pre .0) (omega (arith, c .if1 .taken, sized k .needed))
 
 slice-aggregate-fill : tie.Need-slice-aggregate-fill
 slice-aggregate-fill c = search needs
@@ -68,7 +49,7 @@ prepare-requires c κs =
     let e = f .before .before in
     let k = e .before .before .before .before in (
       rw (f .fill .ensures) (indexed (now (k .before .args .scene)) (below k) (k .before .pre .0) _ (long 98336)),
-      (k .before .pre .1, omega (arith, e .if1 .left, fluids k, boundaries k)),
+      (k .before .pre .1, omega (arith, e .if1 .left, sized k .fluids, sized k .boundaries)),
     )
 
 clear-requires : tie.Need-clear-requires
@@ -83,8 +64,8 @@ returns-2 c =
     let p = l .before .before .before .before in
     let e = p .before .before .before .before .before .before in
     let k = e .before .before .before .before in
-    cleared-validates (now (k .before .args .scene)) (now (k .before .args .work)) (k .before .pre .0) (omega (arith, e .if1 .left, needed k)) (p .prepare .ensures .0) (p .prepare .ensures .1)
-    (needed k) (l .clear .ensures)
+    cleared-validates (now (k .before .args .scene)) (now (k .before .args .work)) (k .before .pre .0) (omega (arith, e .if1 .left, sized k .needed)) (p .prepare .ensures .0) (p .prepare .ensures .1)
+    (sized k .needed) (l .clear .ensures)
 
 pub validate-accepted-spec : {M : Type 1} → statement M
 validate-accepted-spec =
