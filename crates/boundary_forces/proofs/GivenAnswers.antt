@@ -30,7 +30,7 @@ use Rattle.scene.proofs.Records.{boundary-particle-ok}
 use Rattle.iisph_rules.specs.Coefficients.{boundaryVolume}
 use Rattle.iisph_rules.proofs.EndToEnd.{length-rows}
 use Rattle.iisph_rules.proofs.Iterations.{chosen}
-use Rattle.iisph_particles.specs.Index.{Section, Indexed}
+use Rattle.iisph_particles.specs.Index.{boundaryRecordsAt, Section, Indexed}
 use Rattle.iisph_particles.proofs.Fills.{sets-append, Filling, none-stored, one-more-stored, all-stored}
 use Rattle.iisph_particles.proofs.Stores.{sets-in}
 use Rattle.iisph_particles.proofs.Targets.{section-place}
@@ -57,19 +57,19 @@ force-read b zero at e = absurd (omega arith)
 force-read b (suc k) at e = refl
 
 module _ {b index : List ℕ} (ix : Indexed b index) (j : ℕ) (h : j < boundarySize (sceneOf b)) (kept : boundary (sceneOf b) j .keepsForces ≡ true) where
-  record-here : getD index (65568 + j) 0 ≡ boundaryPlace b j .at
-  record-here = section-place (λ p. p .at) 65568 (boundaryPlaces b) (ix .boundaryAt) j (rw (boundary-size b) at h)
+  record-here : getD index (boundaryRecordsAt + j) 0 ≡ boundaryPlace b j .at
+  record-here = section-place (λ p. p .at) boundaryRecordsAt (boundaryPlaces b) (ix .boundaryAt) j (rw (boundary-size b) at h)
 
   keeps-one : keepsAt b (boundaryPlace b j .head) ≡ 1
   unfolding boundaryParticleAt
   keeps-one = eqb-true _ 1 (sym (ap (λ p. p .keepsForces) (boundary-at b j h)) ∙ kept)
 
-  pub force-finite : AllFinite b (getD index (65568 + j) 0 + 24) 3
+  pub force-finite : AllFinite b (getD index (boundaryRecordsAt + j) 0 + 24) 3
   force-finite =
       rw record-here
       (subst (λ (k : ℕ). AllFinite b (boundaryPlace b j .at + 24) (3 * k)) keeps-one (boundary-particle-ok b (ix .accepted) j h .own .force))
 
-  pub force-here : vectorAt 3 b (getD index (65568 + j) 0 + 24) ≡ boundary (sceneOf b) j .force
+  pub force-here : vectorAt 3 b (getD index (boundaryRecordsAt + j) 0 + 24) ≡ boundary (sceneOf b) j .force
   unfolding boundaryParticleAt
   force-here =
       ap (λ (at : ℕ). vectorAt 3 b (at + 24)) record-here

@@ -1,4 +1,5 @@
 // The answers of the boundary particles with the forces that the scene gives, boundary by boundary, and where the forces of each boundary begin.
+use iisph_particles::index::BOUNDARY_RECORDS;
 use iisph_particles::rows::put_vector;
 use scene::Models;
 use scene::read;
@@ -35,7 +36,7 @@ fn put_particle(
 {
     answers[at] = work[14 * n + j];
     if keeps == 1 {
-        let record = index[65568 + j];
+        let record = index[BOUNDARY_RECORDS + j];
         let force = read::vector(scene, record + 24);
         put_vector(answers, at + 1, force);
         return at + 4;

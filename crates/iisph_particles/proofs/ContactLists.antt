@@ -14,7 +14,7 @@ use Rattle.scene.specs.declared.Kind.{Kind}
 use Rattle.scene.specs.declared.Kind.the-variants.{Fluid, Boundary}
 use Rattle.scene.proofs.Places.{fluid-size}
 use Rattle.scene.proofs.Records.{fluid-particle-ok}
-use Rattle.iisph_particles.specs.Index.{Indexed}
+use Rattle.iisph_particles.specs.Index.{recordsAt, headsAt, Indexed}
 use Rattle.iisph_particles.specs.Passes.{startsOf, sizeOf, ContactsReady, contactListAt}
 use Rattle.iisph_particles.specs.declared.contacts.ContactList.{ContactList}
 use Rattle.iisph_particles.proofs.Targets.{section-place}
@@ -56,25 +56,25 @@ module _ {b index : List ℕ} (ix : Indexed b index) (i : ℕ) (h : i < fluidSiz
   pub contacts-are : {κ : Kind} {list : ContactList} → list ≡ contactListAt κ b (fluidPlace b i) → ContactsAre b κ (particle (sceneOf b) i) list
   contacts-are {κ} e = subst (ContactsAre b κ (particle (sceneOf b) i)) (sym e) (contacts-at κ (fluid-particle-ok b (ix .accepted) i h))
 
-  place-here : _≡_ {A = Place} (record { head = getD index (32800 + i) 0; at = getD index (32 + i) 0 }) (fluidPlace b i)
+  place-here : _≡_ {A = Place} (record { head = getD index (headsAt + i) 0; at = getD index (recordsAt + i) 0 }) (fluidPlace b i)
   place-here =
       let l = rw fluid-size at h in
       rw (
-        section-place (λ p. p .at) 32 (fluidPlaces b) (ix .recordAt) i l,
-        section-place (λ p. p .head) 32800 (fluidPlaces b) (ix .headAt) i l,
+        section-place (λ p. p .at) recordsAt (fluidPlaces b) (ix .recordAt) i l,
+        section-place (λ p. p .head) headsAt (fluidPlaces b) (ix .headAt) i l,
       )
 
   -- all that a step may use of the particle, at the index's entries
-  pub particle-here : FluidParticleOk b (record { head = getD index (32800 + i) 0; at = getD index (32 + i) 0 }) i
+  pub particle-here : FluidParticleOk b (record { head = getD index (headsAt + i) 0; at = getD index (recordsAt + i) 0 }) i
   particle-here = subst (λ p. FluidParticleOk b p i) (sym place-here) (fluid-particle-ok b (ix .accepted) i h)
 
-  module _ {κ : Kind} {d : Float} {f : ℕ} (de : d ≡ doubleAt b (getD index (32800 + i) 0 + 2)) (fe : f ≡ byteAt b (getD index (32 + i) 0 + 88)) where
+  module _ {κ : Kind} {d : Float} {f : ℕ} (de : d ≡ doubleAt b (getD index (headsAt + i) 0 + 2)) (fe : f ≡ byteAt b (getD index (recordsAt + i) 0 + 88)) where
     pub fluid-contacts : κ ≡ Fluid
-        → _≡_ {A = ContactList} (record { kind = κ; density0 = d; count = f; at = getD index (32 + i) 0 + 90 }) (contactListAt κ b (fluidPlace b i))
+        → _≡_ {A = ContactList} (record { kind = κ; density0 = d; count = f; at = getD index (recordsAt + i) 0 + 90 }) (contactListAt κ b (fluidPlace b i))
     unfolding contactListAt
     fluid-contacts e = rw (← place-here, e, de, fe)
 
-    pub boundary-contacts : {c : ℕ} → c ≡ byteAt b (getD index (32 + i) 0 + 89) → κ ≡ Boundary
-        → _≡_ {A = ContactList} (record { kind = κ; density0 = d; count = c; at = getD index (32 + i) 0 + 90 + 34 * f }) (contactListAt κ b (fluidPlace b i))
+    pub boundary-contacts : {c : ℕ} → c ≡ byteAt b (getD index (recordsAt + i) 0 + 89) → κ ≡ Boundary
+        → _≡_ {A = ContactList} (record { kind = κ; density0 = d; count = c; at = getD index (recordsAt + i) 0 + 90 + 34 * f }) (contactListAt κ b (fluidPlace b i))
     unfolding contactListAt
     boundary-contacts ce e = rw (← place-here, e, de, ce, fe)

@@ -1,17 +1,18 @@
 -- The models of an accepted scene by their kind, as the layout gives them, and the index that is filled from them: its five sections stand apart, so each
 -- holds what was stored there. Assumes nothing.
-use Prim.Native.Nat.{ℕ, _+_, _<_, _≤_}
+use Prim.Native.Nat.{ℕ, _+_, _*_, _/_, _%_, _<_, _≤_}
 use mathlib.Core.Path.{_≡_, refl, sym, ap, _∙_}
 use mathlib.Core.List.{List, map}
 use native.Mathlib.Omega.{arith}
 use lib.ListN.{length, getD, length-map, replicate}
 use lib.Seq.{sets, length-sets}
+use Rattle.math.proofs.Lists.{length-table, table-same}
 use Rattle.scene.specs.Accepted.{Bytes}
 use Rattle.scene.specs.Format.{iter, modelEnd, modelPlaces, headsFrom, fluidCounts, boundaryCounts, fluidPlaces, boundaryPlaces}
 use Rattle.scene.specs.Kinds.{kindOf, ModelWithin, ModelsWithin}
 use Rattle.scene.specs.Layout.{padded, modelsOf, layoutOf}
-use Rattle.scene.proofs.Filled.{padded-at, length-padded}
-use Rattle.scene.specs.SceneOf.{fluidStarts, boundaryStarts}
+use Rattle.scene.proofs.Filled.{padded-at}
+use Rattle.scene.specs.SceneOf.{startsFrom, sizeSum, fluidStarts, boundaryStarts}
 use Rattle.scene.specs.Walk.{checked}
 use Rattle.scene.specs.declared.Kind.{Kind}
 use Rattle.scene.specs.declared.Kind.the-variants.{Fluid, Boundary}
@@ -20,10 +21,10 @@ use Rattle.scene.specs.declared.Models.{Models}
 use Rattle.scene.specs.declared.Walk.the-variants.{At}
 use Rattle.scene.proofs.Accepted.{accepted}
 use Rattle.scene.proofs.Within.{fluid-models-within, boundary-models-within}
-use Rattle.scene.proofs.Numbering.{length-starts}
-use Rattle.scene.proofs.Places.{fluid-size, boundary-size, fluids-counted, boundaries-counted}
+use Rattle.scene.proofs.Numbering.{start-at-most}
+use Rattle.scene.proofs.Places.{fluid-size, boundary-size, fluid-places-sum, boundary-places-sum}
 use Rattle.scene.proofs.Records.{fluid-size-few, boundary-size-few}
-use Rattle.iisph_particles.specs.Index.{modelNumber, firstHead, modelsIn, placesIn, entryOf, indexLength, indexOf, Section, Indexed}
+use Rattle.iisph_particles.specs.Index.{fluidBasesAt, boundaryBasesAt, recordsAt, headsAt, boundaryRecordsAt, indexLength, modelNumber, firstHead, modelsIn, placesIn, baseOf, basesOf, entryOf, indexOf, Section, Indexed}
 use Rattle.iisph_particles.specs.declared.index.Entry.the-variants.{Offset, Head}
 use Rattle.iisph_particles.proofs.Fills.{table-copies, model-table, head-at}
 use Rattle.iisph_particles.proofs.Stores.{sets-in, sets-below}
@@ -67,6 +68,15 @@ pub heads-copied : (κ : Kind) (b : List ℕ) (head : ℕ) {n : ℕ} → n ≡ k
 unfolding entryOf
 heads-copied κ b head {n} e = sym (table-copies n head) ∙ model-table (kindOf κ) b (entryOf Head) head e
 
+-- beyond the last model the layout says 0, as a list does
+bases-padded : (starts : List ℕ) → basesOf (padded starts) ≡ basesOf starts
+unfolding basesOf baseOf
+bases-padded starts = table-same 256 _ _ (λ x h. ap (λ (s : ℕ). s + 256 * (x % 16)) (padded-at starts (x / 16)))
+
+-- a model starts at most at the number of all particles
+starts-few : (counts : List ℕ) {starts : List ℕ} → starts ≡ padded (startsFrom 0 counts) → sizeSum counts ≤ 32768 → (m : ℕ) → getD starts m 0 ≤ 32768
+starts-few counts is few m = rw (is, padded-at (startsFrom 0 counts) m) (omega (arith, start-at-most 0 counts m))
+
 module _ (b : List ℕ) where
   pub fluid-places-in : placesIn Fluid b ≡ fluidPlaces b
   unfolding modelNumber firstHead kindOf fluidPlaces
@@ -94,41 +104,42 @@ module _ (b : List ℕ) where
     boundary-starts-are = ap (λ (m : Layout). m .boundaries .starts) is
 
     -- the five sections, one after the other
-    pub all-filled : (l : List ℕ) {starts bothStarts records heads index : List ℕ}
-        → starts ≡ sets l 0 (layout .fluids .starts)
-        → bothStarts ≡ sets starts 16 (layout .boundaries .starts)
-        → records ≡ sets bothStarts 32 (map (entryOf Offset) (placesIn Fluid b))
-        → heads ≡ sets records 32800 (map (entryOf Head) (placesIn Fluid b))
-        → index ≡ sets heads 65568 (map (entryOf Offset) (placesIn Boundary b))
+    pub all-filled : (l : List ℕ) {bases bothBases records heads index : List ℕ}
+        → bases ≡ sets l fluidBasesAt (basesOf (layout .fluids .starts))
+        → bothBases ≡ sets bases boundaryBasesAt (basesOf (layout .boundaries .starts))
+        → records ≡ sets bothBases recordsAt (map (entryOf Offset) (placesIn Fluid b))
+        → heads ≡ sets records headsAt (map (entryOf Head) (placesIn Fluid b))
+        → index ≡ sets heads boundaryRecordsAt (map (entryOf Offset) (placesIn Boundary b))
         → index ≡ indexOf b l
     unfolding entryOf indexOf
-    all-filled l p q r s t = rw (t, s, r, q, p, fluid-starts-are, boundary-starts-are, fluid-places-in, boundary-places-in)
+    all-filled l p q r s t =
+        rw (t, s, r, q, p, fluid-starts-are, boundary-starts-are, bases-padded (fluidStarts b), bases-padded (boundaryStarts b), fluid-places-in, boundary-places-in)
 
 -- ---- what the index holds
 
 section-here : (k : ℕ) (xs l : List ℕ) → k + length xs ≤ length l → Section k xs (sets l k xs)
 section-here k xs l room = record { holds = λ i h. sets-in 0 xs l k i room h }
 
+length-bases : (starts : List ℕ) → length (basesOf starts) ≡ 256
+unfolding basesOf
+length-bases starts = length-table 256 (baseOf starts)
+
 section-kept : (k : ℕ) {xs l : List ℕ} (k′ : ℕ) (ys : List ℕ) → k + length xs ≤ k′ → Section k xs l → Section k xs (sets l k′ ys)
 section-kept k {l = l} k′ ys apart s = record { holds = λ i h. sets-below 0 ys l k′ (k + i) (omega arith) ∙ s .holds i h }
 
--- of 16 entries those that are there
-section-front : (k : ℕ) (xs : List ℕ) {l : List ℕ} → length xs ≤ 16 → Section k (padded xs) l → Section k xs l
-section-front k xs few s =
-    record { holds = λ i h. s .holds i (omega (arith, length-padded xs few)) ∙ padded-at xs i }
-
 module _ (b : List ℕ) (bytes : Bytes b) (q : checked b ≡ At (length b)) where
-  few-fluids : length (fluidStarts b) ≤ 8
-  few-fluids = omega (arith, length-starts 0 (fluidCounts b), fluids-counted b, accepted b q .fields .header .fluids)
-
-  few-boundaries : length (boundaryStarts b) ≤ 8
-  few-boundaries = omega (arith, length-starts 0 (boundaryCounts b), boundaries-counted b, accepted b q .fields .header .boundaries)
-
   pub few-fluid-places : length (fluidPlaces b) ≤ 32768
   few-fluid-places = rw (← fluid-size b) (fluid-size-few b bytes q)
 
   pub few-boundary-places : length (boundaryPlaces b) ≤ 32768
   few-boundary-places = rw (← boundary-size b) (boundary-size-few b bytes q)
+
+  module _ {layout : Layout} (is : layout ≡ layoutOf b) where
+    pub fluid-starts-few : (m : ℕ) → getD (layout .fluids .starts) m 0 ≤ 32768
+    fluid-starts-few = starts-few (fluidCounts b) (fluid-starts-are b is) (omega (arith, fluid-places-sum b, few-fluid-places))
+
+    pub boundary-starts-few : (m : ℕ) → getD (layout .boundaries .starts) m 0 ≤ 32768
+    boundary-starts-few = starts-few (boundaryCounts b) (boundary-starts-are b is) (omega (arith, boundary-places-sum b, few-boundary-places))
 
   module _ (l : List ℕ) (room : indexLength ≤ length l) where
     length-index : length (indexOf b l) ≡ length l
@@ -138,41 +149,42 @@ module _ (b : List ℕ) (bytes : Bytes b) (q : checked b ≡ At (length b)) wher
     pub indexed : Indexed b (indexOf b l)
     unfolding indexOf
     indexed =
-        let fluids = padded (fluidStarts b) in
-        let boundaries = padded (boundaryStarts b) in
+        let fluids = basesOf (fluidStarts b) in
+        let boundaries = basesOf (boundaryStarts b) in
         let at = map (λ p. p .at) (fluidPlaces b) in
         let head = map (λ p. p .head) (fluidPlaces b) in
         let boundaryAt = map (λ p. p .at) (boundaryPlaces b) in
-        let l₁ = sets l 0 fluids in
-        let l₂ = sets l₁ 16 boundaries in
-        let l₃ = sets l₂ 32 at in
-        let l₄ = sets l₃ 32800 head in
+        let l₁ = sets l fluidBasesAt fluids in
+        let l₂ = sets l₁ boundaryBasesAt boundaries in
+        let l₃ = sets l₂ recordsAt at in
+        let l₄ = sets l₃ headsAt head in
         -- how long each is
-        let of-fluids : length fluids ≡ 16 = length-padded (fluidStarts b) (omega (arith, few-fluids)) in
-        let of-boundaries : length boundaries ≡ 16 = length-padded (boundaryStarts b) (omega (arith, few-boundaries)) in
+        let of-fluids : length fluids ≡ 256 = length-bases (fluidStarts b) in
+        let of-boundaries : length boundaries ≡ 256 = length-bases (boundaryStarts b) in
         let of-at : length at ≤ 32768 = rw length-map few-fluid-places in
         let of-head : length head ≤ 32768 = rw length-map few-fluid-places in
         let of-boundary : length boundaryAt ≤ 32768 = rw length-map few-boundary-places in
-        let of-1 : length l₁ ≡ length l = length-sets l 0 fluids in
-        let of-2 : length l₂ ≡ length l = length-sets l₁ 16 boundaries ∙ of-1 in
-        let of-3 : length l₃ ≡ length l = length-sets l₂ 32 at ∙ of-2 in
-        let of-4 : length l₄ ≡ length l = length-sets l₃ 32800 head ∙ of-3 in
+        let of-1 : length l₁ ≡ length l = length-sets l fluidBasesAt fluids in
+        let of-2 : length l₂ ≡ length l = length-sets l₁ boundaryBasesAt boundaries ∙ of-1 in
+        let of-3 : length l₃ ≡ length l = length-sets l₂ recordsAt at ∙ of-2 in
+        let of-4 : length l₄ ≡ length l = length-sets l₃ headsAt head ∙ of-3 in
         record {
           accepted = q;
           room = rw length-index room;
           fluidFew = fluid-size-few b bytes q;
           boundaryFew = boundary-size-few b bytes q;
-          fluidStart =
-              section-front 0 (fluidStarts b) (omega (arith, few-fluids))
-              (section-kept 0 65568 boundaryAt (omega arith)
-              (section-kept 0 32800 head (omega arith)
-              (section-kept 0 32 at (omega arith) (section-kept 0 16 boundaries (omega arith) (section-here 0 fluids l (omega arith))))));
-          boundaryStart =
-              section-front 16 (boundaryStarts b) (omega (arith, few-boundaries))
-              (section-kept 16 65568 boundaryAt (omega arith)
-              (section-kept 16 32800 head (omega arith) (section-kept 16 32 at (omega arith) (section-here 16 boundaries l₁ (omega arith)))));
+          fluidBase =
+              section-kept fluidBasesAt boundaryRecordsAt boundaryAt (omega arith)
+              (section-kept fluidBasesAt headsAt head (omega arith)
+              (section-kept fluidBasesAt recordsAt at (omega arith)
+              (section-kept fluidBasesAt boundaryBasesAt boundaries (omega arith) (section-here fluidBasesAt fluids l (omega arith)))));
+          boundaryBase =
+              section-kept boundaryBasesAt boundaryRecordsAt boundaryAt (omega arith)
+              (section-kept boundaryBasesAt headsAt head (omega arith)
+              (section-kept boundaryBasesAt recordsAt at (omega arith) (section-here boundaryBasesAt boundaries l₁ (omega arith))));
           recordAt =
-              section-kept 32 65568 boundaryAt (omega arith) (section-kept 32 32800 head (omega arith) (section-here 32 at l₂ (omega arith)));
-          headAt = section-kept 32800 65568 boundaryAt (omega arith) (section-here 32800 head l₃ (omega arith));
-          boundaryAt = section-here 65568 boundaryAt l₄ (omega arith);
+              section-kept recordsAt boundaryRecordsAt boundaryAt (omega arith)
+              (section-kept recordsAt headsAt head (omega arith) (section-here recordsAt at l₂ (omega arith)));
+          headAt = section-kept headsAt boundaryRecordsAt boundaryAt (omega arith) (section-here headsAt head l₃ (omega arith));
+          boundaryAt = section-here boundaryRecordsAt boundaryAt l₄ (omega arith);
         }

@@ -1,9 +1,9 @@
 -- What a pass reads of a contact: its target through the index, and the target's mass, velocity and volume in the work list that it finds. Each is the one field of
 -- Indexed or Prepared that says it, taken at the target. Assumes nothing.
-use Prim.Native.Nat.{ℕ, _+_, _*_, _<_, _≤_}
+use Prim.Native.Nat.{ℕ, _+_, _*_, _/_, _%_, _<_, _≤_}
 use mathlib.Core.Path.{_≡_, refl, sym, ap, _∙_}
 use mathlib.Core.List.{List, [], _∷_, map}
-use native.Mathlib.Nat.{zero-add, add-zero, add-assoc}
+use native.Mathlib.Nat.{add-zero, add-assoc}
 use native.Mathlib.Omega.{arith}
 use lib.ListN.{length, getD, length-map}
 use lib.Seq.{ext-getD}
@@ -11,51 +11,53 @@ use lib.Ieee.{Float, nan}
 use Rattle.math.specs.Real.{_⊗_}
 use Rattle.math.proofs.Lists.{length-table, table-at}
 use Rattle.scene.specs.Accepted.{AllFinite}
-use Rattle.scene.specs.Bytes.{vectorAt, FiniteAt}
-use Rattle.scene.specs.Format.{modelAt, Place, noPlace, boundaryPlaces, boundaryPlace}
-use Rattle.scene.specs.Layout.{NameIs}
+use Rattle.scene.specs.Bytes.{byteAt, vectorAt, FiniteAt}
+use Rattle.scene.specs.Format.{Place, noPlace, boundaryPlaces, boundaryPlace}
 use Rattle.scene.specs.Scene.{Scene, fluidSize, boundarySize, particle, boundary}
 use Rattle.scene.specs.SceneOf.{targetAt, contactAt, boundaryParticleAt, sceneOf}
 use Rattle.scene.specs.declared.Kind.{Kind}
 use Rattle.scene.specs.declared.Kind.the-variants.{Fluid, Boundary}
-use Rattle.scene.specs.declared.ContactName.{ContactName}
 use Rattle.scene.proofs.Numbering.{getD-map}
 use Rattle.scene.proofs.Places.{boundary-size}
 use Rattle.scene.proofs.Records.{boundary-particle-ok}
 use Rattle.iisph_rules.specs.Coefficients.{boundaryVolume, particleMass, fluidMass, boundaryMass, advectedVelocity}
-use Rattle.iisph_particles.specs.Index.{Section, Indexed}
+use Rattle.iisph_particles.specs.Index.{boundaryRecordsAt, baseOf, basesOf, Section, Indexed}
 use Rattle.iisph_particles.specs.Passes.{startsOf, sizeOf, massOf, velocityOf, ContactReady, Prepared, volumes}
 use Rattle.iisph_particles.specs.WorkList.{elements, Rows, Part}
 use Rattle.iisph_rules.proofs.Sizes.{length-advected}
 
 -- ---- targets
 
-section-target : (k : ℕ) {starts index : List ℕ} (b : List ℕ) (at : ℕ) {r : ContactName} → Section k starts index → modelAt b at < length starts → NameIs b at r
-    → getD index (k + r .model .0) 0 + r .particle .0 ≡ targetAt starts b at
-unfolding targetAt
-section-target k b at s h name = rw (name .model, name .particle, s .holds (modelAt b at) h)
+size-few : {b index : List ℕ} → Indexed b index → (κ : Kind) → sizeOf κ (sceneOf b) ≤ 32768
+unfolding sizeOf
+size-few ix Fluid = ix .fluidFew
+size-few ix Boundary = ix .boundaryFew
 
-module _ {b index : List ℕ} (ix : Indexed b index) {κ : Kind} {at : ℕ} (ready : ContactReady κ b at) where
-  module _ {r : ContactName} (name : NameIs b at r) where
-    pub fluid-target : κ ≡ Fluid → getD index (r .model .0) 0 + r .particle .0 ≡ targetAt (startsOf κ b) b at
+-- the two bytes of a name
+name-split : (x y : ℕ) → y < 256 → (x / 16 ≡ (x * 256 + y) / 4096) × (256 * (x % 16) + y ≡ (x * 256 + y) % 4096)
+name-split x y h = (omega arith, omega arith)
+
+section-target : (k : ℕ) (starts : List ℕ) {index : List ℕ} (b : List ℕ) (at : ℕ) {x y : ℕ} → Section k (basesOf starts) index
+    → (x ≡ byteAt b at) × (x < 256) → (y ≡ byteAt b (at + 1)) × (y < 256) → getD index (k + x) 0 + y ≡ targetAt starts b at
+unfolding targetAt basesOf baseOf
+section-target k starts {index} b at {x} {y} s first second =
+    let split = name-split x y (second .1) in
+    let held : getD index (k + x) 0 ≡ getD starts (x / 16) 0 + 256 * (x % 16) =
+        s .holds x (rw (length-table 256 (baseOf starts)) (first .1)) ∙ table-at 256 (baseOf starts) x 0 (first .1) in
+    rw (← first .0, ← second .0, ← split .0, ← split .1, held) (add-assoc _ _ y)
+
+module _ {b index : List ℕ} (ix : Indexed b index) (κ : Kind) (at : ℕ) where
+  module _ {x y : ℕ} (first : (x ≡ byteAt b at) × (x < 256)) (second : (y ≡ byteAt b (at + 1)) × (y < 256)) where
+    pub fluid-target : κ ≡ Fluid → getD index (0 + x) 0 + y ≡ targetAt (startsOf κ b) b at
     unfolding startsOf
-    fluid-target e =
-        let h = rw e at (ready .target .model) in
-        rw (e, ← zero-add (r .model .0)) (section-target 0 b at (ix .fluidStart) h name)
+    fluid-target e = rw e (section-target 0 _ b at (ix .fluidBase) first second)
 
-    pub boundary-target : κ ≡ Boundary → getD index (16 + r .model .0) 0 + r .particle .0 ≡ targetAt (startsOf κ b) b at
+    pub boundary-target : κ ≡ Boundary → getD index (256 + x) 0 + y ≡ targetAt (startsOf κ b) b at
     unfolding startsOf
-    boundary-target e =
-        let h = rw e at (ready .target .model) in
-        rw e (section-target 16 b at (ix .boundaryStart) h name)
+    boundary-target e = rw e (section-target 256 _ b at (ix .boundaryBase) first second)
 
-  size-few : (κ′ : Kind) → sizeOf κ′ (sceneOf b) ≤ 32768
-  unfolding sizeOf
-  size-few Fluid = ix .fluidFew
-  size-few Boundary = ix .boundaryFew
-
-  pub target-few : targetAt (startsOf κ b) b at < 32768
-  target-few = omega (arith, size-few κ, ready .target .below)
+  pub target-few : ContactReady κ b at → targetAt (startsOf κ b) b at < 32768
+  target-few ready = omega (arith, size-few ix κ, ready .target .below)
 
 -- the number j that a contact of each kind names is one of the scene's
 module _ {κ : Kind} {b : List ℕ} {at j : ℕ} (ready : ContactReady κ b at) (named : j ≡ targetAt (startsOf κ b) b at) where
@@ -105,13 +107,13 @@ pub section-place : (g : Place → ℕ) (k : ℕ) {index : List ℕ} (ps : List 
 section-place g k ps s i h = s .holds i (rw length-map h) ∙ getD-map g ps i noPlace 0 h
 
 module _ {b index : List ℕ} (ix : Indexed b index) (j : ℕ) (h : j < boundarySize (sceneOf b)) where
-  boundary-record : getD index (65568 + j) 0 ≡ boundaryPlace b j .at
-  boundary-record = section-place (λ p. p .at) 65568 (boundaryPlaces b) (ix .boundaryAt) j (rw boundary-size at h)
+  boundary-record : getD index (boundaryRecordsAt + j) 0 ≡ boundaryPlace b j .at
+  boundary-record = section-place (λ p. p .at) boundaryRecordsAt (boundaryPlaces b) (ix .boundaryAt) j (rw boundary-size at h)
 
-  pub boundary-velocity-finite : AllFinite b (getD index (65568 + j) 0) 3
+  pub boundary-velocity-finite : AllFinite b (getD index (boundaryRecordsAt + j) 0) 3
   boundary-velocity-finite = rw boundary-record (boundary-particle-ok b (ix .accepted) j h .own .velocity)
 
-  boundary-velocity-at : vectorAt 3 b (getD index (65568 + j) 0) ≡ boundary (sceneOf b) j .velocity
+  boundary-velocity-at : vectorAt 3 b (getD index (boundaryRecordsAt + j) 0) ≡ boundary (sceneOf b) j .velocity
   unfolding boundaryParticleAt
   boundary-velocity-at = rw (boundary-record, boundary-particle-ok b (ix .accepted) j h .boundary)
 
@@ -141,6 +143,6 @@ module _ {κ : Kind} {b : List ℕ} {at j : ℕ} (ready : ContactReady κ b at) 
       advected-at p j (omega arith) (length-advected b j h) ∙ rw (named, e)
 
   pub boundary-velocity : {index : List ℕ} → Indexed b index → κ ≡ Boundary
-      → vectorAt 3 b (getD index (65568 + j) 0) ≡ velocityOf κ (sceneOf b) (contactAt (startsOf κ b) b at)
+      → vectorAt 3 b (getD index (boundaryRecordsAt + j) 0) ≡ velocityOf κ (sceneOf b) (contactAt (startsOf κ b) b at)
   unfolding velocityOf contactAt
   boundary-velocity ix e = boundary-velocity-at ix j (boundary-named ready named e) ∙ rw (named, e)

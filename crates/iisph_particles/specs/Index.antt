@@ -1,13 +1,14 @@
 -- The index of an accepted packed scene: where each record stands, in one lent list with a section for each question. Records have varying lengths and contacts
 -- name them at random, so offsets are found once. Definitions only.
-use Prim.Native.Nat.{ℕ, _+_, _≤_, _<_}
+use Prim.Native.Nat.{ℕ, _+_, _*_, _/_, _%_, _≤_, _<_}
 use mathlib.Core.Path.{_≡_}
 use mathlib.Core.List.{List, map}
 use lib.ListN.{length, getD}
 use lib.Seq.{sets}
+use Rattle.math.specs.Lists.{table}
 use Rattle.scene.specs.Format.{axes, headerWidth, fluidsOf, boundariesOf, Place, placesFrom, boundariesStart, fluidPlaces, boundaryPlaces}
 use Rattle.scene.specs.Kinds.{kindOf}
-use Rattle.scene.specs.Layout.{padded, modelsOf}
+use Rattle.scene.specs.Layout.{modelsOf}
 use Rattle.scene.specs.Scene.{fluidSize, boundarySize}
 use Rattle.scene.specs.SceneOf.{fluidStarts, boundaryStarts, sceneOf}
 use Rattle.scene.specs.Walk.{checked}
@@ -18,25 +19,25 @@ use Rattle.scene.specs.declared.Walk.the-variants.{At}
 use Rattle.iisph_particles.specs.declared.index.Entry.{Entry}
 use Rattle.iisph_particles.specs.declared.index.Entry.the-variants.{Offset, Head}
 
--- ---- sections: 16 for a model number of four bits, 32,768 for the particles of 8 models
+-- ---- sections: 256 for the first byte of a contact's name, 32,768 for the particles of 8 models
 
-abbrev pub fluidStartsAt : ℕ
-fluidStartsAt = 0
+abbrev pub fluidBasesAt : ℕ
+fluidBasesAt = 0
 
-abbrev pub boundaryStartsAt : ℕ
-boundaryStartsAt = 16
+abbrev pub boundaryBasesAt : ℕ
+boundaryBasesAt = 256
 
 abbrev pub recordsAt : ℕ
-recordsAt = 32
+recordsAt = 512
 
 abbrev pub headsAt : ℕ
-headsAt = 32800
+headsAt = 33280
 
 abbrev pub boundaryRecordsAt : ℕ
-boundaryRecordsAt = 65568
+boundaryRecordsAt = 66048
 
 abbrev pub indexLength : ℕ
-indexLength = 98336
+indexLength = 98816
 
 -- ---- the models of a kind
 
@@ -58,6 +59,14 @@ placesIn κ b = placesFrom (kindOf κ) b (modelNumber κ b) (firstHead κ b)
 
 -- ---- the index
 
+-- the first byte of a contact's name holds the model's number and the upper four bits of the particle's, the second the lower eight. `starts` has the number of each
+-- model's first particle; the base of a first byte is that of the first particle with such a name, so a target is a base and a byte
+unfoldable pub baseOf : List ℕ → ℕ → ℕ
+baseOf starts x = getD starts (x / 16) 0 + 256 * (x % 16)
+
+unfoldable pub basesOf : List ℕ → List ℕ
+basesOf starts = table 256 (baseOf starts)
+
 -- what is held of a record
 unfoldable pub entryOf : Entry → Place → ℕ
 entryOf Offset p = p .at
@@ -66,8 +75,8 @@ entryOf Head p = p .head
 -- the lent list with the five sections set, all else as before
 unfoldable pub indexOf : List ℕ → List ℕ → List ℕ
 indexOf b l =
-    let starts = sets (sets l fluidStartsAt (padded (fluidStarts b))) boundaryStartsAt (padded (boundaryStarts b)) in
-    let records = sets starts recordsAt (map (λ p. p .at) (fluidPlaces b)) in
+    let bases = sets (sets l fluidBasesAt (basesOf (fluidStarts b))) boundaryBasesAt (basesOf (boundaryStarts b)) in
+    let records = sets bases recordsAt (map (λ p. p .at) (fluidPlaces b)) in
     let heads = sets records headsAt (map (λ p. p .head) (fluidPlaces b)) in
     sets heads boundaryRecordsAt (map (λ p. p .at) (boundaryPlaces b))
 
@@ -81,8 +90,8 @@ pub record Indexed (b index : List ℕ) : Type 0 where
   pub room : indexLength ≤ length index
   pub fluidFew : fluidSize (sceneOf b) ≤ 32768
   pub boundaryFew : boundarySize (sceneOf b) ≤ 32768
-  pub fluidStart : Section fluidStartsAt (fluidStarts b) index
-  pub boundaryStart : Section boundaryStartsAt (boundaryStarts b) index
+  pub fluidBase : Section fluidBasesAt (basesOf (fluidStarts b)) index
+  pub boundaryBase : Section boundaryBasesAt (basesOf (boundaryStarts b)) index
   pub recordAt : Section recordsAt (map (λ p. p .at) (fluidPlaces b)) index
   pub headAt : Section headsAt (map (λ p. p .head) (fluidPlaces b)) index
   pub boundaryAt : Section boundaryRecordsAt (map (λ p. p .at) (boundaryPlaces b)) index

@@ -1,5 +1,10 @@
 // The contacts of a fluid particle, kind by kind, and what a contact names: the particle's number among all of its kind, its mass and its velocity (document 01's m_j
 // and v_j).
+use crate::index::BOUNDARY_BASES;
+use crate::index::BOUNDARY_RECORDS;
+use crate::index::FLUID_BASES;
+use crate::index::HEADS;
+use crate::index::RECORDS;
 use crate::rows::vector_at;
 use math::Vec3;
 use scene::Kind;
@@ -27,8 +32,8 @@ pub fn contacts_of(scene: &[u8], index: &[usize], kind: Kind, i: usize) -> Conta
     requires { ⌜ i < fluidSize (sceneOf (now scene)) ⌝ }
     ensures { λ r. ⌜ r ≡ contactListAt kind (now (scene .entry)) (fluidPlace (now (scene .entry)) i) ⌝ }
 {
-    let at = index[32 + i];
-    let head = index[32800 + i];
+    let at = index[RECORDS + i];
+    let head = index[HEADS + i];
     let density0 = read::double(scene, head + 2);
     let fluids = read::byte(scene, at + 88);
     match kind {
@@ -50,17 +55,17 @@ pub fn contacts_of(scene: &[u8], index: &[usize], kind: Kind, i: usize) -> Conta
     }
 }
 
+// The number, among all of its kind, of the particle that the contact at an offset names.
 pub fn target_of(scene: &[u8], index: &[usize], kind: Kind, at: usize) -> usize
     requires { ⌜ Indexed (now scene) (now index) ⌝ }
     requires { ⌜ ContactReady kind (now scene) at ⌝ }
     ensures { λ r. ⌜ r ≡ targetAt (startsOf kind (now (scene .entry))) (now (scene .entry)) at ⌝ }
 {
-    let name = read::contact_name(scene, at);
-    let model = name.model.0;
-    let particle = name.particle.0;
+    let first = read::byte(scene, at);
+    let second = read::byte(scene, at + 1);
     match kind {
-        Kind::Fluid => index[model] + particle,
-        Kind::Boundary => index[16 + model] + particle,
+        Kind::Fluid => index[FLUID_BASES + first] + second,
+        Kind::Boundary => index[BOUNDARY_BASES + first] + second,
     }
 }
 
@@ -104,7 +109,7 @@ pub fn velocity(
     match kind {
         Kind::Fluid => vector_at(work, 14 * j + 7),
         Kind::Boundary => {
-            let record = index[65568 + j];
+            let record = index[BOUNDARY_RECORDS + j];
             read::vector(scene, record)
         }
     }

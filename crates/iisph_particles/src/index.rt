@@ -1,4 +1,4 @@
-// The index of an accepted scene, filled into a lent list: where each model starts, and where each record and its model's head stand.
+// The index of an accepted scene, filled into a lent list: the bases of contacts' names, and where each record and its model's head stand.
 use scene::Kind;
 use scene::Layout;
 use scene::Models;
@@ -8,14 +8,27 @@ use scene::read::next_record;
 use scene::read::particles;
 ghost use mathlib.Core.Path.{_≡_};
 ghost use mathlib.Core.List.{map};
-ghost use Prim.Native.Nat.{_+_, _≤_};
-ghost use lib.ListN.{length, replicate};
+ghost use Prim.Native.Nat.{ℕ, _+_, _≤_};
+ghost use lib.ListN.{length, getD, replicate};
 ghost use lib.Seq.{sets};
 ghost use Rattle.scene.specs.Format.{modelPlaces};
 ghost use Rattle.scene.specs.Kinds.{kindOf, ModelWithin};
 ghost use Rattle.scene.specs.Layout.{layoutOf};
 ghost use Rattle.scene.specs.Walk as walk;
-ghost use Rattle.iisph_particles.specs.Index.{entryOf, modelsIn, placesIn, indexLength, indexOf};
+ghost use Rattle.iisph_particles.specs.Index.{basesOf, entryOf, modelsIn, placesIn, indexLength, indexOf};
+
+// Where the sections begin, and how long the index is.
+pub const FLUID_BASES: usize = 0;
+
+pub const BOUNDARY_BASES: usize = 256;
+
+pub const RECORDS: usize = 512;
+
+pub const HEADS: usize = 33280;
+
+pub const BOUNDARY_RECORDS: usize = 66048;
+
+pub const INDEX_LENGTH: usize = 98816;
 
 // What the index holds of each record.
 enum Entry {
@@ -25,15 +38,16 @@ enum Entry {
     Head,
 }
 
-// The starts of one kind, from element k on.
-fn fill_starts(starts: [usize; 16], k: usize, index: &mut [usize])
-    requires { ⌜ k + 16 ≤ length (now index) ⌝ }
-    ensures { λ r. ⌜ now (index .exit) ≡ sets (now (index .entry)) k starts ⌝ }
+// The bases of one kind, from element k on: of each first byte of a contact's name.
+fn fill_bases(starts: [usize; 16], k: usize, index: &mut [usize])
+    requires { ⌜ k + 256 ≤ length (now index) ⌝ }
+    requires { ⌜ ((m : ℕ) → getD starts m 0 ≤ 32768) ⌝ }
+    ensures { λ r. ⌜ now (index .exit) ≡ sets (now (index .entry)) k (basesOf starts) ⌝ }
 {
-    let mut i = 0;
-    while i < 16 {
-        index[k + i] = starts[i];
-        i += 1;
+    let mut x = 0;
+    while x < 256 {
+        index[k + x] = starts[x / 16] + 256 * (x % 16);
+        x += 1;
     }
 }
 
@@ -120,16 +134,16 @@ pub fn fill(scene: &[u8], layout: Layout, index: &mut [usize])
     let boundaries = layout.boundaries;
     let fluid_starts = fluids.starts;
     let boundary_starts = boundaries.starts;
-    fill_starts(fluid_starts, 0, index);
-    fill_starts(boundary_starts, 16, index);
-    fill_models(scene, Kind::Fluid, Entry::Offset, fluids, 32, index);
-    fill_models(scene, Kind::Fluid, Entry::Head, fluids, 32800, index);
+    fill_bases(fluid_starts, FLUID_BASES, index);
+    fill_bases(boundary_starts, BOUNDARY_BASES, index);
+    fill_models(scene, Kind::Fluid, Entry::Offset, fluids, RECORDS, index);
+    fill_models(scene, Kind::Fluid, Entry::Head, fluids, HEADS, index);
     fill_models(
         scene,
         Kind::Boundary,
         Entry::Offset,
         boundaries,
-        65568,
+        BOUNDARY_RECORDS,
         index,
     );
 }

@@ -1,4 +1,6 @@
 // What a pass takes of a fluid particle's own record: mass, velocity with its change before the pressures, and first pressure.
+use crate::index::HEADS;
+use crate::index::RECORDS;
 use math::Vec3;
 use scene::read;
 ghost use mathlib.Core.Path.{_≡_};
@@ -16,8 +18,8 @@ pub fn mass_of(scene: &[u8], index: &[usize], n: usize, i: usize) -> f64
     requires { ⌜ (n ≡ fluidSize (sceneOf (now scene))) × (i < n) ⌝ }
     ensures { λ r. ⌜ r ≡ particleMass (particle (sceneOf (now (scene .entry))) i) ⌝ }
 {
-    let at = index[32 + i];
-    let head = index[32800 + i];
+    let at = index[RECORDS + i];
+    let head = index[HEADS + i];
     read::double(scene, at + 72) * read::double(scene, head + 2)
 }
 
@@ -27,7 +29,7 @@ pub fn velocity_change_of(scene: &[u8], index: &[usize], n: usize, i: usize) -> 
     requires { ⌜ (n ≡ fluidSize (sceneOf (now scene))) × (i < n) ⌝ }
     ensures { λ r. ⌜ axes r ≡ velocityChange (sceneOf (now (scene .entry))) (particle (sceneOf (now (scene .entry))) i) ⌝ }
 {
-    let at = index[32 + i];
+    let at = index[RECORDS + i];
     let acceleration = read::vector(scene, at + 48).add(read::vector(scene, 28));
     let none = Vec3::zero();
     none.add(acceleration.scale(read::double(scene, 4)))
@@ -39,7 +41,7 @@ pub fn advected_of(scene: &[u8], index: &[usize], n: usize, i: usize) -> Vec3
     requires { ⌜ (n ≡ fluidSize (sceneOf (now scene))) × (i < n) ⌝ }
     ensures { λ r. ⌜ axes r ≡ advectedVelocity (sceneOf (now (scene .entry))) (particle (sceneOf (now (scene .entry))) i) ⌝ }
 {
-    let at = index[32 + i];
+    let at = index[RECORDS + i];
     let change = velocity_change_of(scene, index, n, i);
     read::vector(scene, at + 24).add(change)
 }
@@ -50,6 +52,6 @@ pub fn first_pressure(scene: &[u8], index: &[usize], n: usize, i: usize) -> f64
     requires { ⌜ (n ≡ fluidSize (sceneOf (now scene))) × (i < n) ⌝ }
     ensures { λ r. ⌜ r ≡ firstPressure (sceneOf (now (scene .entry))) i ⌝ }
 {
-    let at = index[32 + i];
+    let at = index[RECORDS + i];
     read::double(scene, at + 80) * 0.5
 }

@@ -25,7 +25,7 @@ use Rattle.scene.specs.declared.Walk.the-variants.{At}
 use Rattle.scene.proofs.Records.{fluid-size-few, boundary-size-few}
 use Rattle.scene.proofs.Places.{fluid-size, boundary-size, fluid-size-sum, boundary-size-sum}
 use Rattle.iisph_rules.specs.Coefficients.{Coefficients, coefficientsOf, coefficients}
-use Rattle.iisph_particles.specs.Index.{Indexed}
+use Rattle.iisph_particles.specs.Index.{recordsAt, Indexed}
 use Rattle.iisph_particles.specs.Passes.{coefficientRow, volumes}
 use Rattle.iisph_solver.specs.Prepare.{rowsFilled, prepared, workPrepared, readiness, zeroAnswer}
 use Rattle.iisph_particles.specs.Refusals.{column}
@@ -122,7 +122,7 @@ module _ (b : List ℕ) (l : List Float) (room : 14 * fluidSize (sceneOf b) + bo
 
   -- the index gives the offset of each particle's record
   offsets-same : {index : List ℕ} → Indexed b index → (x : Coefficients → Float) (i : ℕ) → i < length (map x (coefficients (sceneOf b)))
-      → getD index (32 + i) 0 ≡ fluidPlace b i .at
+      → getD index (recordsAt + i) 0 ≡ fluidPlace b i .at
   unfolding coefficients
   offsets-same ix x i m =
       let n = length-map (coefficients (sceneOf b)) x in
@@ -130,11 +130,11 @@ module _ (b : List ℕ) (l : List Float) (room : 14 * fluidSize (sceneOf b) + bo
 
   -- refusals 9 and 10 over the columns are the step's
   pub answer-made : {index : List ℕ} {n : ℕ} {z : List Float} {r : Readiness} → Indexed b index → n ≡ fluidSize (sceneOf b) → z ≡ prepared (sceneOf b) l
-      → ((report : Report) → r ≡ readiness (zeroAnswer (λ i. getD index (32 + i) 0) (column n 0 z) (column n 1 z) report))
+      → ((report : Report) → r ≡ readiness (zeroAnswer (λ i. getD index (recordsAt + i) 0) (column n 0 z) (column n 1 z) report))
       → r ≡ readiness (sceneAnswer (λ i. fluidPlace b i .at) (sceneOf b))
   unfolding sceneAnswer
   answer-made {index} {n} {z} {r} ix size e h =
-      let at : ℕ → ℕ = λ i. getD index (32 + i) 0 in
+      let at : ℕ → ℕ = λ i. getD index (recordsAt + i) 0 in
       let place : ℕ → ℕ = λ i. fluidPlace b i .at in
       let given = rw (size, e, columns .0, columns .1) at (h (reportOf (sceneOf b))) in
       given

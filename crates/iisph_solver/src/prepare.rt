@@ -3,6 +3,7 @@
 use crate::traverse::Pass;
 use crate::traverse::traverse;
 use iisph_particles::boundary_volumes::compute_boundary_volumes;
+use iisph_particles::index::RECORDS;
 use iisph_particles::refusals::Found;
 use iisph_particles::refusals::clear;
 use iisph_particles::refusals::first_zero;
@@ -16,7 +17,7 @@ ghost use Rattle.scene.specs.Layout.{layoutOf};
 ghost use Rattle.scene.specs.Scene.{fluidSize, boundarySize};
 ghost use Rattle.scene.specs.SceneOf.{sceneOf};
 ghost use Rattle.iisph_rules.specs.declared.Report.{Report};
-ghost use Rattle.iisph_particles.specs.Index.{Indexed, indexLength};
+ghost use Rattle.iisph_particles.specs.Index.{Indexed, indexLength, recordsAt};
 ghost use Rattle.iisph_particles.specs.Passes.{volumes};
 ghost use Rattle.iisph_solver.specs.Prepare.{rowsFilled, readiness, workPrepared, zeroAnswer};
 ghost use Rattle.iisph_particles.specs.Refusals.{column};
@@ -44,15 +45,15 @@ fn fill_rows(scene: &[u8], index: &[usize], n: usize, work: &mut [f64])
 // 9 looks at all densities before 10 looks at any predicted density; each gives the offset of the particle's record.
 fn zero_refusal(index: &[usize], n: usize, work: &[f64]) -> Readiness
     requires { ⌜ (indexLength ≤ length (now index)) × (n ≤ 32768) × (14 * n ≤ length (now work)) ⌝ }
-    ensures { λ r. ⌜ ((report : Report) → r ≡ readiness (zeroAnswer (λ i. getD (now (index .entry)) (32 + i) 0) (column n 0 (now (work .entry))) (column n 1 (now (work .entry))) report)) ⌝ }
+    ensures { λ r. ⌜ ((report : Report) → r ≡ readiness (zeroAnswer (λ i. getD (now (index .entry)) (recordsAt + i) 0) (column n 0 (now (work .entry))) (column n 1 (now (work .entry))) report)) ⌝ }
 {
     let density = first_zero(work, n, 0);
     match density {
-        Found::At(i) => Readiness::Refused(Refusal::ZeroDensity(index[32 + i])),
+        Found::At(i) => Readiness::Refused(Refusal::ZeroDensity(index[RECORDS + i])),
         Found::Nothing => {
             let predicted = first_zero(work, n, 1);
             match predicted {
-                Found::At(j) => Readiness::Refused(Refusal::ZeroPredictedDensity(index[32 + j])),
+                Found::At(j) => Readiness::Refused(Refusal::ZeroPredictedDensity(index[RECORDS + j])),
                 Found::Nothing => Readiness::Ready,
             }
         }

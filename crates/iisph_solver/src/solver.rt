@@ -7,6 +7,7 @@ use crate::solve::pressure_solve;
 use crate::traverse::Pass;
 use crate::traverse::traverse;
 use boundary_forces::boundary_answers;
+use iisph_particles::index::INDEX_LENGTH;
 use iisph_particles::index::fill;
 use iisph_particles::refusals::clear;
 use iisph_rules::Report;
@@ -75,7 +76,7 @@ fn finish(
     report(scene, solved)
 }
 
-// Of an accepted scene. The index of the records takes 768 KiB of stack.
+// Of an accepted scene. The index of the records takes 772 KiB of stack.
 fn step_accepted(scene: &[u8], layout: Layout, answers: &mut [f64], work: &mut [f64]) -> StepAnswer
     requires { ⌜ (checked (now scene) ≡ Walk.At (length (now scene))) × (layout ≡ layoutOf (now scene)) ⌝ }
     ensures { λ r. ⌜ Steps (now (scene .entry)) (now (answers .entry)) (now (work .entry)) r (now (answers .exit)) (now (work .exit)) ⌝ }
@@ -86,7 +87,7 @@ fn step_accepted(scene: &[u8], layout: Layout, answers: &mut [f64], work: &mut [
     if work.len() < 14 * layout.fluids.total + layout.boundaries.total {
         return StepAnswer::Refused(Refusal::ShortList);
     }
-    let mut index = [0usize; 98336];
+    let mut index = [0usize; INDEX_LENGTH];
     fill(scene, layout, &mut index);
     let readiness = prepare(scene, layout, &index, work);
     match readiness {

@@ -1,6 +1,7 @@
 // Whether a step would refuse a scene, found without solving it: refusals 1 to 7, 8 for the work list, 9 and 10.
 use crate::prepare::Readiness;
 use crate::prepare::prepare;
+use iisph_particles::index::INDEX_LENGTH;
 use iisph_particles::index::fill;
 use iisph_particles::refusals::clear;
 use scene::Layout;
@@ -22,7 +23,7 @@ fn validate_accepted(scene: &[u8], layout: Layout, work: &mut [f64]) -> Readines
     if work.len() < needed {
         return Readiness::Refused(Refusal::ShortList);
     }
-    let mut index = [0usize; 98336];
+    let mut index = [0usize; INDEX_LENGTH];
     fill(scene, layout, &mut index);
     let answer = prepare(scene, layout, &index, work);
     clear(work, needed);

@@ -53,6 +53,12 @@ start-below (n ∷ ns) zero j h k = omega arith
 start-below (n ∷ ns) (suc m) j h k =
     omega (arith, start-below ns m j (le-of-suc-le-suc h) k, starts-from (0 + n) ns m (le-of-suc-le-suc h))
 
+pub start-at-most : (a : ℕ) (ns : List ℕ) (m : ℕ) → getD (startsFrom a ns) m 0 ≤ a + sizeSum ns
+unfolding startsFrom sizeSum
+start-at-most a [] m = omega arith
+start-at-most a (n ∷ ns) zero = omega arith
+start-at-most a (n ∷ ns) (suc m) = omega (arith, start-at-most (a + n) ns m)
+
 -- a model starts where the one before it ends, and the last ends with the sum
 pub starts-next : (ns : List ℕ) (m : ℕ) → suc m < length ns → getD (startsFrom 0 ns) (suc m) 0 ≡ getD (startsFrom 0 ns) m 0 + getD ns m 0
 unfolding startsFrom

@@ -1,5 +1,6 @@
 // What a fluid particle itself brings to the terms of its contacts, and document 01's a of a boundary contact.
 use iisph_particles::contacts::target_of;
+use iisph_particles::index::HEADS;
 use math::Vec3;
 use scene::Kind;
 use scene::read;
@@ -41,7 +42,7 @@ pub fn own_of(scene: &[u8], index: &[usize], work: &[f64], n: usize, i: usize) -
     requires { ⌜ IterationReady (sceneOf (now scene)) (pressuresIn n (now work)) n (now work) ⌝ }
     ensures { λ r. ⌜ OwnIs (sceneOf (now (scene .entry))) (pressuresIn n (now (work .entry))) i r ⌝ }
 {
-    let head = index[32800 + i];
+    let head = index[HEADS + i];
     let density0 = read::double(scene, head + 2);
     let row = 14 * i;
     let rho = work[row];

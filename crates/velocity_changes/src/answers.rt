@@ -1,5 +1,6 @@
 // Velocities, positions and the answers of the fluid particles (update_velocities_and_positions).
 use crate::changes::final_change_of;
+use iisph_particles::index::RECORDS;
 use iisph_particles::rows::put_vector;
 use math::Vec3;
 use scene::read;
@@ -32,7 +33,7 @@ pub fn motion_of(scene: &[u8], index: &[usize], work: &[f64], n: usize, i: usize
 {
     let change = final_change_of(scene, index, work, n, i);
     let dt = read::double(scene, 4);
-    let at = index[32 + i];
+    let at = index[RECORDS + i];
     let before = read::vector(scene, at + 24);
     let velocity = before.add(change);
     let position = read::vector(scene, at).add(velocity.scale(dt));

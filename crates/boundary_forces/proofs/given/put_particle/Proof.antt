@@ -9,6 +9,7 @@ use denote.Ref.{now}
 use Rattle.scene.specs.Accepted.{AllFinite}
 use Rattle.scene.specs.Scene.{boundary}
 use Rattle.scene.specs.SceneOf.{sceneOf}
+use Rattle.iisph_particles.specs.Index.{boundaryRecordsAt}
 use Rattle.iisph_particles.proofs.Targets.{part-volume, vector-finite}
 use Rattle.boundary_forces.proofs.GivenAnswers.{kept-here, not-kept-here, width-some, force-finite, force-here, given-kept, given-not-kept}
 use Rattle.boundary_forces.proofs.Offsets.{width-kept, width-not-kept}
@@ -44,7 +45,7 @@ kept c = kept-here (Begin (c .before) .pre .1 .1 .0 .1) (c .if1 .taken)
 
 finite : (c : tie.After-shared-slice-known5)
     → let b = Begin (c .before .before) in
-    AllFinite (now (b .args .scene)) (getD (now (b .args .index)) (65568 + b .args .j) 0 + 24) 3
+    AllFinite (now (b .args .scene)) (getD (now (b .args .index)) (boundaryRecordsAt + b .args .j) 0 + 24) 3
 finite c =
     let b = Begin (c .before .before) in
     force-finite (b .pre .0) (b .args .j) (b .pre .1 .1 .0 .0) (kept (c .before))

@@ -5,6 +5,7 @@ use borrow.Author.Needs.{needs}
 use denote.Ref.{now}
 use lib.ListN.{getD}
 use Rattle.scene.specs.Accepted.{FluidParticleOk}
+use Rattle.iisph_particles.specs.Index.{recordsAt, headsAt}
 use Rattle.iisph_particles.proofs.ContactLists.{particle-here, fluid-contacts, boundary-contacts}
 use Rattle.iisph_particles.proofs.contacts.contacts_of.Statement.{statement}
 use Rattle.iisph_particles.proofs.contacts.contacts_of.Tie as tie
@@ -15,7 +16,7 @@ Begin c = c .before .before .before .before
 -- the particle's record
 here : (c : tie.After-shared-slice-known4)
     → let a = Begin c .args in
-    FluidParticleOk (now (a .scene)) (record { head = getD (now (a .index)) (32800 + a .i) 0; at = getD (now (a .index)) (32 + a .i) 0 }) (a .i)
+    FluidParticleOk (now (a .scene)) (record { head = getD (now (a .index)) (headsAt + a .i) 0; at = getD (now (a .index)) (recordsAt + a .i) 0 }) (a .i)
 here c = particle-here (Begin c .pre .0) _ (Begin c .pre .1)
 
 add-at : tie.Need-add-at

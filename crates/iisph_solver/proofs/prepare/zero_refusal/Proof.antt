@@ -7,6 +7,7 @@ use lib.ListN.{getD}
 use Rattle.math.proofs.Lists.{length-table}
 use Rattle.scene.specs.declared.Refusal.the-variants.{ZeroDensity, ZeroPredictedDensity}
 use Rattle.iisph_solver.specs.Prepare.{readiness}
+use Rattle.iisph_particles.specs.Index.{recordsAt}
 use Rattle.iisph_particles.specs.Refusals.{column, foundBelow}
 use Rattle.iisph_rules.specs.Step.{firstZero}
 use Rattle.iisph_rules.specs.declared.StepAnswer.the-variants.{Done}
@@ -80,7 +81,7 @@ returns c =
     let k = c .before in
     let a = Begin (k .before .before .before .before) .args in
     λ report.
-    sym (ap readiness (unless-found (λ i. getD (now (a .index)) (32 + i) 0) ZeroDensity (column (a .n) 0 (now (a .work))) _ (length-table (a .n) _) (found k)))
+    sym (ap readiness (unless-found (λ i. getD (now (a .index)) (recordsAt + i) 0) ZeroDensity (column (a .n) 0 (now (a .work))) _ (length-table (a .n) _) (found k)))
 
 returns-2 : tie.Need-returns-2
 unfolding readiness
@@ -90,8 +91,8 @@ returns-2 c =
     let a = Begin (p .before .before .before) .args in
     λ report.
     sym (ap readiness
-    (unless-nothing (λ i. getD (now (a .index)) (32 + i) 0) ZeroDensity (column (a .n) 0 (now (a .work))) _ (length-table (a .n) _) (nothing p)
-    ∙ unless-found (λ i. getD (now (a .index)) (32 + i) 0) ZeroPredictedDensity (column (a .n) 1 (now (a .work))) _ (length-table (a .n) _) (found-2 k)))
+    (unless-nothing (λ i. getD (now (a .index)) (recordsAt + i) 0) ZeroDensity (column (a .n) 0 (now (a .work))) _ (length-table (a .n) _) (nothing p)
+    ∙ unless-found (λ i. getD (now (a .index)) (recordsAt + i) 0) ZeroPredictedDensity (column (a .n) 1 (now (a .work))) _ (length-table (a .n) _) (found-2 k)))
 
 returns-3 : tie.Need-returns-3
 unfolding readiness
@@ -100,8 +101,8 @@ returns-3 c =
     let a = Begin (p .before .before .before) .args in
     λ report.
     sym (ap readiness
-    (unless-nothing (λ i. getD (now (a .index)) (32 + i) 0) ZeroDensity (column (a .n) 0 (now (a .work))) _ (length-table (a .n) _) (nothing p)
-    ∙ unless-nothing (λ i. getD (now (a .index)) (32 + i) 0) ZeroPredictedDensity (column (a .n) 1 (now (a .work))) (Done report) (length-table (a .n) _) (nothing-2 c)))
+    (unless-nothing (λ i. getD (now (a .index)) (recordsAt + i) 0) ZeroDensity (column (a .n) 0 (now (a .work))) _ (length-table (a .n) _) (nothing p)
+    ∙ unless-nothing (λ i. getD (now (a .index)) (recordsAt + i) 0) ZeroPredictedDensity (column (a .n) 1 (now (a .work))) (Done report) (length-table (a .n) _) (nothing-2 c)))
 
 pub zero-refusal-spec : {M : Type 1} → statement M
 zero-refusal-spec =

@@ -9,7 +9,7 @@ use borrow.Author.Needs.{needs}
 use Rattle.scene.specs.Accepted.{Bytes}
 use Rattle.scene.specs.SceneOf.{answersNeeded, workNeeded}
 use Rattle.scene.proofs.Accepted.{accepted}
-use Rattle.iisph_particles.specs.Index.{Indexed}
+use Rattle.iisph_particles.specs.Index.{indexLength, Indexed}
 use Rattle.iisph_particles.proofs.Indexes.{indexed}
 use Rattle.iisph_solver.specs.Prepare.{workPrepared}
 use Rattle.iisph_solver.specs.declared.prepare.Readiness.{Readiness}
@@ -76,7 +76,7 @@ slice-aggregate-fill c = search needs
 fill-requires : tie.Need-fill-requires
 fill-requires c κs =
     let p = Long (c .before) .before .pre in
-    (p .0, (p .1, long 98336))
+    (p .0, (p .1, long indexLength))
 
 slice-aggregate-prepare : tie.Need-slice-aggregate-prepare
 slice-aggregate-prepare c = search needs
@@ -85,7 +85,7 @@ slice-aggregate-prepare c = search needs
 index : (c : tie.After-fill) → Indexed (now (Long (c .before .before) .before .args .scene)) (c .fill .last .1 .1 .0)
 index c =
     let k = Long (c .before .before) in
-    rw (c .fill .ensures) (indexed (now (k .before .args .scene)) (below k) (k .before .pre .0) _ (long 98336))
+    rw (c .fill .ensures) (indexed (now (k .before .args .scene)) (below k) (k .before .pre .0) _ (long indexLength))
 
 prepare-requires : tie.Need-prepare-requires
 prepare-requires c κs =

@@ -6,6 +6,7 @@ use denote.Ref.{now}
 use lib.ListN.{length, replicate, length-replicate}
 use borrow.Author.Needs.{needs}
 use Rattle.scene.specs.Accepted.{Bytes}
+use Rattle.iisph_particles.specs.Index.{indexLength}
 use Rattle.iisph_particles.proofs.Indexes.{indexed}
 use Rattle.iisph_solver.proofs.Prepared.{Sizes, sizes}
 use Rattle.iisph_solver.proofs.Validated.{short-validates, cleared-validates}
@@ -38,7 +39,7 @@ slice-aggregate-fill c = search needs
 fill-requires : tie.Need-fill-requires
 fill-requires c κs =
     let k = c .before .before .before .before .before in
-    (k .before .pre .0, (k .before .pre .1, long 98336))
+    (k .before .pre .0, (k .before .pre .1, long indexLength))
 
 slice-aggregate-prepare : tie.Need-slice-aggregate-prepare
 slice-aggregate-prepare c = search needs
@@ -48,7 +49,7 @@ prepare-requires c κs =
     let f = c .before .before .before in
     let e = f .before .before in
     let k = e .before .before .before .before in (
-      rw (f .fill .ensures) (indexed (now (k .before .args .scene)) (below k) (k .before .pre .0) _ (long 98336)),
+      rw (f .fill .ensures) (indexed (now (k .before .args .scene)) (below k) (k .before .pre .0) _ (long indexLength)),
       (k .before .pre .1, omega (arith, e .if1 .left, sized k .fluids, sized k .boundaries)),
     )
 
