@@ -14,7 +14,7 @@ ghost use mathlib.Core.Path.{_≡_};
 ghost use Prim.Native.Nat.{_+_, _≤_, _<_};
 ghost use lib.ListN.{length};
 ghost use Rattle.math.specs.Vector.{axes};
-ghost use Rattle.scene.specs.Bytes.{byteAt, be16At, be32At, be64At, doubleAt, vectorAt, FiniteAt};
+ghost use Rattle.scene.specs.Bytes.{byteAt, be16At, be32At, be64At, exponentAt, doubleAt, vectorAt, FiniteAt};
 ghost use Rattle.scene.specs.Format.{keepsAt};
 ghost use Rattle.scene.specs.Layout.{NameIs};
 ghost use Rattle.scene.specs.Kinds.{kindOf, RecordWithin};
@@ -53,8 +53,16 @@ fn be32(s: &[u8], at: usize) -> u64
     ((wide(s[at]) * 256 + wide(s[at + 1])) * 256 + wide(s[at + 2])) * 256 + wide(s[at + 3])
 }
 
+// Of a double: the eleven bits of its exponent, which stand in the first two bytes.
+pub(crate) fn exponent(s: &[u8], at: usize) -> usize
+    requires { ⌜ at + 8 ≤ length (now s) ⌝ }
+    ensures { λ r. ⌜ r ≡ exponentAt (now (s .entry)) at ⌝ }
+{
+    be16(s, at) / 16 % 2048
+}
+
 // In this form one load and a byte swap, once compiled.
-pub(crate) fn be64(s: &[u8], at: usize) -> u64
+fn be64(s: &[u8], at: usize) -> u64
     requires { ⌜ at + 8 ≤ length (now s) ⌝ }
     ensures { λ r. ⌜ r ≡ be64At (now (s .entry)) at ⌝ }
 {

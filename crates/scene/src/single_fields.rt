@@ -5,8 +5,8 @@ use crate::Walk;
 use crate::format::MAX_MODELS;
 use crate::format::MAX_PARTICLES;
 use crate::read::be16;
-use crate::read::be64;
 use crate::read::byte;
+use crate::read::exponent;
 ghost use mathlib.Core.Path.{_≡_};
 ghost use Prim.Native.Nat.{_<_};
 ghost use Rattle.scene.specs.Walk as walk;
@@ -15,8 +15,8 @@ ghost use Rattle.scene.specs.Walk as walk;
 pub fn plain(s: &[u8], k: usize, at: usize) -> Walk
     ensures { λ r. ⌜ r ≡ walk.plain (now (s .entry)) k at ⌝ }
 {
-    if at <= s.len() {
-        if k <= s.len() - at {
+    if k <= s.len() {
+        if at <= s.len() - k {
             let next = at + k;
             return Walk::At(next);
         }
@@ -32,8 +32,7 @@ pub fn double(s: &[u8], at: usize) -> Walk
     let Walk::At(next) = w else {
         return w;
     };
-    let exponent = be64(s, at) / 0x10_0000_0000_0000 % 2048;
-    if exponent == 2047 {
+    if exponent(s, at) == 2047 {
         return Walk::Refused(Refusal::NotFinite(at));
     }
     Walk::At(next)

@@ -22,24 +22,24 @@ returns : tie.Need-returns
 unfolding double
 returns c = field-refused _ _ _ _ (c .before .before .plain .ensures) (c .enum-told .given .1)
 
-be64-requires : tie.Need-be64-requires
-be64-requires c κs = let p = c .before in plain-steps _ _ _ _ (sym (p .before .before .plain .ensures) ∙ p .w .given .1) .1
+exponent-requires : tie.Need-exponent-requires
+exponent-requires c κs = let p = c .before in plain-steps _ _ _ _ (sym (p .before .before .plain .ensures) ∙ p .w .given .1) .1
 
 returns-2 : tie.Need-returns-2
 unfolding double unless choose
 returns-2 c =
     let p = c .before .before .before in
     let h = plain-steps _ _ _ _ (sym (p .before .before .plain .ensures) ∙ p .w .given .1) in
-    rw (field-there _ _ _ _ (h .1), ← c .before .be64 .ensures, eq-eqb _ _ (c .if1 .taken))
+    rw (field-there _ _ _ _ (h .1), ← c .before .exponent .ensures, eq-eqb _ _ (c .if1 .taken))
 
 returns-3 : tie.Need-returns-3
 unfolding double unless choose
 returns-3 c =
     let p = c .before .before .before in
     let h = plain-steps _ _ _ _ (sym (p .before .before .plain .ensures) ∙ p .w .given .1) in
-    rw (field-there _ _ _ _ (h .1), ← c .before .be64 .ensures, ne-eqb _ _ (c .if1 .left), h .0)
+    rw (field-there _ _ _ _ (h .1), ← c .before .exponent .ensures, ne-eqb _ _ (c .if1 .left), h .0)
 
 pub double-spec : {M : Type 1} → statement M
 double-spec =
     tie.close
-    (tie.spec plain-requires enum-known-w enum-told returns be64-requires returns-2 returns-3)
+    (tie.spec plain-requires enum-known-w enum-told returns exponent-requires returns-2 returns-3)
