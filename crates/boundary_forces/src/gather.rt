@@ -4,6 +4,7 @@ use iisph_particles::contacts::contacts_of;
 use iisph_particles::rows::put_vector;
 use iisph_particles::rows::vector_at;
 use scene::Kind;
+use scene::format::CONTACT_WIDTH;
 use scene::read;
 use velocity_changes::acceleration::Own;
 use velocity_changes::acceleration::boundary_acceleration;
@@ -68,7 +69,16 @@ fn gather_list(
     let at = list.at;
     let mut k = 0usize;
     while k < count {
-        gather(scene, index, work, n, at + 34 * k, own, forces, answers);
+        gather(
+            scene,
+            index,
+            work,
+            n,
+            at + CONTACT_WIDTH * k,
+            own,
+            forces,
+            answers,
+        );
         k += 1;
     }
 }

@@ -1,7 +1,10 @@
 // The answers of the boundary particles with the forces that the scene gives, boundary by boundary, and where the forces of each boundary begin.
 use iisph_particles::index::BOUNDARY_RECORDS;
+use iisph_particles::rows::ROW;
 use iisph_particles::rows::put_vector;
 use scene::Models;
+use scene::format::ANSWER_WIDTH;
+use scene::format::KEPT_FORCE;
 use scene::read;
 ghost use mathlib.Core.Path.{_≡_};
 ghost use Prim.Native.Nat.{_+_, _*_, _<_, _≤_};
@@ -34,10 +37,10 @@ fn put_particle(
     requires { ⌜ at + answerWidth (sceneOf (now scene)) j ≤ length (now answers) ⌝ }
     ensures { λ r. ⌜ (r ≡ at + answerWidth (sceneOf (now (scene .entry))) j) × (now (answers .exit) ≡ sets (now (answers .entry)) at (boundaryGiven (sceneOf (now (scene .entry))) j)) ⌝ }
 {
-    answers[at] = work[14 * n + j];
+    answers[at] = work[ROW * n + j];
     if keeps == 1 {
         let record = index[BOUNDARY_RECORDS + j];
-        let force = read::vector(scene, record + 24);
+        let force = read::vector(scene, record + KEPT_FORCE);
         put_vector(answers, at + 1, force);
         return at + 4;
     }
@@ -98,7 +101,7 @@ pub fn put_models(
     let starts = models.starts;
     let keeps = models.keeps;
     let number = models.number;
-    let mut to = 7 * n;
+    let mut to = ANSWER_WIDTH * n;
     let mut m = 0usize;
     while m < number {
         let kept = keeps[m];

@@ -3,7 +3,7 @@
 use Prim.Native.Nat.{ℕ, zero, suc, _+_, _-_, _<_, _≤_}
 use mathlib.Core.Path.{_≡_, refl, sym, ap, _∙_}
 use mathlib.Core.List.{List, [], _∷_, _++_, map, map-map, map-append, append-nil, append-assoc}
-use native.Mathlib.Nat.{add-zero, zero-add, add-suc, le-antisymm}
+use native.Mathlib.Nat.{add-zero, add-suc, le-antisymm}
 use native.Mathlib.Numerals.{add-one}
 use native.Mathlib.Omega.{arith}
 use lib.ListN.{length, getD, set, replicate, length-append, length-map, length-set}
@@ -14,9 +14,8 @@ use Rattle.scene.specs.Format.{Kind, Place, iter, trail, joined, modelEnd, mode
 use Rattle.scene.specs.Layout.{padded}
 use Rattle.scene.proofs.Filled.{padded-at}
 use Rattle.scene.proofs.Fields.{placeAt}
-use Rattle.scene.proofs.Numbering.{length-trail, trail-at}
+use Rattle.scene.proofs.Numbering.{trail-at}
 use Rattle.scene.proofs.Places.{length-model}
-use Rattle.iisph_particles.proofs.Stores.{sets-in}
 
 -- ---- one value after the other
 

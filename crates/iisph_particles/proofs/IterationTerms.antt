@@ -18,7 +18,7 @@ use Rattle.scene.specs.SceneOf.{targetAt, contactAt, contactList, sceneOf}
 use Rattle.scene.specs.declared.Kind.{Kind}
 use Rattle.scene.specs.declared.Kind.the-variants.{Fluid, Boundary}
 use Rattle.iisph_rules.specs.Coefficients.{overContacts, particleMass, fluidMass, boundaryMass, density, djiFactor, coefficientsOf, coefficients, coefficient}
-use Rattle.iisph_rules.specs.Iteration.{pressure, dijSum, dijPjl, dij, pressureSum, relaxed, errorTerm, NextPressure, noPressure, clamped, aiiLimit, nextPressure}
+use Rattle.iisph_rules.specs.Iteration.{pressure, dijSum, dijPjl, dij, pressureSum, relaxed, errorTerm, noPressure, clamped, aiiLimit, nextPressure}
 use Rattle.iisph_particles.specs.IterationRows.{IterationReady, pressuresIn, dijsIn, overList, quotient, withDij, rowTerm, termOf, withTerm, nextFrom, NextIs}
 use Rattle.iisph_particles.specs.Passes.{startsOf, ContactReady}
 use Rattle.iisph_particles.specs.WorkList.{elements}

@@ -1,7 +1,7 @@
 -- What a pass reads of a contact: its target through the index, and the target's mass, velocity and volume in the work list that it finds. Each is the one field of
 -- Indexed or Prepared that says it, taken at the target. Assumes nothing.
 use Prim.Native.Nat.{ℕ, _+_, _*_, _/_, _%_, _<_, _≤_}
-use mathlib.Core.Path.{_≡_, refl, sym, ap, _∙_}
+use mathlib.Core.Path.{_≡_, sym, ap, _∙_}
 use mathlib.Core.List.{List, [], _∷_, map}
 use native.Mathlib.Nat.{add-zero, add-assoc}
 use native.Mathlib.Omega.{arith}
@@ -43,7 +43,7 @@ unfolding targetAt basesOf baseOf
 section-target k starts {index} b at {x} {y} s first second =
     let split = name-split x y (second .1) in
     let held : getD index (k + x) 0 ≡ getD starts (x / 16) 0 + 256 * (x % 16) =
-        s .holds x (rw (length-table 256 (baseOf starts)) (first .1)) ∙ table-at 256 (baseOf starts) x 0 (first .1) in
+    s .holds x (rw (length-table 256 (baseOf starts)) (first .1)) ∙ table-at 256 (baseOf starts) x 0 (first .1) in
     rw (← first .0, ← second .0, ← split .0, ← split .1, held) (add-assoc _ _ y)
 
 module _ {b index : List ℕ} (ix : Indexed b index) (κ : Kind) (at : ℕ) where

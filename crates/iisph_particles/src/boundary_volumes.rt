@@ -1,8 +1,12 @@
 // The volumes of the boundary particles (the Rust's `compute_boundary_volumes`), stored behind the rows of the work list.
+use crate::rows::ROW;
 use scene::Kind;
 use scene::Layout;
 use scene::Models;
 use scene::Walk;
+use scene::format::BOUNDARY_CONTACT_WIDTH;
+use scene::format::CONTACT_WEIGHT;
+use scene::format::VECTOR_WIDTH;
 use scene::read::byte;
 use scene::read::double;
 use scene::read::first_record;
@@ -35,7 +39,7 @@ fn weight_sum(scene: &[u8], n: usize, at: usize) -> f64
     let mut sum = 0.0;
     let mut j = 0;
     while j < n {
-        sum = sum + double(scene, at + 10 * j + 2);
+        sum = sum + double(scene, at + BOUNDARY_CONTACT_WIDTH * j + CONTACT_WEIGHT);
         j += 1;
     }
     sum
@@ -47,8 +51,8 @@ fn volume(scene: &[u8], head: usize, at: usize) -> f64
     ensures { λ r. ⌜ r ≡ volumeAt (now (scene .entry)) (record { head = head; at = at }) ⌝ }
 {
     let k = keeps(scene, head);
-    let n = byte(scene, at + (24 + 24 * k));
-    let denominator = weight_sum(scene, n, at + (24 + 24 * k + 1));
+    let n = byte(scene, at + (VECTOR_WIDTH + VECTOR_WIDTH * k));
+    let denominator = weight_sum(scene, n, at + (VECTOR_WIDTH + VECTOR_WIDTH * k + 1));
     if math::is_zero(denominator) {
         0.0
     } else {
@@ -99,5 +103,5 @@ pub fn compute_boundary_volumes(scene: &[u8], layout: Layout, work: &mut [f64])
     let fluids = layout.fluids;
     let n = fluids.total;
     let models = layout.boundaries;
-    boundaries(scene, models, 14 * n, work);
+    boundaries(scene, models, ROW * n, work);
 }

@@ -4,9 +4,16 @@ use crate::contacts::ContactList;
 use crate::contacts::contacts_of;
 use crate::contacts::mass;
 use crate::contacts::velocity;
+use crate::rows::ADVECTED;
+use crate::rows::MASS;
+use crate::rows::ROW;
 use crate::rows::vector_at;
 use math::Vec3;
 use scene::Kind;
+use scene::format::CONTACT_GRADIENT;
+use scene::format::CONTACT_WEIGHT;
+use scene::format::CONTACT_WIDTH;
+use scene::format::TOTAL_STEP_SIZE;
 use scene::read;
 ghost use mathlib.Core.Path.{_≡_};
 ghost use Prim.Native.Nat.{_<_};
@@ -53,11 +60,11 @@ fn densities(
     let mut delta = from.delta;
     let mut k = 0usize;
     while k < count {
-        let c = at + 34 * k;
+        let c = at + CONTACT_WIDTH * k;
         let m = mass(scene, index, work, n, kind, list.density0, c);
         let vj = velocity(scene, index, work, n, kind, c);
-        density = density + m * read::double(scene, c + 2);
-        delta = delta + m * v.sub(vj).dot(read::vector(scene, c + 10));
+        density = density + m * read::double(scene, c + CONTACT_WEIGHT);
+        delta = delta + m * v.sub(vj).dot(read::vector(scene, c + CONTACT_GRADIENT));
         k += 1;
     }
     Sums { density, delta }
@@ -84,9 +91,9 @@ fn dii(
     let mut sum = from;
     let mut k = 0usize;
     while k < count {
-        let c = at + 34 * k;
+        let c = at + CONTACT_WIDTH * k;
         let m = mass(scene, index, work, n, kind, list.density0, c);
-        sum = sum.add(read::vector(scene, c + 10).scale(m * factor));
+        sum = sum.add(read::vector(scene, c + CONTACT_GRADIENT).scale(m * factor));
         k += 1;
     }
     sum
@@ -114,9 +121,9 @@ fn aii(
     let mut sum = from;
     let mut k = 0usize;
     while k < count {
-        let c = at + 34 * k;
+        let c = at + CONTACT_WIDTH * k;
         let m = mass(scene, index, work, n, kind, list.density0, c);
-        let g = read::vector(scene, c + 10);
+        let g = read::vector(scene, c + CONTACT_GRADIENT);
         sum = sum + m * d.sub(g.scale(factor)).dot(g);
         k += 1;
     }
@@ -138,8 +145,8 @@ pub fn coefficients_of(
 {
     let fluid = contacts_of(scene, index, Kind::Fluid, i);
     let boundary = contacts_of(scene, index, Kind::Boundary, i);
-    let dt = read::double(scene, 4);
-    let v = vector_at(work, 14 * i + 7);
+    let dt = read::double(scene, TOTAL_STEP_SIZE);
+    let v = vector_at(work, ROW * i + ADVECTED);
     let none = Sums {
         density: 0.0,
         delta: 0.0,
@@ -150,7 +157,7 @@ pub fn coefficients_of(
     let factor = -dt * dt / (rho * rho);
     let part = dii(scene, index, work, n, fluid, factor, Vec3::zero());
     let d = dii(scene, index, work, n, boundary, factor, part);
-    let e = dt * dt * work[14 * i + 10] / (rho * rho);
+    let e = dt * dt * work[ROW * i + MASS] / (rho * rho);
     let part = aii(scene, index, work, n, fluid, e, d, 0.0);
     let a = aii(scene, index, work, n, boundary, e, d, part);
     CoefficientsOf {

@@ -5,9 +5,17 @@ use crate::index::BOUNDARY_RECORDS;
 use crate::index::FLUID_BASES;
 use crate::index::HEADS;
 use crate::index::RECORDS;
+use crate::rows::ADVECTED;
+use crate::rows::MASS;
+use crate::rows::ROW;
 use crate::rows::vector_at;
 use math::Vec3;
 use scene::Kind;
+use scene::format::BOUNDARY_CONTACTS;
+use scene::format::CONTACT_WIDTH;
+use scene::format::DENSITY0;
+use scene::format::FLUID_CONTACTS;
+use scene::format::RECORD_WIDTH;
 use scene::read;
 ghost use mathlib.Core.Path.{_≡_};
 ghost use Prim.Native.Nat.{_<_};
@@ -34,22 +42,22 @@ pub fn contacts_of(scene: &[u8], index: &[usize], kind: Kind, i: usize) -> Conta
 {
     let at = index[RECORDS + i];
     let head = index[HEADS + i];
-    let density0 = read::double(scene, head + 2);
-    let fluids = read::byte(scene, at + 88);
+    let density0 = read::double(scene, head + DENSITY0);
+    let fluids = read::byte(scene, at + FLUID_CONTACTS);
     match kind {
         Kind::Fluid => ContactList {
             kind,
             density0,
             count: fluids,
-            at: at + 90,
+            at: at + RECORD_WIDTH,
         },
         Kind::Boundary => {
-            let count = read::byte(scene, at + 89);
+            let count = read::byte(scene, at + BOUNDARY_CONTACTS);
             ContactList {
                 kind,
                 density0,
                 count,
-                at: at + 90 + 34 * fluids,
+                at: at + RECORD_WIDTH + CONTACT_WIDTH * fluids,
             }
         }
     }
@@ -86,8 +94,8 @@ pub fn mass(
 {
     let j = target_of(scene, index, kind, at);
     match kind {
-        Kind::Fluid => work[14 * j + 10],
-        Kind::Boundary => work[14 * n + j] * density0,
+        Kind::Fluid => work[ROW * j + MASS],
+        Kind::Boundary => work[ROW * n + j] * density0,
     }
 }
 
@@ -107,7 +115,7 @@ pub fn velocity(
 {
     let j = target_of(scene, index, kind, at);
     match kind {
-        Kind::Fluid => vector_at(work, 14 * j + 7),
+        Kind::Fluid => vector_at(work, ROW * j + ADVECTED),
         Kind::Boundary => {
             let record = index[BOUNDARY_RECORDS + j];
             read::vector(scene, record)

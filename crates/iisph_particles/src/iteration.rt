@@ -3,10 +3,21 @@
 use crate::contacts::ContactList;
 use crate::contacts::contacts_of;
 use crate::contacts::target_of;
+use crate::rows::AII;
+use crate::rows::DII;
+use crate::rows::DIJ_PJL;
+use crate::rows::MASS;
+use crate::rows::PREDICTED_DENSITY;
+use crate::rows::PRESSURE;
+use crate::rows::QUOTIENT;
+use crate::rows::ROW;
 use crate::rows::vector_at;
 use math::Vec3;
 use math::magnitude;
 use scene::Kind;
+use scene::format::CONTACT_GRADIENT;
+use scene::format::CONTACT_WIDTH;
+use scene::format::TOTAL_STEP_SIZE;
 use scene::read;
 ghost use mathlib.Core.Path.{_≡_};
 ghost use Prim.Native.Nat.{_+_, _*_, _<_, _≤_};
@@ -39,9 +50,9 @@ pub fn quotient_of(work: &[f64], i: usize) -> f64
     requires { ⌜ 14 * i + 14 ≤ length (now work) ⌝ }
     ensures { λ r. ⌜ r ≡ rowQuotient (now (work .entry)) i ⌝ }
 {
-    let row = 14 * i;
+    let row = ROW * i;
     let rho = work[row];
-    -work[row + 10] * work[row + 6] / (rho * rho)
+    -work[row + MASS] * work[row + PRESSURE] / (rho * rho)
 }
 
 // g × the quotient of the row that a fluid contact names.
@@ -58,9 +69,9 @@ fn dij_sum(scene: &[u8], index: &[usize], work: &[f64], n: usize, list: ContactL
     let mut sum = Vec3::zero();
     let mut k = 0usize;
     while k < count {
-        let c = at + 34 * k;
+        let c = at + CONTACT_WIDTH * k;
         let j = target_of(scene, index, kind, c);
-        sum = sum.add(read::vector(scene, c + 10).scale(work[14 * j + 11]));
+        sum = sum.add(read::vector(scene, c + CONTACT_GRADIENT).scale(work[ROW * j + QUOTIENT]));
         k += 1;
     }
     sum
@@ -74,7 +85,7 @@ pub fn dij_pjl_of(scene: &[u8], index: &[usize], work: &[f64], n: usize, i: usiz
     ensures { λ r. ⌜ axes r ≡ dijPjl (sceneOf (now (scene .entry))) (coefficients (sceneOf (now (scene .entry)))) (pressuresIn n (now (work .entry))) (particle (sceneOf (now (scene .entry))) i) ⌝ }
 {
     let list = contacts_of(scene, index, Kind::Fluid, i);
-    let dt = read::double(scene, 4);
+    let dt = read::double(scene, TOTAL_STEP_SIZE);
     dij_sum(scene, index, work, n, list).scale(dt * dt)
 }
 
@@ -83,11 +94,11 @@ fn row_term(work: &[f64], j: usize, owner: Owner, g: Vec3) -> f64
     requires { ⌜ 14 * j + 14 ≤ length (now work) ⌝ }
     ensures { λ r. ⌜ r ≡ rowTerm (now (work .entry)) j owner (axes g) ⌝ }
 {
-    let row = 14 * j;
-    let m = work[row + 10];
+    let row = ROW * j;
+    let m = work[row + MASS];
     let d = owner.dij;
-    let own = d.sub(vector_at(work, row + 3).scale(work[row + 6]));
-    let other = vector_at(work, row + 7).sub(g.scale(owner.factor).scale(owner.pressure));
+    let own = d.sub(vector_at(work, row + DII).scale(work[row + PRESSURE]));
+    let other = vector_at(work, row + DIJ_PJL).sub(g.scale(owner.factor).scale(owner.pressure));
     m * own.sub(other).dot(g)
 }
 
@@ -108,12 +119,12 @@ fn term(
     ensures { λ r. ⌜ r ≡ termOf kind (sceneOf (now (scene .entry))) (pressuresIn n (now (work .entry))) (dijsIn n (now (work .entry))) density0 owner (contactAt (startsOf kind (now (scene .entry))) (now (scene .entry)) at) ⌝ }
 {
     let j = target_of(scene, index, kind, at);
-    let g = read::vector(scene, at + 10);
+    let g = read::vector(scene, at + CONTACT_GRADIENT);
     match kind {
         Kind::Fluid => row_term(work, j, owner, g),
         Kind::Boundary => {
             let d = owner.dij;
-            work[14 * n + j] * density0 * d.dot(g)
+            work[ROW * n + j] * density0 * d.dot(g)
         }
     }
 }
@@ -148,7 +159,7 @@ fn pressure_sum(
                 kind,
                 list.density0,
                 owner,
-                at + 34 * k,
+                at + CONTACT_WIDTH * k,
             );
         k += 1;
     }
@@ -183,12 +194,12 @@ pub fn next_pressure_of(scene: &[u8], index: &[usize], work: &[f64], n: usize, i
 {
     let fluid = contacts_of(scene, index, Kind::Fluid, i);
     let boundary = contacts_of(scene, index, Kind::Boundary, i);
-    let dt = read::double(scene, 4);
-    let row = 14 * i;
+    let dt = read::double(scene, TOTAL_STEP_SIZE);
+    let row = ROW * i;
     let rho = work[row];
-    let pressure = work[row + 6];
-    let factor = dt * dt * work[row + 10] / (rho * rho);
-    let dij = vector_at(work, row + 7);
+    let pressure = work[row + PRESSURE];
+    let factor = dt * dt * work[row + MASS] / (rho * rho);
+    let dij = vector_at(work, row + DIJ_PJL);
     let owner = Owner {
         dij,
         factor,
@@ -196,5 +207,11 @@ pub fn next_pressure_of(scene: &[u8], index: &[usize], work: &[f64], n: usize, i
     };
     let part = pressure_sum(scene, index, work, n, fluid, owner, 0.0);
     let sum = pressure_sum(scene, index, work, n, boundary, owner, part);
-    next_from(fluid.density0, work[row + 2], work[row + 1], sum, pressure)
+    next_from(
+        fluid.density0,
+        work[row + AII],
+        work[row + PREDICTED_DENSITY],
+        sum,
+        pressure,
+    )
 }

@@ -2,6 +2,13 @@
 use crate::index::HEADS;
 use crate::index::RECORDS;
 use math::Vec3;
+use scene::format::ACCELERATION;
+use scene::format::DENSITY0;
+use scene::format::GRAVITY;
+use scene::format::TOTAL_STEP_SIZE;
+use scene::format::VELOCITY;
+use scene::format::VOLUME;
+use scene::format::WARM_PRESSURE;
 use scene::read;
 ghost use mathlib.Core.Path.{_≡_};
 ghost use Prim.Native.Nat.{_<_};
@@ -20,7 +27,7 @@ pub fn mass_of(scene: &[u8], index: &[usize], n: usize, i: usize) -> f64
 {
     let at = index[RECORDS + i];
     let head = index[HEADS + i];
-    read::double(scene, at + 72) * read::double(scene, head + 2)
+    read::double(scene, at + VOLUME) * read::double(scene, head + DENSITY0)
 }
 
 // 0 + (acceleration + gravity) × dt.
@@ -30,9 +37,9 @@ pub fn velocity_change_of(scene: &[u8], index: &[usize], n: usize, i: usize) -> 
     ensures { λ r. ⌜ axes r ≡ velocityChange (sceneOf (now (scene .entry))) (particle (sceneOf (now (scene .entry))) i) ⌝ }
 {
     let at = index[RECORDS + i];
-    let acceleration = read::vector(scene, at + 48).add(read::vector(scene, 28));
+    let acceleration = read::vector(scene, at + ACCELERATION).add(read::vector(scene, GRAVITY));
     let none = Vec3::zero();
-    none.add(acceleration.scale(read::double(scene, 4)))
+    none.add(acceleration.scale(read::double(scene, TOTAL_STEP_SIZE)))
 }
 
 // Velocity plus its change before the pressures.
@@ -43,7 +50,7 @@ pub fn advected_of(scene: &[u8], index: &[usize], n: usize, i: usize) -> Vec3
 {
     let at = index[RECORDS + i];
     let change = velocity_change_of(scene, index, n, i);
-    read::vector(scene, at + 24).add(change)
+    read::vector(scene, at + VELOCITY).add(change)
 }
 
 // Half the warm pressure.
@@ -53,5 +60,5 @@ pub fn first_pressure(scene: &[u8], index: &[usize], n: usize, i: usize) -> f64
     ensures { λ r. ⌜ r ≡ firstPressure (sceneOf (now (scene .entry))) i ⌝ }
 {
     let at = index[RECORDS + i];
-    read::double(scene, at + 80) * 0.5
+    read::double(scene, at + WARM_PRESSURE) * 0.5
 }

@@ -1,4 +1,5 @@
 // What refusals 9 and 10 need: the first zero in a slot of all rows, and clearing.
+use crate::rows::ROW;
 use math::is_zero;
 ghost use mathlib.Core.Path.{_≡_};
 ghost use mathlib.Core.List.{_++_};
@@ -20,7 +21,7 @@ pub fn first_zero(work: &[f64], n: usize, slot: usize) -> Found
 {
     let mut i = 0usize;
     while i < n {
-        if is_zero(work[14 * i + slot]) {
+        if is_zero(work[ROW * i + slot]) {
             return Found::At(i);
         }
         i += 1;

@@ -1,4 +1,6 @@
 // The error of an iteration, from the error terms in the rows: the greatest of the fluids' averages, or +0.
+use iisph_particles::rows::ERROR_TERM;
+use iisph_particles::rows::ROW;
 use math::larger;
 use std::num::nearest_u64_to_f64;
 ghost use mathlib.Core.Path.{_≡_};
@@ -19,7 +21,7 @@ fn term_sum(work: &[f64], from: usize, count: usize) -> f64
     let mut sum = 0.0;
     let mut k = 0usize;
     while k < count {
-        sum += work[14 * (from + k) + 11];
+        sum += work[ROW * (from + k) + ERROR_TERM];
         k += 1;
     }
     sum

@@ -1,7 +1,9 @@
 // How many doubles a step's two lists must have.
+use iisph_particles::rows::ROW;
 use scene::Layout;
 use scene::Refusal;
 use scene::Verdict;
+use scene::format::ANSWER_WIDTH;
 ghost use mathlib.Core.Path.{_≡_};
 ghost use Prim.Native.Nat.{_≤_};
 ghost use Rattle.iisph_solver.specs.Needed.{boundaryAnswersNeeded, layoutAnswersNeeded, Few};
@@ -42,7 +44,7 @@ pub fn answers_needed(layout: Layout) -> usize
     let counts = boundaries.counts;
     let keeps = boundaries.keeps;
     let behind = boundary_answers_needed(counts, keeps, boundaries.number);
-    7 * layout.fluids.total + behind
+    ANSWER_WIDTH * layout.fluids.total + behind
 }
 
 // Of both lists, as a layout says.
@@ -53,7 +55,7 @@ fn layout_lengths(layout: Layout) -> Lengths
 {
     Lengths {
         answers: answers_needed(layout),
-        work: 14 * layout.fluids.total + layout.boundaries.total,
+        work: ROW * layout.fluids.total + layout.boundaries.total,
     }
 }
 

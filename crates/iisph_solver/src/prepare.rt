@@ -7,6 +7,9 @@ use iisph_particles::index::RECORDS;
 use iisph_particles::refusals::Found;
 use iisph_particles::refusals::clear;
 use iisph_particles::refusals::first_zero;
+use iisph_particles::rows::DENSITY;
+use iisph_particles::rows::PREDICTED_DENSITY;
+use iisph_particles::rows::ROW;
 use scene::Layout;
 use scene::Refusal;
 ghost use mathlib.Core.Path.{_≡_};
@@ -47,13 +50,15 @@ fn zero_refusal(index: &[usize], n: usize, work: &[f64]) -> Readiness
     requires { ⌜ (indexLength ≤ length (now index)) × (n ≤ 32768) × (14 * n ≤ length (now work)) ⌝ }
     ensures { λ r. ⌜ ((report : Report) → r ≡ readiness (zeroAnswer (λ i. getD (now (index .entry)) (recordsAt + i) 0) (column n 0 (now (work .entry))) (column n 1 (now (work .entry))) report)) ⌝ }
 {
-    let density = first_zero(work, n, 0);
+    let density = first_zero(work, n, DENSITY);
     match density {
         Found::At(i) => Readiness::Refused(Refusal::ZeroDensity(index[RECORDS + i])),
         Found::Nothing => {
-            let predicted = first_zero(work, n, 1);
+            let predicted = first_zero(work, n, PREDICTED_DENSITY);
             match predicted {
-                Found::At(j) => Readiness::Refused(Refusal::ZeroPredictedDensity(index[RECORDS + j])),
+                Found::At(j) => Readiness::Refused(Refusal::ZeroPredictedDensity(
+                    index[RECORDS + j],
+                )),
                 Found::Nothing => Readiness::Ready,
             }
         }
@@ -75,7 +80,7 @@ pub fn prepare(scene: &[u8], layout: Layout, index: &[usize], work: &mut [f64]) 
     match answer {
         Readiness::Ready => Readiness::Ready,
         Readiness::Refused(refusal) => {
-            clear(work, 14 * n + m);
+            clear(work, ROW * n + m);
             Readiness::Refused(refusal)
         }
     }

@@ -4,6 +4,8 @@ use crate::traverse::Pass;
 use crate::traverse::traverse;
 use iisph_rules::Ending;
 use scene::Layout;
+use scene::format::MAX_PRESSURE_ITER;
+use scene::format::MIN_PRESSURE_ITER;
 use scene::read;
 use scene::reader::header_numbers;
 ghost use mathlib.Core.Path.{_≡_};
@@ -61,8 +63,8 @@ pub fn pressure_solve(
     requires { ⌜ (pressuresIn n (now work) ≡ firstPressures (sceneOf (now scene))) × IterationReady (sceneOf (now scene)) (pressuresIn n (now work)) n (now work) ⌝ }
     ensures { λ r. ⌜ Solves (sceneOf (now (scene .entry))) (now (work .entry)) r (now (work .exit)) ⌝ }
 {
-    let least = read::byte(scene, 2);
-    let most = read::byte(scene, 3);
+    let least = read::byte(scene, MIN_PRESSURE_ITER);
+    let most = read::byte(scene, MAX_PRESSURE_ITER);
     let limit = header_numbers(scene).max_density_error;
     let mut error = 0.0;
     let mut i = 0usize;

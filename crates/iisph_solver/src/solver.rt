@@ -10,6 +10,7 @@ use boundary_forces::boundary_answers;
 use iisph_particles::index::INDEX_LENGTH;
 use iisph_particles::index::fill;
 use iisph_particles::refusals::clear;
+use iisph_particles::rows::ROW;
 use iisph_rules::Report;
 use iisph_rules::StepAnswer;
 use scene::Layout;
@@ -72,7 +73,7 @@ fn finish(
     traverse(Pass::Shares, scene, index, n, work);
     update_velocities_and_positions(scene, index, work, n, answers);
     boundary_answers(scene, layout, index, work, n, answers);
-    clear(work, 14 * n + m);
+    clear(work, ROW * n + m);
     report(scene, solved)
 }
 
@@ -84,7 +85,7 @@ fn step_accepted(scene: &[u8], layout: Layout, answers: &mut [f64], work: &mut [
     if answers.len() < answers_needed(layout) {
         return StepAnswer::Refused(Refusal::ShortList);
     }
-    if work.len() < 14 * layout.fluids.total + layout.boundaries.total {
+    if work.len() < ROW * layout.fluids.total + layout.boundaries.total {
         return StepAnswer::Refused(Refusal::ShortList);
     }
     let mut index = [0usize; INDEX_LENGTH];

@@ -8,6 +8,18 @@ use iisph_particles::iteration::quotient_of;
 use iisph_particles::records::advected_of;
 use iisph_particles::records::first_pressure;
 use iisph_particles::records::mass_of;
+use iisph_particles::rows::ADVECTED;
+use iisph_particles::rows::AII;
+use iisph_particles::rows::DII;
+use iisph_particles::rows::DIJ_PJL;
+use iisph_particles::rows::ERROR_TERM;
+use iisph_particles::rows::MASS;
+use iisph_particles::rows::NEXT_PRESSURE;
+use iisph_particles::rows::PREDICTED_DENSITY;
+use iisph_particles::rows::PRESSURE;
+use iisph_particles::rows::QUOTIENT;
+use iisph_particles::rows::ROW;
+use iisph_particles::rows::SHARE;
 use iisph_particles::rows::put_vector;
 use velocity_changes::acceleration::share_of;
 ghost use mathlib.Core.Path.{_≡_};
@@ -47,10 +59,10 @@ fn put_coefficients(work: &mut [f64], k: usize, c: CoefficientsOf, pressure: f64
 {
     let dii = c.dii;
     work[k] = c.density;
-    work[k + 1] = c.predicted_density;
-    work[k + 2] = c.aii;
-    put_vector(work, k + 3, dii);
-    work[k + 6] = pressure;
+    work[k + PREDICTED_DENSITY] = c.predicted_density;
+    work[k + AII] = c.aii;
+    put_vector(work, k + DII, dii);
+    work[k + PRESSURE] = pressure;
 }
 
 // One row.
@@ -63,37 +75,37 @@ fn turn(pass: Pass, scene: &[u8], index: &[usize], n: usize, work: &mut [f64], i
     match pass {
         Pass::Masses => {
             let m = mass_of(scene, index, n, i);
-            work[14 * i + 10] = m;
+            work[ROW * i + MASS] = m;
         }
         Pass::Advected => {
             let v = advected_of(scene, index, n, i);
-            put_vector(work, 14 * i + 7, v);
+            put_vector(work, ROW * i + ADVECTED, v);
         }
         Pass::Coefficients => {
             let c = coefficients_of(scene, index, work, n, i);
             let pressure = first_pressure(scene, index, n, i);
-            put_coefficients(work, 14 * i, c, pressure);
+            put_coefficients(work, ROW * i, c, pressure);
         }
         Pass::Quotients => {
             let q = quotient_of(work, i);
-            work[14 * i + 11] = q;
+            work[ROW * i + QUOTIENT] = q;
         }
         Pass::DijPjl => {
             let d = dij_pjl_of(scene, index, work, n, i);
-            put_vector(work, 14 * i + 7, d);
+            put_vector(work, ROW * i + DIJ_PJL, d);
         }
         Pass::NextPressures => {
             let next = next_pressure_of(scene, index, work, n, i);
-            work[14 * i + 11] = next.term;
-            work[14 * i + 12] = next.pressure;
+            work[ROW * i + ERROR_TERM] = next.term;
+            work[ROW * i + NEXT_PRESSURE] = next.pressure;
         }
         Pass::Exchange => {
-            let next = work[14 * i + 12];
-            work[14 * i + 6] = next;
+            let next = work[ROW * i + NEXT_PRESSURE];
+            work[ROW * i + PRESSURE] = next;
         }
         Pass::Shares => {
             let share = share_of(work, i);
-            work[14 * i + 11] = share;
+            work[ROW * i + SHARE] = share;
         }
     }
 }

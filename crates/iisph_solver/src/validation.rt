@@ -4,6 +4,7 @@ use crate::prepare::prepare;
 use iisph_particles::index::INDEX_LENGTH;
 use iisph_particles::index::fill;
 use iisph_particles::refusals::clear;
+use iisph_particles::rows::ROW;
 use scene::Layout;
 use scene::Refusal;
 use scene::Verdict;
@@ -19,7 +20,7 @@ fn validate_accepted(scene: &[u8], layout: Layout, work: &mut [f64]) -> Readines
     requires { ⌜ (checked (now scene) ≡ Walk.At (length (now scene))) × (layout ≡ layoutOf (now scene)) ⌝ }
     ensures { λ r. ⌜ Validates (now (scene .entry)) (now (work .entry)) r (now (work .exit)) ⌝ }
 {
-    let needed = 14 * layout.fluids.total + layout.boundaries.total;
+    let needed = ROW * layout.fluids.total + layout.boundaries.total;
     if work.len() < needed {
         return Readiness::Refused(Refusal::ShortList);
     }

@@ -1,8 +1,13 @@
 // What a fluid particle itself brings to the terms of its contacts, and document 01's a of a boundary contact.
 use iisph_particles::contacts::target_of;
 use iisph_particles::index::HEADS;
+use iisph_particles::rows::MASS;
+use iisph_particles::rows::PRESSURE;
+use iisph_particles::rows::ROW;
 use math::Vec3;
 use scene::Kind;
+use scene::format::CONTACT_GRADIENT;
+use scene::format::DENSITY0;
 use scene::read;
 ghost use mathlib.Core.Path.{_≡_};
 ghost use Prim.Native.Nat.{_+_, _*_, _<_, _≤_};
@@ -30,9 +35,9 @@ pub fn share_of(work: &[f64], i: usize) -> f64
     requires { ⌜ 14 * i + 14 ≤ length (now work) ⌝ }
     ensures { λ r. ⌜ r ≡ rowShare (now (work .entry)) i ⌝ }
 {
-    let row = 14 * i;
+    let row = ROW * i;
     let rho = work[row];
-    work[row + 6] / (rho * rho)
+    work[row + PRESSURE] / (rho * rho)
 }
 
 // Those of fluid particle i.
@@ -43,11 +48,11 @@ pub fn own_of(scene: &[u8], index: &[usize], work: &[f64], n: usize, i: usize) -
     ensures { λ r. ⌜ OwnIs (sceneOf (now (scene .entry))) (pressuresIn n (now (work .entry))) i r ⌝ }
 {
     let head = index[HEADS + i];
-    let density0 = read::double(scene, head + 2);
-    let row = 14 * i;
+    let density0 = read::double(scene, head + DENSITY0);
+    let row = ROW * i;
     let rho = work[row];
-    let pressure = work[row + 6];
-    let mass = work[row + 10];
+    let pressure = work[row + PRESSURE];
+    let mass = work[row + MASS];
     let square = rho * rho;
     Own {
         density0,
@@ -73,6 +78,6 @@ pub fn boundary_acceleration(
     ensures { λ r. ⌜ axes r ≡ accelerationOf (sceneOf (now (scene .entry))) own (contactAt (startsOf Boundary (now (scene .entry))) (now (scene .entry)) at) ⌝ }
 {
     let j = target_of(scene, index, Kind::Boundary, at);
-    let m = work[14 * n + j] * own.density0;
-    read::vector(scene, at + 10).scale(m * own.pressure / own.square)
+    let m = work[ROW * n + j] * own.density0;
+    read::vector(scene, at + CONTACT_GRADIENT).scale(m * own.pressure / own.square)
 }

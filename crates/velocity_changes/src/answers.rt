@@ -1,8 +1,15 @@
 // Velocities, positions and the answers of the fluid particles (update_velocities_and_positions).
 use crate::changes::final_change_of;
 use iisph_particles::index::RECORDS;
+use iisph_particles::rows::PRESSURE;
+use iisph_particles::rows::ROW;
 use iisph_particles::rows::put_vector;
 use math::Vec3;
+use scene::format::ANSWER_PRESSURE;
+use scene::format::ANSWER_VELOCITY;
+use scene::format::ANSWER_WIDTH;
+use scene::format::TOTAL_STEP_SIZE;
+use scene::format::VELOCITY;
 use scene::read;
 ghost use mathlib.Core.Path.{_≡_};
 ghost use Prim.Native.Nat.{_+_, _*_, _<_, _≤_};
@@ -32,9 +39,9 @@ pub fn motion_of(scene: &[u8], index: &[usize], work: &[f64], n: usize, i: usize
     ensures { λ r. ⌜ MotionIs (sceneOf (now (scene .entry))) (pressuresIn n (now (work .entry))) i r ⌝ }
 {
     let change = final_change_of(scene, index, work, n, i);
-    let dt = read::double(scene, 4);
+    let dt = read::double(scene, TOTAL_STEP_SIZE);
     let at = index[RECORDS + i];
-    let before = read::vector(scene, at + 24);
+    let before = read::vector(scene, at + VELOCITY);
     let velocity = before.add(change);
     let position = read::vector(scene, at).add(velocity.scale(dt));
     Motion { position, velocity }
@@ -50,10 +57,10 @@ fn put_answer(scene: &[u8], index: &[usize], work: &[f64], n: usize, answers: &m
     let motion = motion_of(scene, index, work, n, i);
     let position = motion.position;
     let velocity = motion.velocity;
-    let pressure = work[14 * i + 6];
-    put_vector(answers, 7 * i, position);
-    put_vector(answers, 7 * i + 3, velocity);
-    answers[7 * i + 6] = pressure;
+    let pressure = work[ROW * i + PRESSURE];
+    put_vector(answers, ANSWER_WIDTH * i, position);
+    put_vector(answers, ANSWER_WIDTH * i + ANSWER_VELOCITY, velocity);
+    answers[ANSWER_WIDTH * i + ANSWER_PRESSURE] = pressure;
 }
 
 // Those of all fluid particles, in the order of their numbers.

@@ -7,8 +7,14 @@ use iisph_particles::contacts::ContactList;
 use iisph_particles::contacts::contacts_of;
 use iisph_particles::contacts::target_of;
 use iisph_particles::records::velocity_change_of;
+use iisph_particles::rows::MASS;
+use iisph_particles::rows::ROW;
+use iisph_particles::rows::SHARE;
 use math::Vec3;
 use scene::Kind;
+use scene::format::CONTACT_GRADIENT;
+use scene::format::CONTACT_WIDTH;
+use scene::format::TOTAL_STEP_SIZE;
 use scene::read;
 ghost use mathlib.Core.Path.{_≡_};
 ghost use Prim.Native.Nat.{_<_};
@@ -41,10 +47,10 @@ fn loss(
     match kind {
         Kind::Fluid => {
             let j = target_of(scene, index, kind, at);
-            let row = 14 * j;
-            let m = work[row + 10];
-            let share = work[row + 11];
-            read::vector(scene, at + 10).scale(dt * m * (own.share + share))
+            let row = ROW * j;
+            let m = work[row + MASS];
+            let share = work[row + SHARE];
+            read::vector(scene, at + CONTACT_GRADIENT).scale(dt * m * (own.share + share))
         }
         Kind::Boundary => boundary_acceleration(scene, index, work, n, at, own).scale(dt),
     }
@@ -72,7 +78,7 @@ fn less_losses(
     let mut change = from;
     let mut k = 0usize;
     while k < count {
-        change = change.sub(loss(scene, index, work, n, kind, at + 34 * k, own, dt));
+        change = change.sub(loss(scene, index, work, n, kind, at + CONTACT_WIDTH * k, own, dt));
         k += 1;
     }
     change
@@ -93,7 +99,7 @@ pub(crate) fn final_change_of(
 {
     let fluid = contacts_of(scene, index, Kind::Fluid, i);
     let boundary = contacts_of(scene, index, Kind::Boundary, i);
-    let dt = read::double(scene, 4);
+    let dt = read::double(scene, TOTAL_STEP_SIZE);
     let own = own_of(scene, index, work, n, i);
     let first = velocity_change_of(scene, index, n, i);
     let part = less_losses(scene, index, work, n, fluid, own, dt, first);

@@ -20,7 +20,7 @@ exponent-front b at bytes =
     let rest = third * 4294967296 + be32At b (at + 4) in
     let same : be64At b at ≡ be16At b at * 0x1_0000_0000_0000 + rest = omega arith in
     let below : rest < 0x1_0000_0000_0000 =
-        omega (arith, bytes (at + 2), bytes (at + 3), bytes (at + 4), bytes (at + 4 + 1), bytes (at + 4 + 2), bytes (at + 4 + 3)) in
+    omega (arith, bytes (at + 2), bytes (at + 3), bytes (at + 4), bytes (at + 4 + 1), bytes (at + 4 + 2), bytes (at + 4 + 3)) in
     rw (same, front (be16At b at) rest below)
 
 be16-requires : tie.Need-be16-requires
