@@ -14,6 +14,7 @@ use lib.Seq.{sets, length-sets}
 use Rattle.math.specs.Lists.{fold, table, choose}
 use Rattle.math.specs.Vector.{Vector, _⊞_, _⊡_}
 use Rattle.math.proofs.Lists.{length-table, table-at, fold-same, fold-keeps, fold-table}
+use Rattle.scene.specs.Accepted.{Bytes}
 use Rattle.scene.specs.Format.{axes, headerWidth, fluidsOf, boundariesOf, modelAt, numberAt, fluidKind, fluidPlaces, boundaryCounts, fluidPlace}
 use Rattle.scene.specs.Layout.{NameIs, layoutOf}
 use Rattle.scene.specs.Scene.{Scene, Contact, fluidSize, boundarySize, particle, boundary}
@@ -34,7 +35,7 @@ use Rattle.velocity_changes.specs.Changes.{OwnIs, accelerationOf}
 use Rattle.velocity_changes.specs.declared.acceleration.Own.{Own}
 use Rattle.velocity_changes.proofs.Accelerations.{acceleration-is}
 use Rattle.boundary_forces.specs.Forces.{answerOffset, forceStart, forceStarts, ForceContact, ForceContacts, gathered, ownGain, forceGain, gatheredFrom, gatheredAll}
-use Rattle.boundary_forces.proofs.Offsets.{offset-next, offset-kept, offset-needed, width-kept, layout-count, layout-start, alike}
+use Rattle.boundary_forces.proofs.Offsets.{offset-next, offset-even, offset-needed, width-kept, layout-count, layout-start, alike}
 
 -- ---- where the force stands that a contact names
 
@@ -76,7 +77,7 @@ module _ {b : List ℕ} {at : ℕ} (c : ForceContact b at) where
       let p = numberAt b at in
       record {
         kept = λ _. ap (λ (j : ℕ). boundary s j .keepsForces) target-is ∙ same p (omega arith) ∙ e;
-        place = λ _. rw target-is (omega (arith, offset-kept s start p (λ q l. same q (omega arith) ∙ e)));
+        place = λ _. rw target-is (omega (arith, offset-even s start p 4 (λ q l. width-kept s (start + q) (same q (omega arith) ∙ e))));
         none = λ h. absurd (omega arith);
       }
   first-go false e =
@@ -110,10 +111,10 @@ module _ {b : List ℕ} {at : ℕ} (c : ForceContact b at) where
       pub force-place : getD forces (r .model .0) 0 + 4 * r .particle .0 ≡ answerOffset (sceneOf b) (named b at) + 1
       force-place = rw (entry-is, name .particle) (first-is .place (rw entry-is at h))
 
-      pub force-room : getD forces (r .model .0) 0 + 4 * r .particle .0 + 3 ≤ answersNeeded b
-      force-room =
+      pub force-room : Bytes b → getD forces (r .model .0) 0 + 4 * r .particle .0 + 3 ≤ answersNeeded b
+      force-room y =
           let t = named b at in
-          omega (arith, force-place, offset-next (sceneOf b) t, width-kept (sceneOf b) t force-kept, offset-needed b (suc t) target-below)
+          omega (arith, force-place, offset-next (sceneOf b) t, width-kept (sceneOf b) t force-kept, offset-needed b y (suc t) target-below)
 
 -- ---- one contact
 

@@ -14,11 +14,14 @@ use Rattle.math.specs.Lists.{fold, table, choose}
 use Rattle.math.specs.Vector.{Vector, _⊞_}
 use Rattle.math.proofs.Lists.{length-table, table-at, table-same, in-table}
 use Rattle.math.proofs.Vectors.{sum-sized, scaled-sized}
+use Rattle.scene.specs.Accepted.{Bytes}
+use Rattle.scene.specs.Answers.{answerWidth}
 use Rattle.scene.specs.Bytes.{vectorAt}
 use Rattle.scene.specs.Format.{joined}
 use Rattle.scene.specs.Scene.{Scene, Contact, fluidSize, boundarySize, particle, boundary}
 use Rattle.scene.specs.SceneOf.{contactAt, contactList, fluidParticleAt, forceAt, boundaryParticleAt, sceneOf, sizeSum, answersNeeded}
 use Rattle.scene.specs.Walk.{checked}
+use Rattle.scene.specs.declared.Kind.the-variants.{Boundary}
 use Rattle.scene.specs.declared.Walk.the-variants.{At}
 use Rattle.scene.proofs.Places.{boundary-at}
 use Rattle.scene.proofs.Records.{fluid-particle-ok}
@@ -28,7 +31,7 @@ use Rattle.iisph_rules.proofs.EndToEnd.{length-rows}
 use Rattle.iisph_rules.proofs.Iterations.{chosen}
 use Rattle.iisph_particles.specs.WorkList.{elements}
 use Rattle.iisph_particles.proofs.Stores.{sets-in}
-use Rattle.boundary_forces.specs.Forces.{answerWidth, answerOffset, boundaryWith, boundaryGiven, gathered, forceGain, gatheredFrom, gatheredAll}
+use Rattle.boundary_forces.specs.Forces.{widthAt, answerOffset, boundaryWith, boundaryGiven, gathered, forceGain, gatheredFrom, gatheredAll}
 use Rattle.boundary_forces.proofs.Offsets.{offset-next, offset-more, offset-needed, width-kept}
 use Rattle.boundary_forces.proofs.Rows.{sets-cons, sets-whole, sets-inside, row-read, row-store}
 
@@ -38,19 +41,19 @@ use Rattle.boundary_forces.proofs.Rows.{sets-cons, sets-whole, sets-ins
 abbrev pub Fits : Scene → (ℕ → Vector) → Type 0
 Fits s F = (j : ℕ) → j < boundarySize s → boundary s j .keepsForces ≡ true → length (F j) ≡ 3
 
-width-go : (t : Bool) (v : Float) (u : Vector) → (t ≡ true → length u ≡ 3) → length (v ∷ choose t u []) ≡ choose t 4 1
-unfolding choose
+width-go : (t : Bool) (v : Float) (u : Vector) → (t ≡ true → length u ≡ 3) → length (v ∷ choose t u []) ≡ answerWidth Boundary (choose t 1 0)
+unfolding answerWidth choose
 width-go true v u q = ap suc (q refl)
 width-go false v u q = refl
 
 module _ (s : Scene) (F : ℕ → Vector) (fits : Fits s F) where
-  pub with-length : (j : ℕ) → j < boundarySize s → length (boundaryWith s F j) ≡ answerWidth s j
-  unfolding boundaryWith answerWidth
+  pub with-length : (j : ℕ) → j < boundarySize s → length (boundaryWith s F j) ≡ widthAt s j
+  unfolding boundaryWith widthAt
   with-length j h = width-go (boundary s j .keepsForces) (boundaryVolume (boundary s j)) (F j) (fits j h)
 
   -- all of them
-  pub with-all : length (joined (table (boundarySize s) (boundaryWith s F))) ≡ sizeSum (table (boundarySize s) (answerWidth s))
-  with-all = length-rows (boundarySize s) (boundaryWith s F) (answerWidth s) with-length
+  pub with-all : length (joined (table (boundarySize s) (boundaryWith s F))) ≡ sizeSum (table (boundarySize s) (widthAt s))
+  with-all = length-rows (boundarySize s) (boundaryWith s F) (widthAt s) with-length
 
 -- a row with a kept force
 kept-row : (s : Scene) (F : ℕ → Vector) (j : ℕ) → boundary s j .keepsForces ≡ true → boundaryWith s F j ≡ boundaryVolume (boundary s j) ∷ F j
@@ -114,7 +117,7 @@ module _ (s : Scene) (old : List Float) (room : answerOffset s (boundarySize s) 
       unfolding answerOffset
       held-force =
           let at = 7 * fluidSize s in
-          let before = sizeSum (table t (answerWidth s)) in
+          let before = sizeSum (table t (widthAt s)) in
           let rows = joined (table (boundarySize s) (boundaryWith s F)) in
           let size = length-table 3 (λ e. getD (held s old F) (at + before + 1 + e) nan) in
           let own = kept-row s F t kept in
@@ -125,7 +128,7 @@ module _ (s : Scene) (old : List Float) (room : answerOffset s (boundarySize s) 
           table-at 3 (λ e. getD (held s old F) (at + before + 1 + e) nan) e nan here
           ∙ ap (λ (k : ℕ). getD (held s old F) k nan) place
           ∙ sets-in nan rows old at (before + suc e) (omega (arith, room, row-room .1)) (omega (arith, row-room))
-          ∙ row-read (boundarySize s) (boundaryWith s F) (answerWidth s) (with-length s F fits) t (suc e) nan below
+          ∙ row-read (boundarySize s) (boundaryWith s F) (widthAt s) (with-length s F fits) t (suc e) nan below
           (omega (arith, with-length s F fits t below, width-kept s t kept))
           ∙ ap (λ (row : List Float). getD row (suc e) nan) own)
 
@@ -133,7 +136,7 @@ module _ (s : Scene) (old : List Float) (room : answerOffset s (boundarySize s) 
       unfolding answerOffset
       held-grown gain three =
           let at = 7 * fluidSize s in
-          let before = sizeSum (table t (answerWidth s)) in
+          let before = sizeSum (table t (widthAt s)) in
           let rows = joined (table (boundarySize s) (boundaryWith s F)) in
           let volume = boundaryVolume (boundary s t) in
           let force = F t ⊞ gain in
@@ -149,7 +152,7 @@ module _ (s : Scene) (old : List Float) (room : answerOffset s (boundarySize s) 
           ap (λ (k : ℕ). sets (held s old F) k force) place
           ∙ sets-inside force rows old at (before + 1) (omega (arith, size, row-room))
           ∙ ap (λ (r : List Float). sets old at r)
-          (row-store (boundarySize s) (boundaryWith s F) (boundaryWith s (grown t gain F)) (answerWidth s) (with-length s F fits) t 1 force below
+          (row-store (boundarySize s) (boundaryWith s F) (boundaryWith s (grown t gain F)) (widthAt s) (with-length s F fits) t 1 force below
           (omega (arith, size, with-length s F fits t below, width-kept s t kept)) own
           (λ j l h. row-same s (grown t gain F) F j (λ _. grown-other t gain F j h)))
 
@@ -237,12 +240,12 @@ module _ (b : List ℕ) {e : ℕ} (q : checked b ≡ At e) where
       let e = boundary-at b j h in
       ap (λ p. length (p .force)) e ∙ force-go _ _ (sym (ap (λ p. p .keepsForces) e) ∙ k)
 
-  pub all-gathered : (ps old : List Float) {n : ℕ} → n ≡ fluidSize (sceneOf b) → answersNeeded b ≤ length old
+  pub all-gathered : Bytes b → (ps old : List Float) {n : ℕ} → n ≡ fluidSize (sceneOf b) → answersNeeded b ≤ length old
       → gatheredAll (sceneOf b) ps n (sets old (7 * n) (joined (table (boundarySize (sceneOf b)) (boundaryGiven (sceneOf b)))))
       ≡ sets old (7 * n) (joined (table (boundarySize (sceneOf b)) (boundaryAnswer (sceneOf b) (coefficients (sceneOf b)) ps)))
   unfolding gatheredAll boundaryAnswer boundaryForce boundaryWith
-  all-gathered ps old {n} size room =
+  all-gathered y ps old {n} size room =
       let s = sceneOf b in
-      let all = gather-all s old (omega (arith, room, offset-needed b (boundarySize s) (omega arith))) ps contacts-good (table (fluidSize s) (λ i. i))
+      let all = gather-all s old (omega (arith, room, offset-needed b y (boundarySize s) (omega arith))) ps contacts-good (table (fluidSize s) (λ i. i))
       (λ i m. let r = in-table (fluidSize s) (λ i. i) m in rw (r .value) (r .below)) (λ j. boundary s j .force) given-fits in
       rw size all

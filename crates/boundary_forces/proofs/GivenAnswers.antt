@@ -15,13 +15,15 @@ use borrow.Author.Tests.{eqb-true, eq-eqb, ne-eqb}
 use Rattle.math.specs.Lists.{table, choose}
 use Rattle.math.specs.Vector.{Vector}
 use Rattle.math.proofs.Lists.{length-table}
-use Rattle.scene.specs.Accepted.{AllFinite}
+use Rattle.scene.specs.Accepted.{AllFinite, Bytes}
+use Rattle.scene.specs.Answers.{answerWidth}
 use Rattle.scene.specs.Bytes.{vectorAt}
 use Rattle.scene.specs.Format.{joined, boundariesOf, keepsAt, boundaryCounts, boundaryPlaces, boundaryPlace}
 use Rattle.scene.specs.Layout.{modelsOf, layoutOf}
 use Rattle.scene.specs.Scene.{Scene, fluidSize, boundarySize, boundary}
 use Rattle.scene.specs.SceneOf.{forceAt, boundaryParticleAt, sceneOf, answersNeeded}
 use Rattle.scene.specs.Walk.{checked}
+use Rattle.scene.specs.declared.Kind.the-variants.{Boundary}
 use Rattle.scene.specs.declared.Models.{Models}
 use Rattle.scene.specs.declared.Walk.the-variants.{At}
 use Rattle.scene.proofs.Accepted.{accepted}
@@ -34,7 +36,7 @@ use Rattle.iisph_particles.specs.Index.{boundaryRecordsAt, Section, Indexed}
 use Rattle.iisph_particles.proofs.Fills.{sets-append, Filling, none-stored, one-more-stored, all-stored}
 use Rattle.iisph_particles.proofs.Stores.{sets-in}
 use Rattle.iisph_particles.proofs.Targets.{section-place}
-use Rattle.boundary_forces.specs.Forces.{answerWidth, answerOffset, forceStart, forceStarts, Alike, boundaryWith, boundaryGiven}
+use Rattle.boundary_forces.specs.Forces.{widthAt, answerOffset, forceStart, forceStarts, Alike, boundaryWith, boundaryGiven}
 use Rattle.boundary_forces.proofs.Gathered.{with-length, given-fits}
 use Rattle.boundary_forces.proofs.Offsets.{offset-next, offset-needed, offset-none, offset-in, before, none-before, all-before, start-before, count-next, alike}
 use Rattle.boundary_forces.proofs.Rows.{rows-next, rows-none, rows-add}
@@ -47,9 +49,9 @@ kept-here {keeps = keeps} e h = e ∙ eq-eqb keeps 1 h
 pub not-kept-here : {t : Bool} {keeps : ℕ} → t ≡ eqb keeps 1 → (keeps ≡ 1 → ⊥) → t ≡ false
 not-kept-here {keeps = keeps} e h = e ∙ ne-eqb keeps 1 h
 
-pub width-some : (s : Scene) (j : ℕ) → 1 ≤ answerWidth s j
-unfolding answerWidth
-width-some s j = chosen (λ (n : ℕ). 1 ≤ n) (boundary s j .keepsForces) 4 1 (λ _. omega arith) (λ _. omega arith)
+pub width-some : (s : Scene) (j : ℕ) → 1 ≤ widthAt s j
+unfolding widthAt answerWidth
+width-some s j = chosen (λ (n : ℕ). 1 ≤ answerWidth Boundary n) (boundary s j .keepsForces) 1 0 (λ _. omega arith) (λ _. omega arith)
 
 force-read : (b : List ℕ) (k at : ℕ) → k ≡ 1 → vectorAt 3 b at ≡ forceAt k b at
 unfolding forceAt
@@ -101,19 +103,19 @@ module _ (b : List ℕ) (l : List Float) (first count : ℕ) where
 
   module _ {e : ℕ} (q : checked b ≡ At e) (fits : first + count ≤ boundarySize (sceneOf b)) {p to : ℕ} {x : List Float}
       (here : ModelPut b l first count p to x) where
-    pub particle-room : p < count → answersNeeded b ≤ length l → to + answerWidth (sceneOf b) (first + p) ≤ length x
-    particle-room h room =
+    pub particle-room : Bytes b → p < count → answersNeeded b ≤ length l → to + widthAt (sceneOf b) (first + p) ≤ length x
+    particle-room y h room =
         let s = sceneOf b in
-        omega (arith, here .long, here .next, offset-next s (first + p), offset-needed b (suc (first + p)) (omega arith))
+        omega (arith, here .long, here .next, offset-next s (first + p), offset-needed b y (suc (first + p)) (omega arith))
 
-    pub one-more-put : p < count → {r : ℕ} {y : List Float} → r ≡ to + answerWidth (sceneOf b) (first + p) → y ≡ sets x to (boundaryGiven (sceneOf b) (first + p))
+    pub one-more-put : p < count → {r : ℕ} {y : List Float} → r ≡ to + widthAt (sceneOf b) (first + p) → y ≡ sets x to (boundaryGiven (sceneOf b) (first + p))
         → ModelPut b l first count (p + 1) r y
     one-more-put h re ye =
         let s = sceneOf b in
         let at = answerOffset s first in
         let given : ℕ → List Float = λ k. boundaryGiven s (first + k) in
         let done = joined (table p given) in
-        let long = length-rows p given (λ k. answerWidth s (first + k))
+        let long = length-rows p given (λ k. widthAt s (first + k))
         (λ k m. with-length s (λ j. boundary s j .force) (given-fits b q) (first + k) (omega arith)) in
         let place : to ≡ at + length done = omega (arith, here .next, long, offset-in s first p) in
         let more : first + (p + 1) ≡ suc (first + p) = omega arith in
@@ -156,10 +158,10 @@ module _ (b fs : List ℕ) (l : List Float) where
 
   module _ {w to : ℕ} {gs : List ℕ} {x : List Float} (here : ModelsPut b fs l w to gs x) where
     -- the next boundary begins within what is needed
-    pub model-room : w < boundariesOf b → to ≤ answersNeeded b
-    model-room h =
+    pub model-room : Bytes b → w < boundariesOf b → to ≤ answersNeeded b
+    model-room y h =
         let within = alike b w h .within in
-        omega (arith, here .next, start-before b w h, offset-needed b (before (boundaryCounts b) w) (omega (arith, within, start-before b w h)))
+        omega (arith, here .next, start-before b w h, offset-needed b y (before (boundaryCounts b) w) (omega (arith, within, start-before b w h)))
 
     module _ (h : w < boundariesOf b) {models : Models} (is : models ≡ layoutOf b .boundaries) where
       -- and is as the layout gives it
@@ -186,7 +188,7 @@ module _ (b fs : List ℕ) (l : List Float) where
           let count = getD (models .counts) w 0 in
           let start : getD (models .starts) w 0 ≡ done = rw is (start-before b w h) in
           let more : before (boundaryCounts b) (suc w) ≡ done + count = rw is (count-next b w h) in
-          let long = length-rows done given (answerWidth s)
+          let long = length-rows done given (widthAt s)
           (λ j m. with-length s (λ j. boundary s j .force) (given-fits b q) j (omega (arith, start, model-alike .within))) in
           let place : to ≡ 7 * fluidSize s + length (joined (table done given)) = omega (arith, here .next, long) in
           let stores : y ≡ sets x to (joined (table count (λ p. given (done + p)))) =

@@ -9,6 +9,7 @@ use lib.ListN.{getD}
 use lib.Seq.{sets}
 use Rattle.math.specs.Lists.{fold, table, choose}
 use Rattle.math.specs.Vector.{Vector, _⊞_, _⊡_}
+use Rattle.scene.specs.Answers.{answerWidth}
 use Rattle.scene.specs.Format.{axes, contactWidth, boundariesOf, modelAt, numberAt, boundaryCounts}
 use Rattle.scene.specs.Layout.{layoutOf}
 use Rattle.scene.specs.Scene.{Scene, Contact, fluidSize, boundarySize, particle, boundary}
@@ -25,12 +26,12 @@ use Rattle.velocity_changes.specs.declared.acceleration.Own.{Own}
 -- ---- places
 
 -- how many answers boundary particle j has: its volume and, if kept, its force
-unfoldable pub answerWidth : Scene → ℕ → ℕ
-answerWidth s j = choose (boundary s j .keepsForces) (1 + axes) 1
+unfoldable pub widthAt : Scene → ℕ → ℕ
+widthAt s j = answerWidth Boundary (choose (boundary s j .keepsForces) 1 0)
 
 -- where they begin: behind those of the fluid particles and of the boundary particles before it
 unfoldable pub answerOffset : Scene → ℕ → ℕ
-answerOffset s j = (1 + 2 * axes) * fluidSize s + sizeSum (table j (answerWidth s))
+answerOffset s j = (1 + 2 * axes) * fluidSize s + sizeSum (table j (widthAt s))
 
 -- where the force of boundary w's first particle stands, or 0 if the boundary keeps no forces
 unfoldable pub forceStart : List ℕ → ℕ → ℕ

@@ -5,6 +5,7 @@ use iisph_particles::rows::put_vector;
 use iisph_particles::rows::vector_at;
 use scene::Kind;
 use scene::format::CONTACT_WIDTH;
+use scene::format::KEPT_ANSWER_WIDTH;
 use scene::read;
 use velocity_changes::acceleration::Own;
 use velocity_changes::acceleration::boundary_acceleration;
@@ -41,7 +42,7 @@ fn gather(
     let particle = name.particle.0;
     let first = forces[model];
     if first > 0 {
-        let k = first + 4 * particle;
+        let k = first + KEPT_ANSWER_WIDTH * particle;
         let a = boundary_acceleration(scene, index, work, n, at, own);
         let force = vector_at(answers, k).add(a.scale(own.mass));
         put_vector(answers, k, force);

@@ -4,6 +4,7 @@ use iisph_particles::rows::ROW;
 use iisph_particles::rows::put_vector;
 use scene::Models;
 use scene::format::ANSWER_WIDTH;
+use scene::format::KEPT_ANSWER_WIDTH;
 use scene::format::KEPT_FORCE;
 use scene::read;
 ghost use mathlib.Core.Path.{_≡_};
@@ -18,7 +19,7 @@ ghost use Rattle.scene.specs.Scene.{fluidSize, boundarySize, boundary};
 ghost use Rattle.scene.specs.SceneOf.{sceneOf, answersNeeded};
 ghost use Rattle.iisph_particles.specs.Index.{Indexed};
 ghost use Rattle.iisph_particles.specs.IterationRows.{IterationReady, pressuresIn};
-ghost use Rattle.boundary_forces.specs.Forces.{answerWidth, answerOffset, forceStarts, Alike, boundaryGiven};
+ghost use Rattle.boundary_forces.specs.Forces.{widthAt, answerOffset, forceStarts, Alike, boundaryGiven};
 
 // Volume and any force of boundary particle j, from element `at` on; where the next particle's answers begin. `keeps` is 1 if its boundary keeps forces.
 fn put_particle(
@@ -34,15 +35,15 @@ fn put_particle(
     requires { ⌜ Indexed (now scene) (now index) ⌝ }
     requires { ⌜ (n ≡ fluidSize (sceneOf (now scene))) × IterationReady (sceneOf (now scene)) (pressuresIn n (now work)) n (now work) ⌝ }
     requires { ⌜ (j < boundarySize (sceneOf (now scene))) × (boundary (sceneOf (now scene)) j .keepsForces ≡ eqb keeps 1) ⌝ }
-    requires { ⌜ at + answerWidth (sceneOf (now scene)) j ≤ length (now answers) ⌝ }
-    ensures { λ r. ⌜ (r ≡ at + answerWidth (sceneOf (now (scene .entry))) j) × (now (answers .exit) ≡ sets (now (answers .entry)) at (boundaryGiven (sceneOf (now (scene .entry))) j)) ⌝ }
+    requires { ⌜ at + widthAt (sceneOf (now scene)) j ≤ length (now answers) ⌝ }
+    ensures { λ r. ⌜ (r ≡ at + widthAt (sceneOf (now (scene .entry))) j) × (now (answers .exit) ≡ sets (now (answers .entry)) at (boundaryGiven (sceneOf (now (scene .entry))) j)) ⌝ }
 {
     answers[at] = work[ROW * n + j];
     if keeps == 1 {
         let record = index[BOUNDARY_RECORDS + j];
         let force = read::vector(scene, record + KEPT_FORCE);
         put_vector(answers, at + 1, force);
-        return at + 4;
+        return at + KEPT_ANSWER_WIDTH;
     }
     at + 1
 }

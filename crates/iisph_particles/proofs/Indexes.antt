@@ -169,6 +169,7 @@ module _ (b : List ℕ) (bytes : Bytes b) (q : checked b ≡ At (length b)) wher
         let of-3 : length l₃ ≡ length l = length-sets l₂ recordsAt at ∙ of-2 in
         let of-4 : length l₄ ≡ length l = length-sets l₃ headsAt head ∙ of-3 in
         record {
+          bytes = bytes;
           accepted = q;
           room = rw length-index room;
           fluidFew = fluid-size-few b bytes q;

@@ -6,6 +6,7 @@ use mathlib.Core.List.{List, map}
 use lib.ListN.{length, getD}
 use lib.Seq.{sets}
 use Rattle.math.specs.Lists.{table}
+use Rattle.scene.specs.Accepted.{Bytes}
 use Rattle.scene.specs.Format.{axes, headerWidth, fluidsOf, boundariesOf, Place, placesFrom, boundariesStart, fluidPlaces, boundaryPlaces}
 use Rattle.scene.specs.Kinds.{kindOf}
 use Rattle.scene.specs.Layout.{modelsOf}
@@ -86,6 +87,7 @@ pub record Section (k : ℕ) (xs index : List ℕ) : Type 0 where
 
 -- the index of the bytes b, which are accepted
 pub record Indexed (b index : List ℕ) : Type 0 where
+  pub bytes : Bytes b
   pub accepted : checked b ≡ At (length b)
   pub room : indexLength ≤ length index
   pub fluidFew : fluidSize (sceneOf b) ≤ 32768

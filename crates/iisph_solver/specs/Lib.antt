@@ -1,6 +1,5 @@
 pub mod Traverse
 pub mod Errors
-pub mod Needed
 pub mod Needs
 pub mod Prepare
 pub mod Solve

@@ -1,13 +1,16 @@
 // How many doubles a step's two lists must have.
 use iisph_particles::rows::ROW;
+use scene::Kind;
 use scene::Layout;
 use scene::Refusal;
 use scene::Verdict;
+use scene::answer_width;
 use scene::format::ANSWER_WIDTH;
 ghost use mathlib.Core.Path.{_≡_};
 ghost use Prim.Native.Nat.{_≤_};
-ghost use Rattle.iisph_solver.specs.Needed.{boundaryAnswersNeeded, layoutAnswersNeeded, Few};
-ghost use Rattle.iisph_solver.specs.Needs.{layoutLengths, needsOf};
+ghost use Rattle.scene.specs.Answers.{answersBefore, allAnswers};
+ghost use Rattle.scene.specs.declared.Kind.the-variants.{Boundary};
+ghost use Rattle.iisph_solver.specs.Needs.{Few, layoutLengths, needsOf};
 
 // The length of each list.
 pub struct Lengths {
@@ -23,13 +26,13 @@ pub enum Needs {
 
 // Of each boundary particle its volume and, if kept, its force.
 fn boundary_answers_needed(counts: [usize; 16], keeps: [usize; 16], number: usize) -> usize
-    requires { ⌜ Few counts keeps number ⌝ }
-    ensures { λ r. ⌜ (r ≤ 4194240) × (r ≡ boundaryAnswersNeeded counts keeps number) ⌝ }
+    requires { ⌜ Few counts number ⌝ }
+    ensures { λ r. ⌜ (r ≤ 4194240) × (r ≡ answersBefore Boundary keeps counts number) ⌝ }
 {
     let mut needed = 0usize;
     let mut m = 0usize;
     while m < number {
-        needed += counts[m] * (1 + 3 * keeps[m]);
+        needed += answer_width(Kind::Boundary, keeps[m]) * counts[m];
         m += 1;
     }
     needed
@@ -37,8 +40,8 @@ fn boundary_answers_needed(counts: [usize; 16], keeps: [usize; 16], number: usiz
 
 // Of each fluid particle its position, velocity and pressure; then those of the boundary particles.
 pub fn answers_needed(layout: Layout) -> usize
-    requires { ⌜ (layout .fluids .total ≤ 32768) × Few (layout .boundaries .counts) (layout .boundaries .keeps) (layout .boundaries .number) ⌝ }
-    ensures { λ r. ⌜ r ≡ layoutAnswersNeeded layout ⌝ }
+    requires { ⌜ (layout .fluids .total ≤ 32768) × Few (layout .boundaries .counts) (layout .boundaries .number) ⌝ }
+    ensures { λ r. ⌜ r ≡ allAnswers layout ⌝ }
 {
     let boundaries = layout.boundaries;
     let counts = boundaries.counts;
@@ -50,7 +53,7 @@ pub fn answers_needed(layout: Layout) -> usize
 // Of both lists, as a layout says.
 fn layout_lengths(layout: Layout) -> Lengths
     requires { ⌜ (layout .fluids .total ≤ 32768) × (layout .boundaries .total ≤ 32768) ⌝ }
-    requires { ⌜ Few (layout .boundaries .counts) (layout .boundaries .keeps) (layout .boundaries .number) ⌝ }
+    requires { ⌜ Few (layout .boundaries .counts) (layout .boundaries .number) ⌝ }
     ensures { λ r. ⌜ r ≡ layoutLengths layout ⌝ }
 {
     Lengths {

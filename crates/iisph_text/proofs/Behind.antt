@@ -8,8 +8,9 @@ use lib.Ieee.{Float, nan}
 use Rattle.math.proofs.Lists.{table-same}
 use Rattle.scene.specs.declared.Kind.{Kind}
 use Rattle.scene.specs.declared.Models.{Models}
+use Rattle.scene.specs.Answers.{widthIn, answersBefore, answersIn}
 use Rattle.scene.specs.Format.{joined}
-use Rattle.iisph_text.specs.Text.{doubleText, doublesText, particleLine, modelText, widthIn, answersBefore, modelsUpto, answersIn, modelsText}
+use Rattle.iisph_text.specs.Text.{doubleText, doublesText, particleLine, modelText, modelsUpto, modelsText}
 use Rattle.iisph_text.proofs.ModelLines.{turn-fits, model-fits}
 
 module _ (xs rest : List Float) where

@@ -9,10 +9,12 @@ use Rattle.scene.specs.declared.Kind.the-variants.{Fluid, Boundary}
 use Rattle.scene.specs.declared.Models.{Models}
 use Rattle.scene.specs.declared.Walk.the-variants.{At}
 use Rattle.scene.specs.declared.Checked.{Checked}
+use Rattle.scene.specs.Answers.{answersIn}
 use Rattle.scene.specs.Layout.{layoutOf, layoutFor, modelsOf, ChecksTo}
 use Rattle.scene.specs.SceneOf.{sceneOf, answersNeeded}
 use Rattle.scene.specs.Accepted.{Bytes}
 use Rattle.scene.proofs.Accepted.{accepted, accepted-length}
+use Rattle.scene.proofs.Answers.{fluid-answers, answers-all}
 use Rattle.iisph_rules.specs.Step.{answersOf}
 use Rattle.iisph_rules.specs.Answer.{stepAnswer, answersAfter}
 use Rattle.iisph_rules.specs.declared.Report.{Report}
@@ -20,9 +22,8 @@ use Rattle.iisph_rules.specs.declared.StepAnswer.the-variants.{Done}
 use Rattle.iisph_rules.proofs.Reports.{step-done, answers-done}
 use Rattle.iisph_rules.proofs.Sizes.{length-answers, beyond-answers}
 use Rattle.iisph_text.specs.Digits.{Writes}
-use Rattle.iisph_text.specs.Text.{stepLine, clockLine, answersIn, modelsText, particlesText, answerText}
+use Rattle.iisph_text.specs.Text.{stepLine, clockLine, modelsText, particlesText, answerText}
 use Rattle.iisph_text.specs.Run.{Reported}
-use Rattle.iisph_text.proofs.Counted.{fluid-answers, needed-answers}
 use Rattle.iisph_text.proofs.Behind.{text-behind}
 use Rattle.iisph_text.proofs.Texts.{done-room}
 
@@ -64,10 +65,10 @@ module _ (b : List ℕ) {r : Report} (d : Reported b r) where
     needed-there = omega (arith, ap length x, length-append (answersOf (sceneOf b)) rest, length-answers b y)
 
     pub fluids-there : answersIn Fluid fluids ≤ length xs
-    fluids-there = rw f (omega (arith, needed-there, needed-answers b y, fluid-answers b))
+    fluids-there = rw f (omega (arith, needed-there, answers-all b y, fluid-answers b))
 
     pub boundaries-there : 7 * fluids .total + answersIn Boundary boundaries ≤ length xs
-    boundaries-there = rw (f, g) (omega (arith, needed-there, needed-answers b y))
+    boundaries-there = rw (f, g) (omega (arith, needed-there, answers-all b y))
 
     pub lines-room : length (stepLine r) + length (clockLine (r .clock)) + (length (modelsText Fluid fluids 0 xs) + length (modelsText Boundary boundaries (7 * fluids .total) xs))
         ≤ 2 * length b
@@ -82,8 +83,8 @@ module _ (b : List ℕ) {r : Report} (d : Reported b r) where
           f,
           g,
           x,
-          text-behind (answersOf (sceneOf b)) rest Fluid (layoutOf b .fluids) 0 (omega (arith, n, needed-answers b y, fluid-answers b)),
-          text-behind (answersOf (sceneOf b)) rest Boundary (layoutOf b .boundaries) (7 * layoutOf b .fluids .total) (omega (arith, n, needed-answers b y)),
+          text-behind (answersOf (sceneOf b)) rest Fluid (layoutOf b .fluids) 0 (omega (arith, n, answers-all b y, fluid-answers b)),
+          text-behind (answersOf (sceneOf b)) rest Boundary (layoutOf b .boundaries) (7 * layoutOf b .fluids .total) (omega (arith, n, answers-all b y)),
         )
 
     pub lines-written : {out o : List ℕ} {n : ℕ}

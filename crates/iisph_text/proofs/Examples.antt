@@ -3,6 +3,7 @@
 use Prim.Native.Nat.{ℕ}
 use mathlib.Core.Path.{_≡_, refl}
 use mathlib.Core.List.{List, [], _∷_, _++_}
+use Rattle.scene.specs.Answers
 use Rattle.scene.specs.Layout
 use Rattle.scene.specs.Packed.{sceneA, contactA, boundaryScene}
 use Rattle.worked_examples.proofs.Rows.{evaluation}
@@ -12,10 +13,10 @@ use Rattle.iisph_text.specs.Text.{textOf}
 
 writing : ℕ
 unfolding evaluation
-    Layout.padded Layout.modelsOf Layout.layoutOf
+    Layout.padded Layout.modelsOf Layout.layoutOf Answers.answerWidth Answers.answersBefore
     Digits.digits Digits.hexOf Digits.placesWithin Digits.decimalOf
-    Text.doubleText Text.doublesText Text.sweptText Text.endingText Text.stepLine Text.clockLine Text.kindWord Text.particleLine Text.answerWidth
-    Text.modelText Text.answersBefore Text.modelsUpto Text.particlesText Text.refusedLine Text.answerText Text.tooLong Text.textWith Text.textOf
+    Text.doubleText Text.doublesText Text.sweptText Text.endingText Text.stepLine Text.clockLine Text.kindWord Text.particleLine
+    Text.modelText Text.modelsUpto Text.particlesText Text.refusedLine Text.answerText Text.tooLong Text.textWith Text.textOf
 writing = 0
 
 -- step settled 2 0000000000000000

@@ -2,7 +2,6 @@ pub mod Written
 pub mod Numbers
 pub mod Widths
 pub mod ModelLines
-pub mod Counted
 pub mod Behind
 pub mod Room
 pub mod Texts

@@ -1,18 +1,19 @@
 -- The lines of a model's particles and of the models, one more at a time: each fits where all fit, and it reads answers that are there. Assumes nothing.
-use Prim.Native.Nat.{ℕ, zero, suc, _+_, _-_, _*_, _≤_, _<_}
+use Prim.Native.Nat.{ℕ, suc, _+_, _-_, _*_, _≤_, _<_}
 use mathlib.Core.Path.{_≡_, ap}
 use mathlib.Core.List.{List}
-use native.Mathlib.Nat.{add-zero, add-suc, mul-suc, mul-le-mul-left}
-use native.Mathlib.Numerals.{add-one}
+use native.Mathlib.Nat.{mul-suc, mul-le-mul-left}
 use native.Mathlib.Omega.{arith}
 use lib.ListN.{length, getD}
 use lib.Ieee.{Float}
 use Rattle.math.specs.Lists.{table}
 use Rattle.scene.specs.declared.Kind.{Kind}
+use Rattle.scene.specs.Answers.{widthIn, answersBefore}
 use Rattle.scene.specs.Format.{joined}
 use Rattle.scene.specs.SceneOf.{sizeSum}
+use Rattle.scene.proofs.Numbering.{sum-next, sum-more}
 use Rattle.iisph_text.specs.Digits.{Writes}
-use Rattle.iisph_text.specs.Text.{doublesText, particleLine, modelText, widthIn, answersBefore, modelsUpto}
+use Rattle.iisph_text.specs.Text.{doublesText, particleLine, modelText, modelsUpto}
 use Rattle.iisph_text.proofs.Written.{none-written, next-written, room-upto}
 
 -- ---- the particles of model m
@@ -42,23 +43,9 @@ module _ (κ : Kind) (m w k : ℕ) (xs : List Float) where
 
 -- ---- the models of a kind
 
-sum-next : (f : ℕ → ℕ) (n : ℕ) → sizeSum (table (suc n) f) ≡ sizeSum (table n f) + f n
-unfolding table sizeSum
-sum-next f zero = omega arith
-sum-next f (suc n) = omega (arith, sum-next (λ k. f (suc k)) n)
-
--- all before the n-th are as many as those before the m-th and more
-sum-upto : (f : ℕ → ℕ) (d m : ℕ) → sizeSum (table m f) ≤ sizeSum (table (m + d) f)
-sum-upto f zero m = rw add-zero (omega arith)
-sum-upto f (suc d) m = rw add-suc (omega (arith, sum-next f (m + d), sum-upto f d m))
-
 module _ (κ : Kind) (keeps counts : List ℕ) where
   abbrev count : ℕ → ℕ
   count m = getD (counts) m 0
-
-  pub answers-next : (m : ℕ) → answersBefore κ keeps counts (m + 1) ≡ answersBefore κ keeps counts m + widthIn κ keeps m * count m
-  unfolding answersBefore
-  answers-next m = rw (add-one m) (sum-next (λ j. widthIn κ keeps j * count j) m)
 
   pub model-fits : (k : ℕ) {n m from l : ℕ} → m < n → from ≡ k + answersBefore κ keeps counts m → k + answersBefore κ keeps counts n ≤ l
       → from + widthIn κ keeps m * count m ≤ l
@@ -66,7 +53,7 @@ module _ (κ : Kind) (keeps counts : List ℕ) where
   model-fits k {n} {m} h e r =
       let f : ℕ → ℕ = λ j. widthIn κ keeps j * count j in
       let q : suc m + (n - suc m) ≡ n = omega arith in
-      omega (arith, sum-next f m, sum-upto f (n - suc m) (suc m), ap (λ j. sizeSum (table j f)) q)
+      omega (arith, sum-next m f, sum-more f (suc m) (n - suc m), ap (λ j. sizeSum (table j f)) q)
 
   module _ (k : ℕ) (xs : List Float) where
     model : ℕ → List ℕ

@@ -1,7 +1,7 @@
 -- The text of an accepted scene is at most twice as long as the scene, and the scene's answers are at most a twelfth of it: every particle's line is at most twice
 -- its record before the contacts, model by model. Assumes nothing.
 use Prim.Native.Nat.{ℕ, zero, suc, _+_, _*_, _^_, _<_, _≤_}
-use mathlib.Core.Path.{_≡_, ap, _∙_}
+use mathlib.Core.Path.{_≡_, ap}
 use mathlib.Core.List.{List}
 use native.Mathlib.Nat.{mul-zero, mul-suc, mul-assoc, mul-le-mul-right}
 use native.Mathlib.Omega.{arith}
@@ -12,19 +12,19 @@ use Rattle.scene.specs.declared.Kind.{Kind}
 use Rattle.scene.specs.declared.Kind.the-variants.{Fluid, Boundary}
 use Rattle.scene.specs.declared.Models.{Models}
 use Rattle.scene.specs.declared.Walk.the-variants.{At}
-use Rattle.scene.specs.Format.{axes, headerWidth, fluidsOf, boundariesOf, fluidKind, boundaryKind, keepsAt, iter, trail, joined, modelEnd, headsFrom, boundariesStart}
+use Rattle.scene.specs.Answers.{answerWidth, widthIn, answersBefore, answersIn, fluidAnswers}
+use Rattle.scene.specs.Format.{axes, headerWidth, fluidsOf, boundariesOf, fluidKind, boundaryKind, keepsAt, iter, joined, modelEnd, boundariesStart}
 use Rattle.scene.specs.Kinds.{kindOf, ownWidth}
 use Rattle.scene.specs.Layout.{modelsOf, layoutOf}
 use Rattle.scene.specs.SceneOf.{sizeSum, answersNeeded}
 use Rattle.scene.specs.Accepted.{Bytes}
 use Rattle.scene.specs.Walk.{checked}
 use Rattle.scene.proofs.Accepted.{accepted}
-use Rattle.scene.proofs.Numbering.{length-trail, trail-at}
+use Rattle.scene.proofs.Answers.{layout-keeps, layout-counts, fluid-answers, answers-all}
 use Rattle.iisph_text.specs.Digits.{decimalOf}
-use Rattle.iisph_text.specs.Text.{doublesText, kindWord, particleLine, answerWidth, modelText, widthIn, answersBefore, answersIn, modelsUpto, modelsText, particlesText}
+use Rattle.iisph_text.specs.Text.{doublesText, kindWord, particleLine, modelText, modelsUpto, modelsText, particlesText}
 use Rattle.iisph_text.proofs.Numbers.{length-decimal, few-places}
 use Rattle.iisph_text.proofs.Widths.{length-doubles, length-line}
-use Rattle.iisph_text.proofs.Counted.{at-head, fluid-answers, needed-answers}
 
 -- ---- a particle's line and answers, against its record
 
@@ -113,29 +113,20 @@ module _ (κ : Kind) (b : List ℕ) (n start : ℕ) where
   abbrev models : Models
   models = modelsOf (kindOf κ) b n start
 
-  -- what the layout has for model m is that of its head
-  keeps-at : (m : ℕ) → m < n → getD (models .keeps) m 0 ≡ keepsAt b (iter m (modelEnd (kindOf κ) b) start)
-  unfolding modelsOf headsFrom
-  keeps-at m h =
-      at-head (keepsAt b) (trail n (modelEnd (kindOf κ) b) start) m (rw length-trail h) ∙ ap (keepsAt b) (trail-at (modelEnd (kindOf κ) b) n start m h)
-
-  counts-at : (m : ℕ) → m < n → getD (models .counts) m 0 ≡ kindOf κ .count b (iter m (modelEnd (kindOf κ) b) start)
-  unfolding modelsOf headsFrom
-  counts-at m h =
-      at-head (kindOf κ .count b) (trail n (modelEnd (kindOf κ) b) start) m (rw length-trail h)
-      ∙ ap (kindOf κ .count b) (trail-at (modelEnd (kindOf κ) b) n start m h)
-
   models-room : n ≤ 8 → ((m : ℕ) → m < n → kindOf κ .count b (iter m (modelEnd (kindOf κ) b) start) ≤ 4096) → (k : ℕ) (xs : List Float)
       → length (modelsUpto n κ (models .keeps) (models .counts) k xs) + 2 * start ≤ 2 * iter n (modelEnd (kindOf κ) b) start
   unfolding modelsUpto
   models-room few small k xs =
       texts-room (modelEnd (kindOf κ) b) n start
       (λ m. modelText κ m (getD (models .counts) m 0) (widthIn κ (models .keeps) m) (k + answersBefore κ (models .keeps) (models .counts) m) xs)
-      (λ m h. model-room b _ κ (keeps-at m h) m _ (omega arith) (rw (counts-at m h) (small m h)) (counts-at m h) _ xs)
+      (λ m h.
+      let count = layout-counts (kindOf κ) b n start m h in
+      model-room b _ κ (layout-keeps (kindOf κ) b n start m h) m _ (omega arith) (rw count (small m h)) count _ xs)
 
   models-answers : 12 * answersBefore κ (models .keeps) (models .counts) n + start ≤ iter n (modelEnd (kindOf κ) b) start
   unfolding answersBefore
-  models-answers = sums-room (modelEnd (kindOf κ) b) n start _ (λ m h. model-answers b _ κ (keeps-at m h) _ (counts-at m h))
+  models-answers =
+      sums-room (modelEnd (kindOf κ) b) n start _ (λ m h. model-answers b _ κ (layout-keeps (kindOf κ) b n start m h) _ (layout-counts (kindOf κ) b n start m h))
 
 -- ---- an accepted scene
 
@@ -167,7 +158,7 @@ module _ (b : List ℕ) (y : Bytes b) {e : ℕ} (q : checked b ≡ At e) where
   unfolding particlesText
   particles-room xs =
       let f = modelsText Fluid (layoutOf b .fluids) 0 xs in
-      let k = (1 + 2 * axes) * layoutOf b .fluids .total in
+      let k = fluidAnswers (layoutOf b) in
       omega (arith, length-append f (modelsText Boundary (layoutOf b .boundaries) k xs), fluids-room xs, boundaries-room k xs)
 
   fluids-answers : 12 * answersIn Fluid (layoutOf b .fluids) + headerWidth axes ≤ boundariesStart b
@@ -180,4 +171,4 @@ module _ (b : List ℕ) (y : Bytes b) {e : ℕ} (q : checked b ≡ At e) where
 
   -- a double for at least 12 bytes
   pub answers-few : 12 * answersNeeded b ≤ length b
-  answers-few = omega (arith, needed-answers b y, fluid-answers b, fluids-answers, boundaries-answers)
+  answers-few = omega (arith, answers-all b y, fluid-answers b, fluids-answers, boundaries-answers)

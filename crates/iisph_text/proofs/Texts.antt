@@ -3,7 +3,7 @@
 use Prim.Native.Nat.{ℕ, zero, suc, _+_, _*_, _<_, _≤_}
 use mathlib.Core.Path.{_≡_, refl, ap}
 use mathlib.Core.Bool.{Bool, true, false}
-use mathlib.Core.List.{List}
+use mathlib.Core.List.{List, [], _∷_, map}
 use native.Mathlib.Omega.{arith}
 use lib.Dec.{ltb, lit≤}
 use lib.ListN.{length}
@@ -13,8 +13,9 @@ use Rattle.math.specs.Lists.{choose}
 use Rattle.scene.specs.declared.Walk.{Walk}
 use Rattle.scene.specs.declared.Walk.the-variants as walk
 use Rattle.scene.specs.Bytes.{byteAt}
+use Rattle.scene.specs.Format.{axes, keepsAt, Place, boundaryPlaces}
 use Rattle.scene.specs.Scene.{Scene}
-use Rattle.scene.specs.SceneOf.{sceneOf, headerOf, answersNeeded, workNeeded}
+use Rattle.scene.specs.SceneOf.{sceneOf, headerOf, sizeSum, answersNeeded, workNeeded}
 use Rattle.scene.specs.Accepted.{Bytes}
 use Rattle.scene.specs.Walk.{checked}
 use Rattle.iisph_rules.specs.Coefficients.{Coefficients}
@@ -29,7 +30,6 @@ use Rattle.iisph_text.specs.Text.{sweptText, endingText, stepLine, clock
 use Rattle.iisph_text.specs.Run.{Reported}
 use Rattle.iisph_text.proofs.Numbers.{length-decimal, few-places}
 use Rattle.iisph_text.proofs.Widths.{length-swept, length-unswept, length-step, length-clock}
-use Rattle.iisph_text.proofs.Counted.{needed-work}
 use Rattle.iisph_text.proofs.Room.{particles-room, answers-few}
 
 -- ---- the first line
@@ -70,6 +70,17 @@ module _ (b : List ℕ) (y : Bytes b) {r : Report} (d : Reported b r) where
   done-room xs = omega (arith, step-most, length-clock (r .clock), particles-room b y (d .accepted) xs)
 
 -- ---- long enough lists
+
+-- of work never more than twice as many doubles as of answers
+module _ (b : List ℕ) where
+  few-places-sum : (ps : List Place) → length ps ≤ sizeSum (map (λ p. 1 + axes * keepsAt b (p .head)) ps)
+  unfolding sizeSum
+  few-places-sum [] = omega arith
+  few-places-sum (p ∷ ps) = omega (arith, few-places-sum ps)
+
+  needed-work : workNeeded b ≤ 2 * answersNeeded b
+  unfolding workNeeded answersNeeded
+  needed-work = omega (arith, few-places-sum (boundaryPlaces b))
 
 module _ (b : List ℕ) (y : Bytes b) {answers work : ℕ} (a : 4096 ≤ answers) (w : 8192 ≤ work) where
   step-same : length b ≤ mostBytes → (v : Walk) → checked b ≡ v → stepAnswer b answers work ≡ stepAnswer b (answersNeeded b) (workNeeded b)

@@ -1,5 +1,5 @@
 -- The text that the program writes for a packed scene, byte by byte in ASCII (document 01, "Scenes and edges"). Every line ends with a newline. Definitions only.
-use Prim.Native.Nat.{ℕ, zero, suc, _+_, _*_}
+use Prim.Native.Nat.{ℕ, _+_, _*_}
 use mathlib.Core.List.{List, [], _∷_, _++_}
 use lib.Dec.{ltb}
 use lib.ListN.{length, getD}
@@ -10,10 +10,11 @@ use Rattle.scene.specs.declared.Kind.{Kind}
 use Rattle.scene.specs.declared.Kind.the-variants.{Fluid, Boundary}
 use Rattle.scene.specs.declared.Models.{Models}
 use Rattle.scene.specs.declared.Refusal.{Refusal}
-use Rattle.scene.specs.Format.{axes, joined}
+use Rattle.scene.specs.Answers.{widthIn, answersBefore, fluidAnswers}
+use Rattle.scene.specs.Format.{joined}
 use Rattle.scene.specs.Walk.{numberOf, placeOf}
 use Rattle.scene.specs.Layout.{layoutOf}
-use Rattle.scene.specs.SceneOf.{sceneOf, sizeSum, answersNeeded, workNeeded}
+use Rattle.scene.specs.SceneOf.{sceneOf, answersNeeded, workNeeded}
 use Rattle.iisph_rules.specs.Step.{answersOf}
 use Rattle.iisph_rules.specs.Answer.{stepAnswer}
 use Rattle.iisph_rules.specs.declared.Ending.{Ending}
@@ -70,40 +71,23 @@ kindWord Boundary = 119 ∷ 97 ∷ 108 ∷ 108 ∷ 32 ∷ []
 unfoldable pub particleLine : Kind → ℕ → ℕ → List ℕ → List ℕ
 particleLine κ m i answers = kindWord κ ++ decimalOf m ++ space ++ decimalOf i ++ answers ++ newline
 
--- how many answers a particle has: position, velocity and pressure, or the volume and, where a boundary keeps forces (1, else 0), the force
-unfoldable pub answerWidth : Kind → ℕ → ℕ
-answerWidth Fluid keeps = 1 + 2 * axes
-answerWidth Boundary zero = 1
-answerWidth Boundary (suc keeps) = 1 + axes
-
 -- the n particles of model m, with w answers each; the model's answers begin at the k-th element of a list
 unfoldable pub modelText : Kind → ℕ → ℕ → ℕ → ℕ → List Float → List ℕ
 modelText κ m n w k xs = joined (table n (λ i. particleLine κ m i (doublesText xs (k + w * i) w)))
 
--- of models of a kind, by whether each keeps forces and how many particles each has: the width of model m's particles, and the answers of the models before it
-abbrev pub widthIn : Kind → List ℕ → ℕ → ℕ
-widthIn κ keeps m = answerWidth κ (getD keeps m 0)
-
-unfoldable pub answersBefore : Kind → List ℕ → List ℕ → ℕ → ℕ
-answersBefore κ keeps counts m = sizeSum (table m (λ j. widthIn κ keeps j * getD counts j 0))
-
--- the first n models, one after the other; their answers begin at the k-th element of a list
+-- the first n models of a kind, one after the other, by whether each keeps forces and how many particles each has; their answers begin at the k-th element of a list
 unfoldable pub modelsUpto : ℕ → Kind → List ℕ → List ℕ → ℕ → List Float → List ℕ
 modelsUpto n κ keeps counts k xs =
     joined (table n (λ m. modelText κ m (getD counts m 0) (widthIn κ keeps m) (k + answersBefore κ keeps counts m) xs))
 
 -- all models of a kind
-abbrev pub answersIn : Kind → Models → ℕ
-answersIn κ models = answersBefore κ (models .keeps) (models .counts) (models .number)
-
 abbrev pub modelsText : Kind → Models → ℕ → List Float → List ℕ
 modelsText κ models k xs = modelsUpto (models .number) κ (models .keeps) (models .counts) k xs
 
 -- the fluids, then the boundaries
 unfoldable pub particlesText : List ℕ → List Float → List ℕ
 particlesText b xs =
-    modelsText Fluid (layoutOf b .fluids) 0 xs
-    ++ modelsText Boundary (layoutOf b .boundaries) ((1 + 2 * axes) * layoutOf b .fluids .total) xs
+    modelsText Fluid (layoutOf b .fluids) 0 xs ++ modelsText Boundary (layoutOf b .boundaries) (fluidAnswers (layoutOf b)) xs
 
 -- ---- the whole text
 

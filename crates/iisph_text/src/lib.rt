@@ -11,6 +11,7 @@ use crate::words::put_word;
 use iisph_rules::Report;
 use iisph_rules::StepAnswer;
 use scene::Kind;
+use scene::format::ANSWER_WIDTH;
 ghost use mathlib.Core.Path.{_≡_};
 ghost use mathlib.Core.List.{_++_};
 ghost use Prim.Native.Nat.{_*_, _≤_};
@@ -43,7 +44,7 @@ fn put_done(scene: &[u8], answers: &[f64], report: Report, out: &mut [u8]) -> us
         Kind::Boundary,
         boundaries,
         answers,
-        7 * fluids.total,
+        ANSWER_WIDTH * fluids.total,
     )
 }
 

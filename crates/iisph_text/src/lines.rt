@@ -10,12 +10,13 @@ use iisph_rules::Report;
 use scene::Kind;
 use scene::Models;
 use scene::Refusal;
+use scene::answer_width;
 use timestep_manager::Clock;
-ghost use mathlib.Core.Path.{_≡_};
 ghost use Prim.Native.Nat.{_+_, _*_, _≤_, _<_};
 ghost use lib.ListN.{length};
+ghost use Rattle.scene.specs.Answers.{answersIn};
 ghost use Rattle.iisph_text.specs.Digits.{Writes};
-ghost use Rattle.iisph_text.specs.Text.{doublesText, sweptText, endingText, stepLine, clockLine, refusedLine, particleLine, answerWidth, modelText, answersIn, modelsText};
+ghost use Rattle.iisph_text.specs.Text.{doublesText, sweptText, endingText, stepLine, clockLine, refusedLine, particleLine, modelText, modelsText};
 
 // How the iterations ended, how many there were, and the last one's error.
 fn put_swept(out: &mut [u8], at: usize, word: &[u8], iterations: u64, error: f64) -> usize
@@ -119,16 +120,6 @@ fn put_model(
         i += 1;
     }
     next
-}
-
-// How many answers a particle has, by whether a boundary keeps forces.
-fn answer_width(kind: Kind, keeps: usize) -> usize
-    ensures { λ r. ⌜ r ≡ answerWidth kind keeps ⌝ }
-{
-    match kind {
-        Kind::Fluid => 7,
-        Kind::Boundary => { if keeps == 0 { 1 } else { 4 } }
-    }
 }
 
 // The models of a kind; their answers begin at the k-th element of a list.

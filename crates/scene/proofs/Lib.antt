@@ -9,6 +9,7 @@ pub mod Walks
 pub mod Named
 pub mod Within
 pub mod Filled
+pub mod Answers
 pub mod Checks
 pub mod Rows
 pub mod Early

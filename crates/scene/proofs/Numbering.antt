@@ -4,12 +4,13 @@ use Prim.Native.Nat.{ℕ, zero, suc, _+_, _*_, _-_, _<_, _≤_}
 use mathlib.Core.Path.{_≡_, refl, ap, _∙_}
 use mathlib.Core.Bool.{Bool, true, false}
 use mathlib.Core.List.{List, [], _∷_, _++_, map}
-use native.Mathlib.Nat.{not-suc-le-zero, le-of-suc-le-suc, zero-add, mul-suc}
+use native.Mathlib.Nat.{not-suc-le-zero, le-of-suc-le-suc, zero-add, add-zero, add-suc, mul-suc}
 use native.Mathlib.Omega.{arith}
 use lib.Dec.{ltb}
 use lib.ListN.{length, getD, length-append, length-map, List·getD-append}
 use lib.Seq.{getD-append-add}
 use borrow.Author.Tests.{ltb-true, ltb-false}
+use Rattle.math.specs.Lists.{table}
 use Rattle.scene.specs.Format.{iter, trail, joined}
 use Rattle.scene.specs.SceneOf.{startsFrom, sizeSum}
 
@@ -75,6 +76,23 @@ starts-last [] m h = absurd (omega arith)
 starts-last (n ∷ []) zero h = omega arith
 starts-last (n ∷ x ∷ ns) zero h = absurd (omega arith)
 starts-last (n ∷ ns) (suc m) h = omega (arith, starts-from (0 + n) ns m (omega arith), starts-last ns m (omega arith))
+
+-- ---- sums
+
+-- one number more
+pub sum-next : (n : ℕ) (f : ℕ → ℕ) → sizeSum (table (suc n) f) ≡ sizeSum (table n f) + f n
+unfolding table sizeSum
+sum-next zero f = omega arith
+sum-next (suc n) f = omega (arith, sum-next n (λ k. f (suc k)))
+
+pub sum-more : (f : ℕ → ℕ) (n d : ℕ) → sizeSum (table n f) ≤ sizeSum (table (n + d) f)
+sum-more f n zero = rw add-zero (omega arith)
+sum-more f n (suc d) = rw add-suc (omega (arith, sum-more f n d, sum-next (n + d) f))
+
+pub sum-append : (xs ys : List ℕ) → sizeSum (xs ++ ys) ≡ sizeSum xs + sizeSum ys
+unfolding sizeSum
+sum-append [] ys = omega arith
+sum-append (x ∷ xs) ys = omega (arith, sum-append xs ys)
 
 pub sum-few : (c : ℕ) (ns : List ℕ) → ((m : ℕ) → m < length ns → getD ns m 0 ≤ c) → sizeSum ns ≤ c * length ns
 unfolding sizeSum

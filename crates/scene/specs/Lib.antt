@@ -5,6 +5,7 @@ pub mod Scene
 pub mod SceneOf
 pub mod Kinds
 pub mod Layout
+pub mod Answers
 pub mod Packed
 pub mod Accepted
 pub mod Same

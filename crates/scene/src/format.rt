@@ -62,3 +62,6 @@ pub const ANSWER_WIDTH: usize = 1 + 2 * AXES;
 pub const ANSWER_VELOCITY: usize = AXES;
 
 pub const ANSWER_PRESSURE: usize = 2 * AXES;
+
+// Of a boundary particle whose force is kept: the volume and the force.
+pub const KEPT_ANSWER_WIDTH: usize = 1 + AXES;

@@ -7,10 +7,13 @@ mod single_fields;
 mod walk_fields;
 mod walk_names;
 
+use crate::format::ANSWER_WIDTH;
+use crate::format::KEPT_ANSWER_WIDTH;
 use crate::locate::layout;
 use crate::walk_fields::fields;
 use crate::walk_names::all_names;
 ghost use mathlib.Core.Path.{_≡_};
+ghost use Rattle.scene.specs.Answers.{answerWidth};
 ghost use Rattle.scene.specs.Layout.{refusedWith, ChecksTo};
 ghost use Rattle.scene.specs.Walk.{numberOf, placeOf};
 
@@ -84,6 +87,16 @@ pub enum Walk {
 pub enum Kind {
     Fluid,
     Boundary,
+}
+
+// How many answers a particle has, by whether a boundary keeps forces: 1 or 0.
+pub fn answer_width(kind: Kind, keeps: usize) -> usize
+    ensures { λ r. ⌜ r ≡ answerWidth kind keeps ⌝ }
+{
+    match kind {
+        Kind::Fluid => ANSWER_WIDTH,
+        Kind::Boundary => { if keeps == 0 { 1 } else { KEPT_ANSWER_WIDTH } }
+    }
 }
 
 // The model that a contact names (the Rust's `j_model`).

@@ -54,7 +54,7 @@ returns c =
     let ps = pressuresIn (a .n) (now (a .work)) in
     g .gather-all .ensures
     ∙ ap (λ (l : List Float). gatheredAll (sceneOf (now (a .scene))) ps (a .n) l) (m .put-models .ensures .1)
-    ∙ all-gathered (now (a .scene)) (p .0 .accepted) ps (now (a .answers)) (p .1 .0 .1) (p .1 .1 .1)
+    ∙ all-gathered (now (a .scene)) (p .0 .accepted) (p .0 .bytes) ps (now (a .answers)) (p .1 .0 .1) (p .1 .1 .1)
 
 pub boundary-answers-spec : {M : Type 1} → statement M
 boundary-answers-spec =

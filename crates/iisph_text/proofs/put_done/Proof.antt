@@ -6,8 +6,9 @@ use denote.Ref.{now}
 use lib.ListN.{length}
 use Rattle.scene.specs.declared.Kind.the-variants.{Fluid, Boundary}
 use Rattle.scene.specs.Accepted.{Bytes}
+use Rattle.scene.specs.Answers.{answersIn}
 use Rattle.scene.specs.Layout.{layoutOf}
-use Rattle.iisph_text.specs.Text.{stepLine, clockLine, answersIn, modelsText}
+use Rattle.iisph_text.specs.Text.{stepLine, clockLine, modelsText}
 use Rattle.iisph_text.proofs.Written.{_then_}
 use Rattle.iisph_text.proofs.Done.{layout-is, few-fluids, few-boundaries, fluids-there, boundaries-there, lines-room, lines-written}
 use borrow.Author.Needs.{needs}

@@ -31,7 +31,7 @@ room : (c : tie.Then1)
 room c =
     let n = c .before .before in
     let p = Begin (n .before) .pre in
-    omega (arith, force-room (p .1 .1 .0) (p .1 .1 .1 .1) (n .contact-name .ensures) (c .if1 .taken), p .1 .1 .1 .2)
+    omega (arith, force-room (p .1 .1 .0) (p .1 .1 .1 .1) (n .contact-name .ensures) (c .if1 .taken) (p .0 .bytes), p .1 .1 .1 .2)
 
 mul-k : tie.Need-mul-k
 mul-k c = omega (arith, room c)

@@ -32,7 +32,7 @@ put-particle-requires c κs =
         p .1 .0,
         (
           (omega (arith, i .loop-test .taken, same .within), same .same (l .p) (i .loop-test .taken)),
-          particle-room _ _ _ _ (p .0 .accepted) (same .within) (l .inv) (i .loop-test .taken) (p .1 .1 .1),
+          particle-room _ _ _ _ (p .0 .accepted) (same .within) (l .inv) (p .0 .bytes) (i .loop-test .taken) (p .1 .1 .1),
         ),
       ),
     )

@@ -42,7 +42,7 @@ array-read-kept c = omega (arith, few c)
 force-start-requires : tie.Need-force-start-requires Inv-loop μ-loop
 force-start-requires c κs =
     let b = Begin (c .before .before) in
-    omega (arith, model-room _ _ _ (c .before .loop .inv) (below c), b .pre .1 .1 .2)
+    omega (arith, model-room _ _ _ (c .before .loop .inv) (b .pre .0 .bytes) (below c), b .pre .1 .1 .2)
 
 mul-forces : tie.Need-mul-forces Inv-loop μ-loop
 mul-forces c = omega (arith, few (c .before))

@@ -1,6 +1,5 @@
 -- `iisph_solver::needed::answers_needed` meets its contract: the definition is the code. Assumes nothing.
 use borrow.Author.Needs.{needs}
-use Rattle.iisph_solver.specs.Needed.{layoutAnswersNeeded}
 use Rattle.iisph_solver.proofs.needed.answers_needed.Statement.{statement}
 use Rattle.iisph_solver.proofs.needed.answers_needed.Tie as tie
 
@@ -14,7 +13,6 @@ add-result : tie.Need-add-result
 add-result c = search needs
 
 returns : tie.Need-returns
-unfolding layoutAnswersNeeded
 returns c = rw (c .before .boundary-answers-needed .ensures .1)
 
 pub answers-needed-spec : {M : Type 1} → statement M

@@ -51,7 +51,7 @@ layout-lengths-requires : tie.Need-layout-lengths-requires
 layout-lengths-requires c κs =
     let b = now (found c .before .before .args .scene) in (
       (omega (arith, fluids c, fluid-size-few b (below c) (whole c)), omega (arith, boundaries c, boundary-size-few b (below c) (whole c))),
-      layout-few b (layout c) (below c) (accepted _ (whole c) .fields .header .boundaries),
+      layout-few b (layout c) (accepted _ (whole c) .fields .header .boundaries),
     )
 
 returns : tie.Need-returns
@@ -60,7 +60,7 @@ returns c =
     refused-needs _ (verdict-refused _ (v .before .before .before .check .ensures) (v .verdict .given .1))
 
 returns-2 : tie.Need-returns-2
-returns-2 c = let t = c .before in accepted-needs _ (whole t) (layout t) (fluids t) (boundaries t) (c .layout-lengths .ensures)
+returns-2 c = let t = c .before in accepted-needs _ (below t) (whole t) (layout t) (fluids t) (boundaries t) (c .layout-lengths .ensures)
 
 pub lengths-needed-spec : {M : Type 1} → statement M
 lengths-needed-spec =

@@ -32,13 +32,13 @@ abbrev Known : tie.After-answers-needed → tie.After-shared-slice-known
 Known c = c .before .before .before
 
 answers : (c : tie.After-answers-needed) → c .answers-needed .result ≡ answersNeeded (now (Known c .before .args .scene))
-answers c = c .answers-needed .ensures ∙ layout-needs (now (Known c .before .args .scene)) (Known c .before .pre .1) (sized (Known c) .fluids)
+answers c = c .answers-needed .ensures ∙ layout-needs _ (below (Known c)) (Known c .before .pre .1)
 
 answers-needed-requires : tie.Need-answers-needed-requires
 answers-needed-requires c κs =
     let k = c .before .before in
     let p = k .before .pre in
-    (sized k .fewFluids, layout-few (now (k .before .args .scene)) (p .1) (below k) (accepted _ (p .0) .fields .header .boundaries))
+    (sized k .fewFluids, layout-few (now (k .before .args .scene)) (p .1) (accepted _ (p .0) .fields .header .boundaries))
 
 returns : tie.Need-returns
 returns c =

@@ -5,11 +5,11 @@ use native.Mathlib.Nat.{le-antisymm}
 use native.Mathlib.Omega.{arith}
 use denote.Ref.{now}
 use lib.ListN.{length, getD}
-use Rattle.math.specs.Lists.{table}
-use Rattle.scene.specs.SceneOf.{sizeSum}
+use Rattle.scene.specs.Answers.{answersBefore}
+use Rattle.scene.proofs.Answers.{answers-none, answers-next}
 use Rattle.iisph_text.specs.Digits.{Writes}
-use Rattle.iisph_text.specs.Text.{answersBefore, modelsUpto}
-use Rattle.iisph_text.proofs.ModelLines.{answers-next, model-fits, none-modelled, model-room, model-written}
+use Rattle.iisph_text.specs.Text.{modelsUpto}
+use Rattle.iisph_text.proofs.ModelLines.{model-fits, none-modelled, model-room, model-written}
 use borrow.Author.Needs.{needs}
 use Rattle.iisph_text.proofs.lines.put_models.Statement.{statement}
 use Rattle.iisph_text.proofs.lines.put_models.Tie as tie
@@ -22,8 +22,7 @@ abbrev μ-loop : tie.MeasureT-loop
 μ-loop out₀ at kind xs k number counts keeps next₀ from₀ m₀ out next from m = number - m
 
 loop-holds : tie.Need-loop-holds Inv-loop μ-loop
-unfolding answersBefore table sizeSum
-loop-holds c = let a = c .before .before .before .before .args in (omega arith, omega arith, none-modelled (a .kind) (a .models .keeps) (a .models .counts) (a .k) (now (a .xs)) (omega (arith, c .before .before .before .before .pre .1)))
+loop-holds c = let a = c .before .before .before .before .args in (omega arith, omega (arith, answers-none (a .kind) (a .models .keeps) (a .models .counts)), none-modelled (a .kind) (a .models .keeps) (a .models .counts) (a .k) (now (a .xs)) (omega (arith, c .before .before .before .before .pre .1)))
 
 mul-n : tie.Need-mul-n Inv-loop μ-loop
 mul-n c = search needs

@@ -1,11 +1,11 @@
--- `iisph_text::lines::answer_width` meets its contract: each branch is the definition's. Assumes nothing.
+-- `scene::answer_width` meets its contract: each branch is the definition's. Assumes nothing.
 use Prim.Native.Nat.{ℕ, zero, suc}
 use mathlib.Core.Path.{_≡_, refl}
 use Rattle.scene.specs.declared.Kind.the-variants.{Boundary}
-use Rattle.iisph_text.specs.Text.{answerWidth}
+use Rattle.scene.specs.Answers.{answerWidth}
 use borrow.Author.Needs.{needs}
-use Rattle.iisph_text.proofs.lines.answer_width.Statement.{statement}
-use Rattle.iisph_text.proofs.lines.answer_width.Tie as tie
+use Rattle.scene.proofs.answer_width.Statement.{statement}
+use Rattle.scene.proofs.answer_width.Tie as tie
 
 kept : (k : ℕ) → (k ≡ 0 → ⊥) → 4 ≡ answerWidth Boundary k
 unfolding answerWidth
