@@ -34,6 +34,7 @@ def blocks():
     return [(block[:struct.unpack(">H", block[510:])[0]], line) for block, line in zip(found, lines, strict=True)]
 
 
+@functools.cache
 def refusal(data):
     """Number and place, by tools/iisph_cases.py."""
     try:

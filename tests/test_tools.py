@@ -47,9 +47,10 @@ class Run(unittest.TestCase):
     def setUp(self):
         self.root = pathlib.Path(tempfile.mkdtemp())
         self.addCleanup(shutil.rmtree, self.root)
-        for folder in "tools", "kit", "crates", "target/bin":
+        for folder in "tools", "kit", "plain", "crates", "target/bin":
             (self.root / folder).mkdir(parents=True)
         shutil.copy(ROOT / "tools/run", self.root / "tools/run")
+        (self.root / "plain/dirname").symlink_to(shutil.which("dirname"))      # all that it needs before it looks for rt
         (self.root / "crates.txt").write_text("")
         (self.root / "scene.bin").write_bytes(b"the scene")
         self.script("kit/rt", "echo rt $*; [ ! -e fails ] || exit 1; printf '#!/bin/sh\\necho new; cat\\n' > target/bin/iisph; chmod +x target/bin/iisph")
@@ -59,7 +60,7 @@ class Run(unittest.TestCase):
         (self.root / name).chmod(0o755)
 
     def ran(self, *arguments, kit=True):
-        path = "/usr/bin:/bin" if not kit else "%s:/usr/bin:/bin" % (self.root / "kit")
+        path = "%s:/usr/bin:/bin" % (self.root / "kit") if kit else str(self.root / "plain")
         done = subprocess.run([self.root / "tools/run", *arguments], capture_output=True, text=True, cwd=self.root, env={"PATH": path})
         return done.returncode, done.stdout, done.stderr
 
