@@ -34,6 +34,7 @@ def blocks():
     return [(block[:struct.unpack(">H", block[510:])[0]], line) for block, line in zip(found, lines, strict=True)]
 
 
+@functools.cache
 def refusal(data):
     """Number and place, by tools/iisph_cases.py."""
     try:
@@ -100,14 +101,14 @@ class Packed(unittest.TestCase):
 class Places(unittest.TestCase):
     def test_the_example_of_the_head(self):
         lost = iisph_cases.scene_a([iisph_cases.to(0, 1, 2.0)])
-        said = "\n".join(scene.at(lost, 152))
+        said = "\n".join(scene.at(lost, 152)[0])
         self.assertIn("fluid 0, particle 0, fluid contact 0: ", said)
         self.assertIn("refusal 7 at 152: ", said)
         self.assertIn("fluid 0 has 1 particle", said)
 
     def test_every_field_has_its_name(self):
         rich = iisph_cases.rich()
-        for at, name in ((0, "header: version and fluids"), (1, "header: walls"), (2, "header: least sweeps"), (3, "header: most sweeps"),
+        for at, name in ((0, "header: version and fluids"), (1, "header: walls"), (2, "header: least iterations"), (3, "header: most iterations"),
                          (4, "header: step length"), (51, "header: gravity z"), (52, "fluid 0: count"), (54, "fluid 0: rest density"), (62, "fluid 1: count"),
                          (72, "fluid 1, particle 0: position x"),
                          (152, "fluid 1, particle 0: warm pressure"),
@@ -115,13 +116,13 @@ class Places(unittest.TestCase):
                          (196, "fluid 1, particle 0, fluid contact 1: the particle"), (230, "fluid 1, particle 0, wall contact 0: the particle"),
                          (263, "fluid 1, particle 0, wall contact 0: gradient z"), (388, "wall 0: count"), (414, "wall 0, particle 0: force x"),
                          (441, "wall 0, particle 0, contact 0: weight"), (459, "wall 1: count"), (487, "wall 2, particle 0: number of contacts")):
-            self.assertTrue(scene.at(rich, at)[0].startswith(name), (at, scene.at(rich, at)))
+            self.assertTrue(scene.at(rich, at)[0][0].startswith(name), (at, scene.at(rich, at)))
 
     def test_a_refusal_is_explained_where_it_stands(self):
         for data, line in blocks()[::7]:
             if line != "accepted":
                 number, place = map(int, line.split())
-                self.assertTrue(any(said.startswith("refusal %d at %d: " % (number, place)) for said in scene.at(data, place)), (line, scene.at(data, place)))
+                self.assertTrue(any(said.startswith("refusal %d at %d: " % (number, place)) for said in scene.at(data, place)[0]), (line, scene.at(data, place)))
 
     def test_damage_never_stops_it(self):
         draw, rich = random.Random(1), iisph_cases.rich()
@@ -130,7 +131,7 @@ class Places(unittest.TestCase):
             for _ in range(draw.randrange(6)):
                 if data:
                     data[draw.randrange(min(len(data), draw.choice((2, 70, 500))))] = draw.randrange(256)
-            self.assertTrue(scene.at(bytes(data), draw.randrange(600)))
+            self.assertTrue(scene.at(bytes(data), draw.randrange(600))[0])
             self.assertTrue(scene.show(bytes(data), False)[0])
 
 
@@ -145,7 +146,7 @@ class Mistakes(unittest.TestCase):
                 ("9" * 5000, "no JSON"), ("[]", "the scene: give an object"),
                 ('{"step_length": NaN}', "16 hex digits"), ('{"a": 1, "a": 2}', "stands twice"),
                 ({}, "step_length is missing"), ({**head, "gravty": 0}, "'gravty' is no name"),
-                ({**head, "least_sweeps": 256}, "from 0 to 255"), ({**head, "most_sweeps": True}, "whole number"), ({**head, "gravity": [0, 1]}, "three numbers"),
+                ({**head, "least_iterations": 256}, "from 0 to 255"), ({**head, "most_iterations": True}, "whole number"), ({**head, "gravity": [0, 1]}, "three numbers"),
                 ({**head, "step_length": "0.5"}, "16 hex digits"), ({**head, "step_length": None}, "step_length: give a decimal"),
                 ('{"step_length": 1e999, "remaining_time": 0, "error_limit": 0}', "too large"), ({**head, "step_length": 10**400}, "too large"),
                 ({**head, "fluids": [{"rest_density": 1}] * 9}, "fluids: give a list of at most 8, not of 9"), ({**head, "walls": {}}, "walls: give a list"),
@@ -168,14 +169,30 @@ class Mistakes(unittest.TestCase):
     def test_commands(self):
         whole = ROOT / "examples/scene-a.bin"
         self.assertEqual(command("pack", ROOT / "examples/scene-a.json", "-")[:2], (0, whole.read_bytes()))
-        for arguments, status, piece in ((["show", ROOT / "none.bin"], 2, "check the file's name"), (["at", "here", whole], 1, "is no offset"),
+        for arguments, status, piece in ((["show", ROOT / "none.bin"], 2, "check the file's name"), (["at", "here", whole], 2, "is no offset"),
                                          (["show", ROOT], 2, "check"),
-                                         (["pack", whole, "-"], 1, "no JSON"), ([], 2, "here is how to use it"), (["show"], 2, "here is how")):
+                                         (["pack", whole, "-"], 1, "no JSON"), ([], 2, "here is how to use it"), (["shew"], 2, "there is no command shew"),
+                                         (["show"], 2, "`show` got 0 arguments; this is what it takes: tools/scene.py show [--json] SCENE.bin\n"),
+                                         (["at", whole], 2, "`at` got 1 argument; this is what it takes: tools/scene.py at OFFSET SCENE.bin\n"),
+                                         (["pack", "--json", whole, "-"], 2, "`pack` has no option --json; this is what it takes: tools/scene.py pack"),
+                                         (["show", "--json", "--json", whole], 2, "`show` takes only one --json")):
             found, said = refused(*arguments)
             self.assertEqual((found, piece in said), (status, True), said)
+            self.assertEqual("JSON, in document 01" in said, status == 2 and "here is how" in said)      # the whole head only where no command is known
         found, text, said = command("show", "-", given=whole.read_bytes()[:100])
         self.assertEqual((found, said[:18]), (1, "refusal 1 at 94: f"))
         self.assertIn(b"velocity (0.0), velocity y cut short", text)
+
+    def test_a_look_up_in_a_damaged_scene(self):
+        sound = (ROOT / "examples/torn-droplet.bin").read_bytes()
+        self.assertEqual(scene.at(sound, 310)[1:], ([], True))      # refused 9, but not damaged
+        for data, offset, said in ((sound[:-1], 4, "refusal 1 at 399: "), (sound + b"x", 4, "refusal 5 at 400: "), (b"\x20" + sound[1:], 4, "refusal 2 at 0: ")):
+            _, notes, whole = scene.at(data, offset)
+            self.assertEqual((len(notes), notes[0].startswith("a step refuses this scene, " + said), whole), (1, True, False))
+        for data, offset in ((sound, 400), (iisph_cases.scene_a([iisph_cases.to(0, 1, 2.0)]), 152)):
+            self.assertEqual(scene.at(data, offset)[1:], ([], False))
+        found, text, said = command("at", 4, "-", given=sound[:-1])
+        self.assertEqual((found, text[:20], said[:27]), (1, b"header: step length ", "a step refuses this scene, "))
 
 
 if __name__ == "__main__":

@@ -1,8 +1,11 @@
 #!/usr/bin/env python3
 """Times the check of a packed scene of about 4.5 MB. A benchmark, not a test: it prints milliseconds and judges nothing.
 
+  tools/bench_check.py          builds libiisph_c.a (rt staticlib iisph_c, which proves what changed), links it with cc and calls it
+
 `iisph_validate` with an empty work list is the check alone: the scene is accepted (1 to 7), and the list is too short (8).
 """
+import argparse
 import ctypes
 import pathlib
 import struct
@@ -31,6 +34,7 @@ def library(folder):
 
 
 def main():
+    argparse.ArgumentParser(description=__doc__, formatter_class=argparse.RawDescriptionHelpFormatter).parse_args()
     data, none = scene(), (ctypes.c_double * 1)()
     with tempfile.TemporaryDirectory() as folder:
         lib = library(folder)
@@ -44,4 +48,5 @@ def main():
     print("%d bytes: median %.2f ms, least %.2f ms" % (len(data), sorted(times)[10], min(times)))
 
 
-main()
+if __name__ == "__main__":
+    main()

@@ -5,6 +5,7 @@ A lattice of 5 x 3 x 4 particles at distances of 1 mm, still and of rest density
 blade that moves in at 20 mm/s, to the right a wall: these keep forces. Glass in front and behind keeps none. The top is open. The spline's radius is
 1.4 mm, so that a particle touches those at a distance of 1 mm alone. tools/scene.py packs the scene, and tools/answers.py takes the wall positions.
 """
+import argparse
 import importlib.util
 import itertools
 import math
@@ -64,7 +65,7 @@ def chamber():
             "wall_contacts": near(place, stones, "wall")} for place in INK]
     walls = [{"keeps_forces": keeps, "particles": [{"velocity": velocity, "contacts": near(place, stones, "wall", False)} for place in places]}
              for places, keeps, velocity in WALLS]
-    return {"comment": COMMENT, "least_sweeps": 40, "most_sweeps": 100, "step_length": 0.001, "remaining_time": 0.001, "error_limit": 0.05,
+    return {"comment": COMMENT, "least_iterations": 40, "most_iterations": 100, "step_length": 0.001, "remaining_time": 0.001, "error_limit": 0.05,
             "gravity": [0, 0, -9.81], "fluids": [{"rest_density": REST, "particles": ink}], "walls": walls}
 
 
@@ -75,6 +76,7 @@ def positions():
 
 
 def main():
+    argparse.ArgumentParser(description=__doc__, formatter_class=argparse.RawDescriptionHelpFormatter).parse_args()
     spec = importlib.util.spec_from_file_location("scene", TOOLS / "scene.py")
     scene = importlib.util.module_from_spec(spec)
     spec.loader.exec_module(scene)

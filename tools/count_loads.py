@@ -6,6 +6,7 @@
 Per function: how many byte swaps there are, one for each double that is read from the packed scene, and how many single bytes are loaded at most
 (a contact's name is two; the kind of contact is one). A change that breaks a read up shows as fewer swaps or more bytes.
 """
+import argparse
 import collections
 import pathlib
 import re
@@ -39,6 +40,7 @@ def counted(text):
 
 
 def main():
+    argparse.ArgumentParser(description=__doc__, formatter_class=argparse.RawDescriptionHelpFormatter).parse_args()
     subprocess.run(["rt", "staticlib", "iisph_c"], cwd=ROOT, check=True, stdout=subprocess.DEVNULL)
     text = subprocess.run(["objdump", "-d", str(ARCHIVE)], check=True, capture_output=True, text=True).stdout
     swaps, singles = counted(text)

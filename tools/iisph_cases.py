@@ -161,7 +161,7 @@ def relaxed(rest, p):
     return (pressure, div((-found) - p.aii * pressure, rest)) if pressure > 0.0 else (0.0, 0.0)
 
 
-def sweep(s):
+def iteration(s):
     """Module 6, one iteration: moves all pressures on, and gives the error."""
     for _, p in s.all:
         p.dij = scale(vector_total(scale(c.gradient, div((-c.mass) * c.named.pressure, c.named.rho * c.named.rho)) for c in p.near), s.dt * s.dt)
@@ -200,7 +200,7 @@ def step(s, answers=math.inf, work=math.inf):
     s.remaining = s.remaining - s.dt
     ending = "unswept 0"
     for i in range(s.most):
-        error = sweep(s)
+        error = iteration(s)
         settled = error <= s.limit and i >= s.least
         ending = "%s %d %s" % ("settled" if settled else "ranout", i + 1, bits(error))
         if settled:
@@ -507,6 +507,9 @@ def self_test():
 
 
 def main(arguments):
+    if arguments in (["--help"], ["-h"]):
+        print(__doc__, end="")
+        return 0
     commands = {"": write, "--check": check, "--self-test": self_test}
     try:
         if len(arguments) == 2 and arguments[0] == "--run":

@@ -373,3 +373,7 @@ def made(seed, name):
         data = damaged(d, pack(d.of(sound)(d))) if make is None else pack(make(d))
         if len(data) <= LONGEST or d.one_in(16):
             yield data
+
+
+if __name__ == "__main__":
+    print(__doc__, end="")

@@ -8,6 +8,7 @@ Every result is worked out with exact fractions (fractions.Fraction) and rounded
 below; zeros, infinities and not-a-numbers follow IEEE 754's rules, spelled out here. No float of this language takes part in a result;
 afterwards the same formulas are run on floats and must agree.
 """
+import argparse
 import pathlib
 import random
 import struct
@@ -245,8 +246,11 @@ def source():
 
 
 def main():
+    parser = argparse.ArgumentParser(description=__doc__, formatter_class=argparse.RawDescriptionHelpFormatter)
+    parser.add_argument("--write", action="store_true")
+    options = parser.parse_args()
     made = {CRATE / "src" / "cases.rt": source(), CRATE / "stdout": lines()}
-    if "--write" in sys.argv[1:]:
+    if options.write:
         for path, text in made.items():
             path.write_text(text)
         return

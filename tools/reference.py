@@ -62,6 +62,9 @@ def texts(output):
 
 
 def main(arguments):
+    if arguments in (["--help"], ["-h"]):
+        print(__doc__, end="")
+        return 0
     if arguments not in ([], ["--any-length"]):
         print(__doc__, file=sys.stderr)
         return 2

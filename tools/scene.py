@@ -6,11 +6,13 @@
   tools/scene.py show --json SCENE.bin        the same as JSON; packed again it is the same bytes
   tools/scene.py at OFFSET SCENE.bin          which field stands at an offset: for `refused 7 152` ask for 152
 
-A file named - is standard input or output. Status: 0; 1 if the scene is damaged or its JSON wrong; 2 if a file or the command is.
+A file named - is standard input or output. Status: 0; 1 if `show` or `at` meets a scene that a step refuses for its bytes (1 to 7), if nothing stands at
+the offset, or if the JSON is wrong; 2 if a file or the command is. `pack` writes what the JSON says and ends with 0, and notes what a step will refuse.
 
 The JSON, in document 01's words. What has a value below is that where it is left out; a list that is left out is empty.
 
-  {"comment": "", "least_sweeps": 1, "most_sweeps": 50, "step_length": .., "remaining_time": .., "error_limit": .., "gravity": [0, 0, 0],
+  {"comment": "", "least_iterations": 1, "most_iterations": 50,
+   "step_length": .., "remaining_time": .., "error_limit": .., "gravity": [0, 0, 0],
    "fluids": [{"rest_density": .., "particles": [
      {"position": [0, 0, 0], "velocity": [0, 0, 0], "acceleration": [0, 0, 0], "volume": .., "warm_pressure": 0,
       "fluid_contacts": [{"fluid": .., "particle": .., "weight": .., "gradient": [0, 0, 0]}],
@@ -37,11 +39,38 @@ FLUID_PARTICLE = [("position", 3), ("velocity", 3), ("acceleration", 3), ("volum
 WALL_PARTICLE = ([("velocity", 3)], ["contact"]), ([("velocity", 3), ("force", 3)], ["contact"])      # without and with forces
 CONTACT = {"fluid contact": ("fluid", [("weight", 1), ("gradient", 3)]), "wall contact": ("wall", [("weight", 1), ("gradient", 3)]),
            "contact": ("wall", [("weight", 1)])}      # a contact's word, what it names, its doubles
-LEFT_OUT = {"warm_pressure": 0, "least_sweeps": 1, "most_sweeps": 50, "keeps_forces": False}
+LEFT_OUT = {"warm_pressure": 0, "least_iterations": 1, "most_iterations": 50, "keeps_forces": False}
+
+
+COMMANDS = {"pack": ("pack SCENE.json SCENE.bin", [2], {}), "show": ("show [--json] SCENE.bin", [1], {"--json": False}),
+            "at": ("at OFFSET SCENE.bin", [2], {})}      # its words, how many may be beside the options, and whether an option has a value
 
 
 class Wrong(Exception):
     """Its argument is a message that says what to do."""
+
+
+class Misused(Exception):
+    """The same, of a command's words."""
+
+
+def taken(tool, commands, arguments):
+    """A known command's words and options, if they are as many and those that it takes."""
+    command, rest, words, options = arguments[0], iter(arguments[1:]), [], {}
+    usage, counts, known = commands[command]
+    takes = "; this is what it takes: %s %s" % (tool, usage)
+    for word in rest:
+        if word == "-" or not word.startswith("-"):
+            words.append(word)
+        elif word not in known or word in options:
+            raise Misused("`%s` %s %s" % (command, "has no option" if word not in known else "takes only one", word) + takes)
+        else:
+            options[word] = next(rest, None) if known[word] else True
+            if options[word] is None:
+                raise Misused("%s stands without its value" % word + takes)
+    if len(words) not in counts:
+        raise Misused("`%s` got %s" % (command, counted(len(words), "argument")) + takes)
+    return words, options
 
 
 def counted(n, word): return "%d %s%s" % (n, word, "" if n == 1 else "s")
@@ -105,7 +134,7 @@ class Walk:
             self.fault(3, 1, "%d walls; leave out some, at most %d may be there" % (second >> 4, MODELS))
         if second & 15:
             self.fault(2, 1, "the last four bits of byte 1 are %d, not 0; put %02X hex there" % (second & 15, second & 0xF0))
-        for key in "least_sweeps", "most_sweeps":
+        for key in "least_iterations", "most_iterations":
             self.whole((), key.replace("_", " "), 1, lambda n: "%s %d" % (key.replace("_", " "), n), lambda n: {key: n})
         self.doubles((), HEADER)
         for owner in [(("fluid", m),) for m in range(first & 15)]:
@@ -200,7 +229,7 @@ def show(data, as_json):
 # ---- at
 
 def at(data, offset):
-    """Lines on what stands at the offset."""
+    """Lines on what stands at the offset, lines on what a step refuses elsewhere, and whether something stands there in a sound scene."""
     walk = Walk(data)
     damage = told(f for f in walk.faults if f[0] in (2, 3, 4) and f[1] < offset)
     lines = ["the scene is damaged before this offset, so what follows may be wrong: " + line for line in damage]
@@ -219,7 +248,8 @@ def at(data, offset):
                          "volumes of what they name")
         if first != offset:
             lines.append("the field begins at %d; a refusal gives that offset" % first)
-    return lines + told(f for f in walk.faults if first <= f[1] <= last)
+    here = told(f for f in walk.faults if first <= f[1] <= last)
+    return lines + here, ["a step refuses this scene, " + line for line in told(walk.faults[:1]) if line not in here], field is not None and not walk.faults
 
 
 # ---- pack
@@ -318,9 +348,9 @@ def pack(text):
         scene = json.loads(text, parse_constant=no_constant, object_pairs_hook=unique)
     except (ValueError, RecursionError) as e:
         raise Wrong("this is no JSON: %s; mend it there, or start from examples/scene-a.json" % e) from None
-    members("", scene, ["comment", "least_sweeps", "most_sweeps", *[key for key, _ in HEADER], "fluids", "walls"])
+    members("", scene, ["comment", "least_iterations", "most_iterations", *[key for key, _ in HEADER], "fluids", "walls"])
     fluids, walls = items("", scene, "fluids", MODELS), items("", scene, "walls", MODELS)
-    data = bytes([16 + len(fluids), 16 * len(walls)] + [whole(*member("", scene, key), 255) for key in ("least_sweeps", "most_sweeps")])
+    data = bytes([16 + len(fluids), 16 * len(walls)] + [whole(*member("", scene, key), 255) for key in ("least_iterations", "most_iterations")])
     data += doubles("", scene, HEADER) + b"".join([fluid(*f) for f in fluids] + [wall(*w) for w in walls])
     notes = ["it is packed, but a step refuses it: " + line for line in told(Walk(data).faults[:1])]
     if len(data) > LONGEST:
@@ -342,36 +372,37 @@ def write(name, data):
         file.write(data)
 
 
-def run(arguments):
-    """Does what the arguments say, and gives notes and the status; None if they say nothing that is known."""
-    command, names, as_json = arguments[:1], [a for a in arguments[1:] if a != "--json"], "--json" in arguments
-    if command == ["pack"] and len(names) == 2 and not as_json:
-        data, notes = pack(read(names[0]))
-        write(names[1], data)
+def run(command, words, options):
+    """Does what a command says, and gives notes and the status."""
+    if command == "pack":
+        data, notes = pack(read(words[0]))
+        write(words[1], data)
         return notes, 0
-    if command == ["show"] and len(names) == 1:
-        text, notes = show(read(names[0]), as_json)
+    if command == "show":
+        text, notes = show(read(words[0]), "--json" in options)
         write("-", text.encode())
         return notes, 1 if notes else 0
-    if command == ["at"] and len(names) == 2 and not as_json:
-        if not re.fullmatch("[0-9]{1,12}", names[0]):
-            raise Wrong("%s is no offset; give the last number of the line `refused ..`, as in: tools/scene.py at 152 SCENE.bin" % names[0])
-        write("-", "".join(line + "\n" for line in at(read(names[1]), int(names[0]))).encode())
-        return [], 0
-    return None
+    if not re.fullmatch("[0-9]{1,12}", words[0]):
+        raise Misused("%s is no offset; give the last number of the line `refused ..`, as in: tools/scene.py at 152 SCENE.bin" % words[0])
+    lines, notes, sound = at(read(words[1]), int(words[0]))
+    write("-", "".join(line + "\n" for line in lines).encode())
+    return notes, 0 if sound else 1
 
 
 def main(arguments):
+    if "--help" in arguments or "-h" in arguments:
+        print(__doc__, end="")
+        return 0
+    if not arguments or arguments[0] not in COMMANDS:
+        print("tools/scene.py: %s; here is how to use it\n\n" % ("there is no command " + arguments[0] if arguments else "give a command") + __doc__, file=sys.stderr)
+        return 2
     try:
-        done = run(arguments)
-        if done is None:
-            print("tools/scene.py: no such command; here is how to use it\n\n" + __doc__, file=sys.stderr)
-            return 2
-        print("".join(note + "\n" for note in done[0]), end="", file=sys.stderr)
-        return done[1]
-    except Wrong as e:
+        notes, status = run(arguments[0], *taken("tools/scene.py", COMMANDS, arguments))
+        print("".join(note + "\n" for note in notes), end="", file=sys.stderr)
+        return status
+    except (Wrong, Misused) as e:
         print("tools/scene.py: %s" % e, file=sys.stderr)
-        return 1
+        return 1 if isinstance(e, Wrong) else 2
     except BrokenPipeError:
         return 0
     except OSError as e:

@@ -3,6 +3,7 @@
 
 The answers come from `verdict`, a reader written from document 01 alone: it knows nothing of the code or its definitions.
 """
+import argparse
 import math
 import pathlib
 import struct
@@ -192,6 +193,7 @@ def block(data):
 
 
 def main():
+    argparse.ArgumentParser(description=__doc__, formatter_class=argparse.RawDescriptionHelpFormatter).parse_args()
     crate = pathlib.Path(__file__).resolve().parent.parent / "crates" / "scene_cases"
     scenes = list(cases())
     (crate / "data" / "scenes").write_bytes(b"".join(map(block, scenes)))
@@ -199,4 +201,5 @@ def main():
     print(len(scenes), "scenes")
 
 
-main()
+if __name__ == "__main__":
+    main()

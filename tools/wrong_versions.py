@@ -328,6 +328,9 @@ def check():
 
 
 def main(arguments):
+    if arguments in (["--help"], ["-h"]):
+        print(__doc__, end="")
+        return 0
     try:
         if arguments == ["--list"]:
             for name, old, new, *why in [*NOTICED, *SAME]:

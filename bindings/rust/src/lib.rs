@@ -1,15 +1,29 @@
 //! One IISPH pressure step over a packed scene, and its smoothing kernel: a safe interface to `libiisph_c.a`, whose functions are proved to meet their contracts
-//! for all arguments. `include/iisph.h` has the format of a packed scene and of the lists.
+//! for all arguments. `include/iisph.h` has the format of a packed scene and of the lists; [`Scene::pack`] writes one. Document 01's scene A, from its numbers to its answers:
 //!
 //! ```
-//! # fn example(scene: &[u8]) -> Result<(), iisph::Refusal> {
-//! let lengths = iisph::needed(scene)?;
+//! use iisph::{Contact, Fluid, FluidParticle, Scene};
+//!
+//! let itself = Contact { model: 0, particle: 0, weight: 2.0, gradient: [0.0; 3] };
+//! let drop = FluidParticle { volume: 0.5, fluid_contacts: vec![itself], ..Default::default() };
+//! let scene = Scene {
+//!     step_length: 0.5,
+//!     remaining_time: 1.0,
+//!     gravity: [0.0, 0.0, -4.0],
+//!     fluids: vec![Fluid { rest_density: 2.0, particles: vec![drop] }],
+//!     ..Default::default()
+//! };
+//! let packed = scene.pack()?;
+//!
+//! let lengths = iisph::needed(&packed)?;
 //! let mut answers = vec![0.0; lengths.answers];
 //! let mut work = vec![0.0; lengths.work];
-//! let report = iisph::step(scene, &mut answers, &mut work)?;
-//! println!("{} iterations, {:?}", report.iterations, report.ending);
-//! # Ok(())
-//! # }
+//! let report = iisph::step(&packed, &mut answers, &mut work)?;
+//! assert_eq!(report.iterations, 2);
+//! for particle in answers.chunks_exact(7) {
+//!     assert_eq!(particle, [0.0, 0.0, -1.0, 0.0, 0.0, -2.0, 0.0]); // position, velocity, pressure
+//! }
+//! # Ok::<(), Box<dyn std::error::Error>>(())
 //! ```
 //!
 //! [`step`] takes up to 1 MiB of stack: give a thread of your own at least 2 MiB, the standard library's default.
@@ -17,6 +31,10 @@
 
 use std::error::Error;
 use std::fmt;
+
+mod pack;
+
+pub use pack::{Boundary, BoundaryContact, BoundaryParticle, Contact, Fluid, FluidParticle, Misfit, Scene};
 
 mod c {
     extern "C" {

@@ -1,0 +1,86 @@
+"""How every tool takes its arguments, and tools/run with a stand-in for rt."""
+import contextlib
+import importlib
+import io
+import os
+import pathlib
+import shutil
+import subprocess
+import sys
+import tempfile
+import unittest
+from unittest import mock
+
+ROOT = pathlib.Path(__file__).resolve().parent.parent
+sys.path.insert(0, str(ROOT / "tools"))
+TOOLS = sorted(path.stem for path in (ROOT / "tools").glob("*.py") if os.access(path, os.X_OK))
+
+
+def called(name, *arguments):
+    """Status and both outputs of a tool's main; no process may be started."""
+    tool, out, err = importlib.import_module(name), io.StringIO(), io.StringIO()
+    with contextlib.redirect_stdout(out), contextlib.redirect_stderr(err), mock.patch.object(sys, "argv", [name, *arguments]), mock.patch("subprocess.run", None):
+        try:
+            status = tool.main(list(arguments)) if tool.main.__code__.co_argcount else tool.main()
+        except SystemExit as e:
+            status = e.code
+    return status, out.getvalue(), err.getvalue()
+
+
+class Arguments(unittest.TestCase):
+    def test_help_is_the_head(self):
+        for name in TOOLS:
+            status, out, err = called(name, "--help")
+            self.assertEqual((status, err), (0, ""), name)
+            self.assertIn(importlib.import_module(name).__doc__.strip().splitlines()[0], out)
+
+    def test_an_unknown_argument_starts_nothing(self):
+        for name in TOOLS:
+            status, out, err = called(name, "--nonsense")
+            self.assertEqual((status, out), (2, ""), name)
+            self.assertTrue(name in err or importlib.import_module(name).__doc__.strip().splitlines()[0] in err, err)
+
+
+class Run(unittest.TestCase):
+    """In a folder of its own, with an rt that writes down its arguments and makes a program that says `new` or, on request, fails."""
+
+    def setUp(self):
+        self.root = pathlib.Path(tempfile.mkdtemp())
+        self.addCleanup(shutil.rmtree, self.root)
+        for folder in "tools", "kit", "plain", "crates", "target/bin":
+            (self.root / folder).mkdir(parents=True)
+        shutil.copy(ROOT / "tools/run", self.root / "tools/run")
+        (self.root / "plain/dirname").symlink_to(shutil.which("dirname"))      # all that it needs before it looks for rt
+        (self.root / "crates.txt").write_text("")
+        (self.root / "scene.bin").write_bytes(b"the scene")
+        self.script("kit/rt", "echo rt $*; [ ! -e fails ] || exit 1; printf '#!/bin/sh\\necho new; cat\\n' > target/bin/iisph; chmod +x target/bin/iisph")
+
+    def script(self, name, text):
+        (self.root / name).write_text("#!/bin/sh\n" + text + "\n")
+        (self.root / name).chmod(0o755)
+
+    def ran(self, *arguments, kit=True):
+        path = "%s:/usr/bin:/bin" % (self.root / "kit") if kit else str(self.root / "plain")
+        done = subprocess.run([self.root / "tools/run", *arguments], capture_output=True, text=True, cwd=self.root, env={"PATH": path})
+        return done.returncode, done.stdout, done.stderr
+
+    def test_an_old_program_is_never_run(self):
+        self.script("target/bin/iisph", "echo old")
+        self.assertEqual(self.ran("scene.bin"), (0, "new\nthe scene", ""))
+        self.assertEqual((self.root / "target/run.log").read_text(), "rt check iisph\n")
+
+    def test_every_message_says_what_to_do(self):
+        for arguments, piece in (((), "give one packed scene"), (("a", "b"), "give one packed scene"), (("none.bin",), "there is no file none.bin; check its name"),
+                                 (("crates",), "crates is a folder; give a packed scene")):
+            status, out, err = self.ran(*arguments)
+            self.assertEqual((status, out, piece in err), (2, "", True), err)
+        status, out, err = self.ran("scene.bin", kit=False)
+        self.assertEqual((status, out, "put the kit's bin folder on PATH" in err), (2, "", True), err)
+        (self.root / "fails").touch()
+        status, out, err = self.ran("scene.bin")
+        self.assertEqual((status, out, "the whole log is %s" % (self.root / "target/run.log") in err), (1, "", True), err)
+        self.assertEqual(self.ran("--help")[::2], (0, ""))
+
+
+if __name__ == "__main__":
+    unittest.main()
