@@ -1,4 +1,5 @@
 // A packed scene read field by field. A reader holds the scene and the offset of the next field; each function takes it apart and calls a read on slice and number.
+// `double`, `past_double` and `header_numbers` ask for what an accepted scene gives: that the doubles which they read are there and finite.
 use crate::read;
 ghost use mathlib.Core.Path.{_≡_};
 ghost use Rattle.scene.specs.Bytes.{doubleAt, FiniteAt};
