@@ -1,12 +1,13 @@
 #!/usr/bin/env python3
 """The whole step, read from document 01 alone: packs scenes, checks them, runs the step and prints the program's lines.
 
-  tools/iisph_cases.py              writes crates/iisph_cases/data/scenes, crates/iisph_cases/stdout and examples/scene-a.bin
+  tools/iisph_cases.py              writes data/scenes and stdout of crates/iisph_cases, data/scene and stdout of crates/short_lists, and examples/scene-a.bin
   tools/iisph_cases.py --check      says whether these files are what it would write (status 1 if not)
   tools/iisph_cases.py --self-test  holds the cases against what document 01 says of them in words (status 1 if one differs)
   tools/iisph_cases.py --run FILE   prints the lines for one packed scene (status 2 if the file can't be read)
 
 data/scenes has for each case the scene's length in four bytes, most significant first, and the scene; stdout has the lines of all cases in the same order.
+short_lists runs scene A with an answer list one too short, with a work list one too short, and with both just long enough.
 Python's floats are IEEE 754 doubles and each operation stands in document 01's order; `div` adds the division by zero that Python refuses.
 """
 import math
@@ -472,7 +473,10 @@ def files():
     """What is written where."""
     scenes = [case[1] for case in cases()]
     return {ROOT / "crates/iisph_cases/data/scenes": b"".join(struct.pack(">I", len(data)) + data for data in scenes),
-            ROOT / "crates/iisph_cases/stdout": "".join(map(lines, scenes)).encode(), ROOT / "examples/scene-a.bin": scene_a()}
+            ROOT / "crates/iisph_cases/stdout": "".join(map(lines, scenes)).encode(),
+            ROOT / "crates/short_lists/data/scene": scene_a(),
+            ROOT / "crates/short_lists/stdout": "".join(lines(scene_a(), answers=a, work=w) for a, w in ((6, 14), (7, 13), (7, 14))).encode(),
+            ROOT / "examples/scene-a.bin": scene_a()}
 
 
 def write():
@@ -490,7 +494,7 @@ def check():
 
 
 def self_test():
-    """The pieces that the cases name, scene B's inner numbers, and refusal 8, which no program run meets."""
+    """The pieces that the cases name, scene B's inner numbers, and refusal 8."""
     said = [(comment, lines(data), piece) for comment, data, *pieces in cases() for piece in pieces]
     b = walk(scene([pair()], most=1))
     step(b)

@@ -4,6 +4,7 @@ ghost use Prim.Native.Nat.{_≤_};
 ghost use mathlib.Core.Path.{_≡_};
 ghost use lib.ListN.{length};
 ghost use Rattle.iisph_text.specs.Text.{textOf};
+ghost use Rattle.iisph_lists.specs.Written.{writtenFor, FromRead, FromScene};
 
 // Writes a scene's text and hands back its length.
 fn print_text(scene: &[u8]) -> usize
@@ -15,26 +16,37 @@ fn print_text(scene: &[u8]) -> usize
     n
 }
 
-// Writes the text of a scene of as many bytes as `scene` has, and answers whether they were all there.
-fn print_scene(fd: i32, scene: &mut [u8]) -> bool {
-    let got = io::read_full(fd, scene);
-    if got < scene.len() {
-        return false;
+// Writes the text of a scene of n bytes if they are all there, and hands back its length, or else 0.
+fn print_whole(scene: &[u8], n: usize) -> usize
+    ensures { λ r. ⌜ r ≡ writtenFor (now (scene .entry)) n ⌝ }
+{
+    if scene.len() < n {
+        return 0;
     }
-    print_text(scene);
-    true
+    print_text(scene)
 }
 
-// Writes the text of the next scene, and answers whether there was one.
-fn print_next(fd: i32) -> bool {
+// The same of a scene of as many bytes as `scene` has, which is read into it.
+fn print_scene(fd: i32, scene: &mut [u8]) -> usize
+    ensures { λ r. ⌜ FromRead (now (scene .exit)) r ⌝ }
+{
+    let got = io::read_full(fd, scene);
+    let n = scene.len();
+    print_whole(&scene[..got], n)
+}
+
+// The same of the next scene; 0 also where there is none, or one that is too long to be kept.
+fn print_next(fd: i32) -> usize
+    ensures { λ r. ⌜ FromScene r ⌝ }
+{
     let mut head = [0u8; 4];
     let mut scene = [0u8; 32769];
     if io::read_full(fd, &mut head) < 4 {
-        return false;
+        return 0;
     }
     let n = scene::read::be16(&head, 0) * 65536 + scene::read::be16(&head, 2);
     if n > 32769 {
-        return false;
+        return 0;
     }
     print_scene(fd, &mut scene[..n])
 }
@@ -44,7 +56,7 @@ pub fn print_all(fd: i32) -> usize
     ensures { λ n. ⌜ n ≤ 65536 ⌝ }
 {
     let mut scenes = 0;
-    while scenes < 65536 && print_next(fd) {
+    while scenes < 65536 && print_next(fd) > 0 {
         scenes += 1;
     }
     scenes

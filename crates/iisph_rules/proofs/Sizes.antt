@@ -3,14 +3,14 @@
 use Prim.Native.Nat.{ℕ, zero, suc, _+_, _*_, _<_}
 use mathlib.Core.Path.{_≡_, refl, sym, ap, subst, _∙_}
 use mathlib.Core.Bool.{Bool, true, false}
-use mathlib.Core.List.{List, [], _∷_, _++_, map, zipWith, List·Memᴰ}
+use mathlib.Core.List.{List, [], _++_, map, List·Memᴰ}
 use native.Mathlib.Omega.{arith}
 use lib.Dec.{eqb}
-use lib.ListN.{length, drop, length-append, length-map, replicate, length-replicate}
+use lib.ListN.{length, drop, length-append, replicate, length-replicate}
 use lib.Seq.{drop-at}
 use lib.Ieee.{Float}
 use Rattle.math.specs.Real.{+0}
-use Rattle.math.specs.Vector.{Vector, _⊞_, _⊟_, _⊡_}
+use Rattle.math.specs.Vector.{Vector}
 use Rattle.math.specs.Lists.{table, choose}
 use Rattle.math.proofs.Lists.{length-table, in-table, table-map, fold-keeps}
 use Rattle.math.proofs.Vectors.{Sized, sum-sized, difference-sized, scaled-sized}

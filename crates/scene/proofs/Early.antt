@@ -1,9 +1,8 @@
 -- The check gives no other refusals than 1 to 7. Each way to join walks keeps that, and each field's own refusals are among them. Assumes nothing.
 use Prim.Native.Nat.{ℕ, zero, suc, _≤_}
-use mathlib.Core.Path.{_≡_, ap, subst}
+use mathlib.Core.Path.{_≡_, subst}
 use mathlib.Core.Bool.{Bool, true, false}
 use mathlib.Core.List.{List}
-use native.Mathlib.Omega.{arith}
 use lib.Dec.{lit≤}
 use Rattle.math.specs.Lists.{choose}
 use Rattle.scene.specs.Walk as walk

@@ -7,8 +7,8 @@ use native.Mathlib.Nat.{mul-zero, mul-suc}
 use native.Mathlib.Omega.{arith}
 use lib.ListN.{length}
 use Rattle.scene.specs.Accepted.{AllFinite, ContactOk, ContactsOk, FluidRecordOk, BoundaryRecordOk, HeaderOk}
-use Rattle.scene.specs.Bytes.{byteAt, FiniteAt}
-use Rattle.scene.specs.Format.{axes, headerWidth, recordWidth, contactWidth, boundaryContactWidth, versionOf, fluidsOf, boundariesOf, fluidContactsAt, boundaryContactsAt, contactsAt, Kind, fluidKind, keepsAt, boundaryKind, iter, Place, modelEnd, boundariesStart}
+use Rattle.scene.specs.Bytes.{FiniteAt}
+use Rattle.scene.specs.Format.{axes, headerWidth, recordWidth, contactWidth, boundaryContactWidth, fluidsOf, boundariesOf, fluidContactsAt, boundaryContactsAt, contactsAt, Kind, fluidKind, keepsAt, boundaryKind, iter, Place, modelEnd, boundariesStart}
 use Rattle.scene.specs.Walk.{_▹_, times, plain, double, header, contact, fluidRecord, fluid, boundaryContact, boundaryRecord, boundary, fields}
 use Rattle.scene.specs.declared.Walk.{Walk}
 use Rattle.scene.specs.declared.Walk.the-variants.{At}

@@ -1,7 +1,7 @@
 -- The lists of a layout, stored model by model: what is still to be stored, over what is stored, is the whole. By what one model more adds to each list.
 -- Assumes nothing.
 use Prim.Native.Nat.{ℕ, zero, suc, _+_, _*_, _-_, _≤_, _<_}
-use mathlib.Core.Path.{_≡_, refl, sym, ap, _∙_}
+use mathlib.Core.Path.{_≡_, refl, sym, _∙_}
 use mathlib.Core.List.{List, [], _∷_, _++_, map}
 use native.Mathlib.Nat.{sub-zero, zero-add, add-zero, add-assoc}
 use native.Mathlib.Numerals.{add-one}

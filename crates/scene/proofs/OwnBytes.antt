@@ -1,9 +1,9 @@
 -- A record's value is a function of its own bytes: where two packed scenes have the same bytes, at whatever offsets, they have the same doubles, contacts and
 -- particles. Field by field; whether a boundary keeps forces stands in no record, and follows from the record's length. Assumes nothing.
-use Prim.Native.Nat.{ℕ, zero, suc, _+_, _*_, _-_, _/_, _%_, _<_, _≤_}
+use Prim.Native.Nat.{ℕ, zero, suc, _+_, _*_, _/_, _%_, _<_, _≤_}
 use mathlib.Core.Path.{_≡_, refl, sym, ap, _∙_}
 use mathlib.Core.Bool.{Bool, true, false}
-use mathlib.Core.List.{List, _∷_}
+use mathlib.Core.List.{List}
 use native.Mathlib.Omega.{arith}
 use lib.Dec.{ltb}
 use borrow.Author.Tests.{ltb-true, ltb-false}
@@ -12,7 +12,7 @@ use Rattle.math.proofs.Lists.{table-same}
 use Rattle.scene.specs.Same.{SameBytes, SameRecord, SameFluidRecord, SameShape}
 use Rattle.scene.specs.Accepted.{Bytes}
 use Rattle.scene.specs.Bytes.{byteAt, be16At, be32At, be64At, doubleAt, vectorAt}
-use Rattle.scene.specs.Format.{axes, headerWidth, recordWidth, contactWidth, boundaryContactWidth, fluidsOf, boundariesOf, fluidContactsAt, boundaryContactsAt, contactsAt, Kind, fluidKind, keepsAt, boundaryKind, Place, fluidCounts, boundaryCounts, fluidPlace, boundaryPlace}
+use Rattle.scene.specs.Format.{axes, headerWidth, recordWidth, contactWidth, boundaryContactWidth, fluidsOf, boundariesOf, fluidContactsAt, boundaryContactsAt, contactsAt, fluidKind, keepsAt, boundaryKind, Place, fluidCounts, fluidPlace, boundaryPlace}
 use Rattle.scene.specs.Scene
 use Rattle.scene.specs.Scene.{fluidSize, boundarySize}
 use Rattle.scene.specs.SceneOf.{startsFrom, fluidStarts, boundaryStarts, targetAt, contactAt, contactList, fluidParticleAt, forceAt, boundaryParticleAt, headerOf, sceneOf, sizeSum}

@@ -1,16 +1,15 @@
 -- What an accepted packed scene gives to a step, particle by particle: the doubles of its record are there and finite, its contacts name particles of the scene,
 -- and the scene's particle is what its record says. From what Accepted says of each model, through Places. Assumes nothing.
-use Prim.Native.Nat.{ℕ, _+_, _*_, _<_, _≤_}
+use Prim.Native.Nat.{ℕ, _+_, _<_, _≤_}
 use mathlib.Core.Path.{_≡_}
 use mathlib.Core.List.{List}
 use native.Mathlib.Omega.{arith}
 use lib.ListN.{length}
 use Rattle.scene.specs.Accepted.{FluidRecordOk, BoundaryRecordOk, TargetOk, FluidParticleOk, BoundaryParticleOk, Bytes}
-use Rattle.scene.specs.Bytes.{byteAt, FiniteAt}
-use Rattle.scene.specs.Format.{axes, headerWidth, recordWidth, contactWidth, boundaryContactWidth, fluidsOf, boundariesOf, fluidContactsAt, boundaryContactsAt, contactsAt, modelAt, fluidKind, keepsAt, boundaryKind, Place, boundariesStart, fluidPlaces, boundaryPlaces, fluidPlace, boundaryPlace}
-use Rattle.scene.specs.Scene
+use Rattle.scene.specs.Bytes.{FiniteAt}
+use Rattle.scene.specs.Format.{axes, headerWidth, fluidsOf, boundariesOf, fluidKind, keepsAt, boundaryKind, Place, boundariesStart, fluidPlaces, boundaryPlaces, fluidPlace, boundaryPlace}
 use Rattle.scene.specs.Scene.{fluidSize, boundarySize}
-use Rattle.scene.specs.SceneOf.{startsFrom, fluidStarts, boundaryStarts, targetAt, fluidParticleAt, boundaryParticleAt, sceneOf, sizeSum}
+use Rattle.scene.specs.SceneOf.{startsFrom, targetAt, sceneOf, sizeSum}
 use Rattle.scene.specs.Walk.{checked}
 use Rattle.scene.specs.declared.Walk.the-variants.{At}
 use Rattle.scene.proofs.Accepted.{NameOk, FluidNamesOk, BoundaryNamesOk, SceneOk, accepted}

@@ -1,6 +1,7 @@
 pub mod Bytes
 pub mod Format
 pub mod Walk
+pub mod Halves
 pub mod Scene
 pub mod SceneOf
 pub mod Kinds

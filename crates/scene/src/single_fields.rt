@@ -9,6 +9,7 @@ use crate::read::byte;
 use crate::read::exponent;
 ghost use mathlib.Core.Path.{_≡_};
 ghost use Prim.Native.Nat.{_<_};
+ghost use Rattle.scene.specs.Halves.{halfByte, halvesOf};
 ghost use Rattle.scene.specs.Walk as walk;
 
 // A field of k bytes with no rule of its own. Every other field is read only once it has passed this.
@@ -71,44 +72,60 @@ pub fn count(s: &[u8], m: usize, at: usize) -> Walk
     Walk::At(next)
 }
 
-// The version, then the number of fluids.
-pub fn version_and_fluids(s: &[u8], at: usize) -> Walk
-    ensures { λ r. ⌜ r ≡ walk.versionAndFluids (now (s .entry)) at ⌝ }
+// What half a byte is to be: a fixed number, or a number of models.
+enum Half {
+    Fixed(usize),
+    ModelCount,
+}
+
+// Half a byte at an offset, with what follows if it is as it is to be.
+fn half_byte(rule: Half, x: usize, at: usize, then: Walk) -> Walk
+    ensures { λ r. ⌜ r ≡ halfByte rule x at then ⌝ }
+{
+    match rule {
+        Half::Fixed(wanted) => {
+            if x != wanted {
+                return Walk::Refused(Refusal::Form(at));
+            }
+        }
+        Half::ModelCount => {
+            if MAX_MODELS < x {
+                return Walk::Refused(Refusal::Models(at));
+            }
+        }
+    }
+    then
+}
+
+// A byte of two halves, the upper one first.
+fn halves(s: &[u8], upper: Half, lower: Half, at: usize) -> Walk
+    ensures { λ r. ⌜ r ≡ halvesOf (now (s .entry)) upper lower at ⌝ }
 {
     let w = plain(s, 1, at);
     let Walk::At(next) = w else {
         return w;
     };
     let b = byte(s, at);
-    let version = b / 16;
-    if version != 1 {
-        return Walk::Refused(Refusal::Form(at));
-    }
-    let fluids = b % 16;
-    if MAX_MODELS < fluids {
-        return Walk::Refused(Refusal::Models(at));
-    }
-    Walk::At(next)
+    half_byte(
+        upper,
+        b / 16,
+        at,
+        half_byte(lower, b % 16, at, Walk::At(next)),
+    )
+}
+
+// The version, then the number of fluids.
+pub fn version_and_fluids(s: &[u8], at: usize) -> Walk
+    ensures { λ r. ⌜ r ≡ walk.versionAndFluids (now (s .entry)) at ⌝ }
+{
+    halves(s, Half::Fixed(1), Half::ModelCount, at)
 }
 
 // The number of boundaries, then four zero bits.
 pub fn boundaries_and_zero(s: &[u8], at: usize) -> Walk
     ensures { λ r. ⌜ r ≡ walk.boundariesAndZero (now (s .entry)) at ⌝ }
 {
-    let w = plain(s, 1, at);
-    let Walk::At(next) = w else {
-        return w;
-    };
-    let b = byte(s, at);
-    let boundaries = b / 16;
-    if MAX_MODELS < boundaries {
-        return Walk::Refused(Refusal::Models(at));
-    }
-    let zero = b % 16;
-    if zero != 0 {
-        return Walk::Refused(Refusal::Form(at));
-    }
-    Walk::At(next)
+    halves(s, Half::ModelCount, Half::Fixed(0), at)
 }
 
 // Nothing follows.

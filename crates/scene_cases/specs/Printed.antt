@@ -1,9 +1,25 @@
--- What a line shows first of a verdict. Definitions only.
+-- What a line shows first of a verdict, and which line a block comes to. Definitions only.
 use Prim.Native.Nat.{ℕ}
-use Rattle.scene.specs.Walk.{numberOf}
+use mathlib.Core.List.{List}
+use lib.Dec.{ltb}
+use lib.ListN.{length, take}
+use Rattle.math.specs.Lists.{choose}
+use Rattle.scene.specs.Bytes.{be16At}
+use Rattle.scene.specs.Layout.{verdictOf}
+use Rattle.scene.specs.Walk.{numberOf, checked}
 use Rattle.scene.specs.declared.Verdict.{Verdict}
 use Rattle.scene.specs.declared.Verdict.the-variants.{Accepted, Refused}
+use Rattle.scene_cases.specs.declared.Line.{Line}
+use Rattle.scene_cases.specs.declared.Line.the-variants.{Nothing, Number}
 
 abbrev pub printed : Verdict → ℕ
 printed Accepted = 0
 printed (Refused r) = numberOf r
+
+-- the scene in front of a block, whose length is in the last two bytes
+unfoldable pub sceneIn : List ℕ → List ℕ
+sceneIn block = take (be16At block 510) block
+
+-- none if the block is cut short, or the length leaves no room for itself
+unfoldable pub lineOf : List ℕ → Line
+lineOf block = choose (ltb (length block) 512) Nothing (choose (ltb 510 (be16At block 510)) Nothing (Number (printed (verdictOf (checked (sceneIn block))))))

@@ -6,7 +6,7 @@ ghost use Prim.Native.Nat.{_≤_};
 ghost use mathlib.Core.Path.{_≡_};
 ghost use Rattle.scene.specs.Layout.{verdictOf};
 ghost use Rattle.scene.specs.Walk.{checked};
-ghost use Rattle.scene_cases.specs.Printed.{printed};
+ghost use Rattle.scene_cases.specs.Printed.{printed, lineOf};
 
 // Prints "accepted", or a refusal's number and place, and hands back the number, 0 for "accepted".
 fn print_verdict(verdict: Verdict) -> usize
@@ -37,27 +37,38 @@ fn print_check(s: &[u8]) -> usize
     print_verdict(verdict)
 }
 
-// Checks the scene of the next block, and answers whether there was one.
-fn check_block(fd: i32) -> bool {
-    let mut block = [0u8; 512];
-    let got = io::read_full(fd, &mut block);
-    if got < 512 {
-        return false;
+// What a block comes to: no line, or one with this number first.
+enum Line {
+    Nothing,
+    Number(usize),
+}
+
+// Checks the scene of a block.
+fn check_block(block: &[u8]) -> Line
+    ensures { λ r. ⌜ r ≡ lineOf (now (block .entry)) ⌝ }
+{
+    if block.len() < 512 {
+        return Line::Nothing;
     }
-    let n = scene::read::be16(&block, 510);
+    let n = scene::read::be16(block, 510);
     if n > 510 {
-        return false;
+        return Line::Nothing;
     }
-    print_check(&block[..n]);
-    true
+    Line::Number(print_check(&block[..n]))
 }
 
 // Checks the scenes of a list, 4,096 at most, and answers how many.
 fn check_all(fd: i32) -> usize
     ensures { λ n. ⌜ n ≤ 4096 ⌝ }
 {
+    let mut block = [0u8; 512];
     let mut scenes = 0;
-    while scenes < 4096 && check_block(fd) {
+    while scenes < 4096 {
+        let got = io::read_full(fd, &mut block);
+        let line = check_block(&block[..got]);
+        let Line::Number(_) = line else {
+            return scenes;
+        };
         scenes += 1;
     }
     scenes

@@ -1,10 +1,9 @@
 -- The cases that document 01 marks with a star ("Scenes and edges"), and its examples of refusals 7 to 10. Definitions only.
 use Prim.Native.Nat.{ℕ}
 use mathlib.Core.List.{List, [], _∷_}
-use lib.ListN.{replicate}
 use Rattle.math.specs.Real.{bits}
 use Rattle.scene.specs.declared.Refusal.the-variants.{NotThere, ShortList, ZeroDensity, ZeroPredictedDensity}
-use Rattle.scene.specs.Packed.{packed, boundary, boundaryRecord, boundaryContact, zero3, contact, emptyScene, sceneA, contactA, sceneB, boundaryScene, +1, -1, +2, -2, +3, +½, -½, +¼, -¼, -⅛}
+use Rattle.scene.specs.Packed.{packed, boundary, boundaryRecord, boundaryContact, zero3, emptyScene, sceneA, contactA, sceneB, boundaryScene, +1, -1, +2, -2, +3, +½, -½, +¼, -¼, -⅛}
 use Rattle.iisph_rules.specs.declared.Ending.the-variants.{Unswept, Settled, RanOut}
 use Rattle.worked_examples.specs.Row.{Row, done, refused, before, volumeOf, report, coefficients}
 

@@ -1,6 +1,6 @@
 -- `math::to_bits` meets its contract: what equals itself is a number and has its own pattern. Assumes nothing.
 use mathlib.Core.Path.{refl, sym, ap}
-use lib.Ieee.{Float, binary64, toBits}
+use lib.Ieee.{binary64, toBits}
 use Rattle.math.proofs.Doubles.{equal-number, unequal-nan}
 use Rattle.math.proofs.to_bits.Statement.{statement}
 use Rattle.math.proofs.to_bits.Tie as tie

@@ -1,55 +1,42 @@
--- `scene_cases::check_block` is safe: a scene's length is at most 510, and the block has 512 bytes. Assumes nothing.
+-- `scene_cases::check_block` meets its contract: whole or not, then whether the length leaves room for itself; a scene is the front of a block. Assumes nothing.
 use Prim.Native.Nat.{_≤_}
 use mathlib.Core.Path.{sym}
 use lib.ListN.{length}
 use lib.Seq.{length-take-le}
 use borrow.Author.Needs.{needs}
+use borrow.Author.Tests.{lt-ltb, le-ltb}
+use Rattle.math.specs.Lists.{choose}
+use Rattle.scene_cases.specs.Printed.{sceneIn, lineOf}
 use Rattle.scene_cases.proofs.check_block.Statement.{statement}
 use Rattle.scene_cases.proofs.check_block.Tie as tie
 
-slice-aggregate-read-full : tie.Need-slice-aggregate-read-full
-slice-aggregate-read-full c = search needs
-
-read-full-requires : tie.Need-read-full-requires
-read-full-requires c κs = search needs
-
 returns : tie.Need-returns
-returns c = search needs
-
-slice-aggregate-be16 : tie.Need-slice-aggregate-be16
-slice-aggregate-be16 c = search needs
+unfolding lineOf choose
+returns c = rw (lt-ltb _ _ (c .if1 .taken))
 
 be16-requires : tie.Need-be16-requires
 be16-requires c κs = search needs
 
 returns-2 : tie.Need-returns-2
-returns-2 c = search needs
-
-array-share-prefix-block : tie.Need-array-share-prefix-block
-array-share-prefix-block c = search needs
+unfolding lineOf choose
+returns-2 c = rw (le-ltb _ _ (c .before .before .if1 .left), ← c .before .be16 .ensures .0, lt-ltb _ _ (c .if2 .taken))
 
 slice-aggregate-print-check : tie.Need-slice-aggregate-print-check
 slice-aggregate-print-check c =
-    let h : c .before .before .be16 .result ≤ length (c .before .before .before .before .before .before .read-full .last .1 .0) = search needs in
+    let b = c .before .before in
+    let h : b .be16 .result ≤ length (b .before .before .before .args .block .now) = search needs in
     sym (length-take-le _ _ h)
 
 print-check-requires : tie.Need-print-check-requires
 print-check-requires c κs = search needs
 
 returns-3 : tie.Need-returns-3
-returns-3 c = search needs
+unfolding lineOf sceneIn choose
+returns-3 c =
+    let b = c .before .before .before in
+    rw (le-ltb _ _ (b .before .if1 .left), ← b .be16 .ensures .0, le-ltb _ _ (c .before .before .if2 .left), c .print-check .ensures)
 
 pub check-block-spec : {M : Type 1} → statement M
 check-block-spec =
     tie.close
-    (tie.spec
-    slice-aggregate-read-full
-    read-full-requires
-    returns
-    slice-aggregate-be16
-    be16-requires
-    returns-2
-    array-share-prefix-block
-    slice-aggregate-print-check
-    print-check-requires
-    returns-3)
+    (tie.spec returns be16-requires returns-2 slice-aggregate-print-check print-check-requires returns-3)
