@@ -6,7 +6,7 @@ use mathlib.Core.List.{List, [], _∷_, _++_, map}
 use native.Mathlib.Nat.{sub-zero, zero-add, add-zero, add-assoc}
 use native.Mathlib.Numerals.{add-one}
 use native.Mathlib.Omega.{arith}
-use lib.ListN.{length, getD, drop, set, replicate, length-map, length-append, length-replicate}
+use lib.ListN.{length, getD, drop, set, replicate, length-map}
 use lib.Seq.{sets, sets-eq}
 use Rattle.scene.specs.Format.{Kind, keepsAt, iter, trail, modelEnd, headsFrom, countsFrom}
 use Rattle.scene.specs.SceneOf.{startsFrom, sizeSum}
@@ -34,10 +34,6 @@ zeros-behind (n ∷ ns) k (suc m) = zeros-behind ns k m
 pub padded-at : (ns : List ℕ) (m : ℕ) → getD (padded ns) m 0 ≡ getD ns m 0
 unfolding padded
 padded-at ns m = zeros-behind ns (16 - length ns) m
-
-pub length-padded : (ns : List ℕ) → length ns ≤ 16 → length (padded ns) ≡ 16
-unfolding padded
-length-padded ns h = simp (length-append, length-replicate) (omega arith)
 
 drop-zeros : (k n : ℕ) → drop k (zeros n) ≡ zeros (n - k)
 drop-zeros zero n = rw sub-zero

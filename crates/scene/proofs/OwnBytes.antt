@@ -1,6 +1,6 @@
 -- A record's value is a function of its own bytes: where two packed scenes have the same bytes, at whatever offsets, they have the same doubles, contacts and
 -- particles. Field by field; whether a boundary keeps forces stands in no record, and follows from the record's length. Assumes nothing.
-use Prim.Native.Nat.{ℕ, zero, suc, _+_, _*_, _/_, _%_, _<_, _≤_}
+use Prim.Native.Nat.{ℕ, zero, suc, _+_, _*_, _<_, _≤_}
 use mathlib.Core.Path.{_≡_, refl, sym, ap, _∙_}
 use mathlib.Core.Bool.{Bool, true, false}
 use mathlib.Core.List.{List}
@@ -12,11 +12,11 @@ use Rattle.math.proofs.Lists.{table-same}
 use Rattle.scene.specs.Same.{SameBytes, SameRecord, SameFluidRecord, SameShape}
 use Rattle.scene.specs.Accepted.{Bytes}
 use Rattle.scene.specs.Bytes.{byteAt, be16At, be32At, be64At, doubleAt, vectorAt}
-use Rattle.scene.specs.Format.{axes, headerWidth, recordWidth, contactWidth, boundaryContactWidth, fluidsOf, boundariesOf, fluidContactsAt, boundaryContactsAt, contactsAt, fluidKind, keepsAt, boundaryKind, Place, fluidCounts, fluidPlace, boundaryPlace}
+use Rattle.scene.specs.Format.{axes, headerWidth, recordWidth, contactWidth, boundaryContactWidth, fluidContactsAt, boundaryContactsAt, contactsAt, fluidKind, keepsAt, boundaryKind, Place, fluidPlace, boundaryPlace}
 use Rattle.scene.specs.Scene
 use Rattle.scene.specs.Scene.{fluidSize, boundarySize}
 use Rattle.scene.specs.SceneOf.{startsFrom, fluidStarts, boundaryStarts, targetAt, contactAt, contactList, fluidParticleAt, forceAt, boundaryParticleAt, headerOf, sceneOf, sizeSum}
-use Rattle.scene.proofs.Places.{scene-header, scene-counts, fluid-size-sum, boundary-size-sum, particle-at, boundary-at, particle-beyond, boundary-beyond}
+use Rattle.scene.proofs.Places.{scene-header, fluid-size-sum, boundary-size-sum, particle-at, boundary-at, particle-beyond, boundary-beyond}
 use Rattle.scene.proofs.Records.{keeps-below}
 
 -- ---- numbers, doubles, vectors
@@ -145,12 +145,6 @@ module _ {b b′ : List ℕ} (s : SameBytes b 0 b′ 0 (headerWidth axes)) where
         same-vector axes (same-part s 28 (8 * axes) (omega arith)) (omega arith),
       )
 
-  pub same-fluids : fluidsOf b ≡ fluidsOf b′
-  same-fluids = ap (λ x. x % 16) (s .each 0 (omega arith))
-
-  pub same-boundaries : boundariesOf b ≡ boundariesOf b′
-  same-boundaries = ap (λ x. x / 16) (s .each 1 (omega arith))
-
 below-or-not : {A : Type 0} (i n : ℕ) → (i < n → A) → (n ≤ i → A) → A
 below-or-not {A} i n f g = go (ltb i n) refl
   where
@@ -161,9 +155,6 @@ below-or-not {A} i n f g = go (ltb i n) refl
 module _ {b b′ : List ℕ} (shape : SameShape b b′) where
   pub same-scene-header : sceneOf b .header ≡ sceneOf b′ .header
   same-scene-header = scene-header b ∙ same-header (shape .header) ∙ sym (scene-header b′)
-
-  pub same-scene-counts : sceneOf b .fluidCounts ≡ sceneOf b′ .fluidCounts
-  same-scene-counts = scene-counts b ∙ shape .fluids ∙ sym (scene-counts b′)
 
   pub same-fluid-starts : fluidStarts b ≡ fluidStarts b′
   same-fluid-starts = ap (startsFrom 0) (shape .fluids)

@@ -124,22 +124,9 @@ module _ (b : List ℕ) where
   unfolding Scene.boundary sceneOf
   boundary-at j h = getD-map _ (boundaryPlaces b) j noPlace noBoundaryParticle (rw boundary-size at h)
 
-  -- how many models there are, and how many particles model m has
-  pub fluids-counted : length (fluidCounts b) ≡ fluidsOf b
-  unfolding fluidCounts
-  fluids-counted = length-counts fluidKind b (fluidsOf b) (headerWidth axes)
-
   pub boundaries-counted : length (boundaryCounts b) ≡ boundariesOf b
   unfolding boundaryCounts
   boundaries-counted = length-counts boundaryKind b (boundariesOf b) (boundariesStart b)
-
-  pub fluid-count : (m : ℕ) → m < fluidsOf b → getD (fluidCounts b) m 0 ≡ fluidKind .count b (fluidHead b m)
-  unfolding fluidCounts
-  fluid-count = counts-at fluidKind b (fluidsOf b) (headerWidth axes)
-
-  pub boundary-count : (m : ℕ) → m < boundariesOf b → getD (boundaryCounts b) m 0 ≡ boundaryKind .count b (boundaryHead b m)
-  unfolding boundaryCounts
-  boundary-count = counts-at boundaryKind b (boundariesOf b) (boundariesStart b)
 
   -- where the record of particle j of model m stands
   pub fluid-place : (m j : ℕ) → m < fluidsOf b → j < getD (fluidCounts b) m 0
