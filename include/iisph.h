@@ -17,12 +17,12 @@
                    contacts, to boundaries: model (4 bits), particle (12 bits), weight
 
    A refusal has a number and an offset in the scene, that of the byte where the field or record in question begins:
-       1 a field is not wholly there                    6 a double is infinite or not a number
-       2 version not 1, or the 4 zero bits not zero     7 a contact names a model or particle that is not there
+       1 a field is not wholly there                    6 a double that is not finite
+       2 version not 1, or the 4 zero bits not zero     7 a contact that names nobody
        3 more than 8 fluids or boundaries               8 the answer or the work list is shorter than needed (offset 0)
        4 a count above 4096                             9 a density is zero (the particle's record)
        5 bytes follow the last record                  10 a predicted density is zero (the particle's record)
-   and of the kernel, 11 the distance is not finite or below 0 (-0 is taken), 12 the radius is not finite or not above 0. */
+   and of the kernel, 11 a distance that is negative (-0 is not) or not finite, 12 a radius that is zero, negative or not finite. */
 #ifndef IISPH_H
 #define IISPH_H
 
@@ -34,8 +34,8 @@ extern "C" {
 #endif
 
 /* One step.
-   answers: per fluid particle, fluid by fluid, position, velocity (3 doubles each) and pressure; then per boundary particle its volume and, if kept, its force (3).
-   work: scratch, 14 doubles per fluid particle and 1 per boundary particle; what it holds before does not matter. iisph_needed tells both lengths.
+   answers: per fluid particle, fluid by fluid, position, velocity (3 doubles each) and pressure; then of each boundary particle the volume, and the force (3) where forces are kept.
+   work: scratch, 14 doubles for a fluid particle, 1 for a boundary particle; what it holds before does not matter. iisph_needed tells both lengths.
    numbers: at least 4 elements. counts: at least 2 elements.
    Returns
        0   done with no iteration (the scene's most is 0), 1 settled, 2 ran out of iterations. Then answers is written, the needed part of work is all +0,

@@ -29,9 +29,9 @@ import scene
 from scene import Misused, Wrong, counted
 
 AXES = "xyz"
-REFUSALS = {1: "a field is not wholly there", 2: "the version is not 1, or the four zero bits are not zero", 3: "more than 8 fluids or walls",
-            4: "a count above 4,096", 5: "bytes follow the last record", 6: "a double is infinite or not a number",
-            7: "a contact names a model or particle that isn't there", 8: "the answer or work list is too short", 9: "a density is zero",
+REFUSALS = {1: "a field is not wholly there", 2: "another version than 1, or a bit set where zeros belong", 3: "more than 8 fluids or walls",
+            4: "a count above 4,096", 5: "bytes follow the last record", 6: "a double that is not finite",
+            7: "a contact that names nobody", 8: "the answer or work list is too short", 9: "a density is zero",
             10: "a predicted density is zero"}
 AGAIN = "give the whole output of tools/run, as in: tools/run examples/chamber.bin > chamber.txt"
 UNHELD = "not held against a scene, so it would not be noticed if the last lines of a fluid or wall were missing; add --scene SCENE.bin"

@@ -338,7 +338,7 @@ def readings():
     yield "an infinite pressure stays", scene([overflowing(0)], plain, most=1), swept("ranout", 1), " 7FF0000000000000\nfluid 0 1"
     yield "and then is not-a-number, which becomes +0", scene([overflowing(0)], plain, most=2), swept("settled", 2), " 0000000000000000\nfluid 0 1"
     for fluids in [overflowing(0), pair(1)], [pair(0), overflowing(1)]:
-        yield "an average that is not a number, beside 1", scene(fluids, plain, most=1), swept("ranout", 1, 1.0)
+        yield "one average no number, the other 1", scene(fluids, plain, most=1), swept("ranout", 1, 1.0)
     yield "rest density 0, infinite error", scene([fluid(0.0, particle([to(1, 0, 1.0, X)])), one([to(1, 0)])], most=2), swept("ranout", 2, math.inf)
     kept = wall(stone(beside(0, 0, 4.0), force=(1.0, 2.0, 4.0)), stone(force=ZEROS), keeps=1), wall(stone(beside(0, 1, 3.0))), wall(stone(force=X), keeps=1)
     yield ("two fluids press on one wall particle; no contact names the other ones", scene([pressing(0), pressing(1, 2.0)], kept, most=0, dt=0.5),

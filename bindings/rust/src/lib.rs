@@ -62,7 +62,7 @@ mod c {
 pub enum Reason {
     /// A field is not wholly there.
     Missing = 1,
-    /// The version is not 1, or the four zero bits are not zero.
+    /// Another version than 1, or a bit set where zeros belong.
     Form,
     /// More than 8 fluids or boundaries.
     Models,
@@ -70,7 +70,7 @@ pub enum Reason {
     Count,
     /// Bytes follow the last record.
     Trailing,
-    /// A double is infinite or not a number.
+    /// A double that is not finite.
     NotFinite,
     /// A contact names a model or a particle that is not there.
     NotThere,
@@ -104,7 +104,7 @@ impl Reason {
     fn text(self) -> &'static str {
         match self {
             Reason::Missing => "a field is not wholly there",
-            Reason::Form => "the version is not 1, or the four zero bits are not zero",
+            Reason::Form => "another version than 1, or a bit set where zeros belong",
             Reason::Models => "more than 8 fluids or boundaries",
             Reason::Count => "a count above 4096",
             Reason::Trailing => "bytes follow the last record",
@@ -208,8 +208,8 @@ pub fn needed(scene: &[u8]) -> Result<Lengths, Refusal> {
     }
 }
 
-/// A packed scene, one step on. The answer list gets, per fluid particle, position, velocity and pressure (7 doubles), then per boundary particle its volume and, if kept,
-/// its force; a refused call leaves it unchanged. The work list is scratch. Elements beyond the needed lengths are never touched.
+/// A packed scene, one step on. The answer list gets, per fluid particle, position, velocity and pressure (7 doubles), then of each boundary particle the volume and, where forces are kept,
+/// the force; a refused call leaves it unchanged. The work list is scratch. Both lists keep what stands behind the lengths that [`needed`] tells.
 pub fn step(scene: &[u8], answers: &mut [f64], work: &mut [f64]) -> Result<Report, Refusal> {
     let mut numbers = [0f64; 4];
     let mut counts = [0u64; 2];

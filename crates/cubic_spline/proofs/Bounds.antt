@@ -1,4 +1,4 @@
--- For every finite double q that is at least 0 the weight's shape lies within 2 ^ -50 of the exact one, and the slope's within 2 ^ -49. A shape has the same three
+-- The error bounds, for all finite q from 0 on: 2 ^ -50 between the weight's shape and the exact one, 2 ^ -49 for the slope's. A shape has the same three
 -- pieces on doubles as on fractions, and proofs/Chains.antt bounds each; -0 is computed. Assumes nothing.
 use mathlib.Core.Path.{_≡_, refl}
 use Prim.Native.Nat.{ℕ, _-_, _*_, _/_, _^_, _≤_, _<_, zero-le}

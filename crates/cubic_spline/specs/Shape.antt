@@ -1,4 +1,4 @@
--- The kernel on doubles (document 01, module 1): its formulas, in its order. Every operation rounds once, to the nearest double, ties to even. Definitions only.
+-- The kernel on doubles (document 01, module 1): its formulas, in its order. Each operation is one rounding, as math/specs/Real.antt has it. Definitions only.
 use mathlib.Core.Bool.{Bool, cond, _&&_, _||_}
 use lib.Ieee.{Float, le, lt}
 use lib.Ieee.Scale.{finite}
@@ -37,7 +37,7 @@ nearWeight q = one ⊕ (q ⊗ q ⊗ q ⊖ q ⊗ q) ⊗ six
 abbrev pub farWeight : Float → Float
 farWeight t = t ⊗ t ⊗ t ⊗ two
 
--- q at most 0.5; q at most 1, with t = 1 - q; else 0
+-- in three pieces: up to 0.5, up to 1 (by t = 1 - q), beyond
 unfoldable pub weightShape : Float → Float
 weightShape q = cond (le q half) (nearWeight q) (cond (le q one) (farWeight (one ⊖ q)) +0)
 
@@ -51,7 +51,7 @@ nearSlope q = (q ⊗ three ⊖ two) ⊗ q ⊗ six
 abbrev pub farSlope : Float → Float
 farSlope t = ⊝ t ⊗ t ⊗ six
 
--- 0 if q > 1 or q at most 1e-5; q at most 0.5; else with t = 1 - q
+-- 0 beyond 1 and up to 1e-5; between them two pieces, which meet at 0.5
 unfoldable pub slopeShape : Float → Float
 slopeShape q = cond (lt one q || le q epsilon) +0 (cond (le q half) (nearSlope q) (farSlope (one ⊖ q)))
 

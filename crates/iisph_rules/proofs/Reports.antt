@@ -1,6 +1,5 @@
--- What a step that is done says: the scene was accepted, both lists are long enough, the report is the rules', so are the
--- answers, and the work list is cleared. Every test that could have
--- refused is taken apart. Assumes nothing.
+-- What a step that is done says: the scene was accepted, both lists are long enough, the report is the rules', so are the answers, and the work list is cleared. Every
+-- test that could have refused is taken apart. A refused step leaves the answers as they were. Assumes nothing.
 use Prim.Native.Nat.{ℕ, _≤_}
 use mathlib.Core.Path.{_≡_, refl}
 use mathlib.Core.Bool.{Bool, true, false, _||_}
@@ -45,6 +44,10 @@ walked (walk.Refused x) a q = never q
 neither : (s t : Bool) → (s || t) ≡ false → (s ≡ false) × (t ≡ false)
 neither true t q = (q, let z : _≡_ {A = ℕ} 0 1 = cc in absurd (omega arith))
 neither false t q = (refl, q)
+
+pub answers-refused : (b : List ℕ) (answers work : ℕ) {r : Refusal} → stepAnswer b answers work ≡ Refused r → (old : List Float) → answersAfter b answers work old ≡ old
+unfolding answersAfter isDone choose
+answers-refused b answers work q old = rw q
 
 -- of a call with answer and work lists of these lengths
 pub record IsDone (b : List ℕ) (answers work : ℕ) (r : Report) : Type 0 where

@@ -196,7 +196,7 @@ module _ (b : List ℕ) (bytes : Bytes b) where
   unfolding answersOf answersFrom answersNeeded
   length-answers = simp length-append (cc (length-fluids _ _, length-boundaries _ _))
 
--- ---- elements beyond the needed lengths are never touched, whatever the step answers
+-- ---- both lists keep what stands behind the needed lengths, whatever the step answers
 
 behind : (t : Bool) (xs old : List Float) (n : ℕ) → length xs ≡ n → drop n (choose t (xs ++ drop n old) old) ≡ drop n old
 unfolding choose

@@ -31,7 +31,7 @@ stepAnswer b answers work =
     (Refused ShortList)
     (sceneAnswer (λ i. fluidPlace b i .at) (sceneOf b)))
 
--- a refused call leaves the answer list unchanged
+-- whether there are answers to write
 unfoldable pub isDone : StepAnswer → Bool
 isDone (Done r) = true
 isDone (Refused r) = false
@@ -40,7 +40,7 @@ isDone (Refused r) = false
 unfoldable pub answersAfter : List ℕ → ℕ → ℕ → List Float → List Float
 answersAfter b answers work old = choose (isDone (stepAnswer b answers work)) (answersOf (sceneOf b) ++ drop (answersNeeded b) old) old
 
--- after 9, 10 and every accepted call the work list's needed front part is all +0; after any other refusal it is unchanged
+-- whether the passes have used the work list, so that it is cleared: unless 1 to 8 refused
 unfoldable pub clearsWork : StepAnswer → Bool
 clearsWork (Done r) = true
 clearsWork (Refused r) = leb 9 (numberOf r)

@@ -69,7 +69,7 @@ pub record NextPressure : Type 0 where
 abbrev pub noPressure : NextPressure
 noPressure = record { pressure = +0; term = +0 }
 
--- a next pressure p above 0 is kept; otherwise, not-a-number included, pressure and term are +0
+-- a next pressure is kept if it is above 0; if not, or if it is no number, there is none
 unfoldable pub clamped : Float → Float → Float → Float → NextPressure
 clamped density0 aii sum p = cond (Ieee.lt +0 p) (record { pressure = p; term = errorTerm density0 aii sum p }) noPressure
 
@@ -102,7 +102,7 @@ averages [] terms = []
 averages (zero ∷ counts) terms = averages counts terms
 averages (suc n ∷ counts) terms = average (suc n) (take (suc n) terms) ∷ averages counts (drop (suc n) terms)
 
--- starts at +0 and takes each average if greater; an average that is not a number is passed over
+-- the greatest of +0 and the averages that are numbers
 unfoldable pub errorOf : List Float → Float
 errorOf xs = fold larger +0 xs
 

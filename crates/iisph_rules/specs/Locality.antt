@@ -31,7 +31,7 @@ BoundaryLink b i j =
     let at = fluidPlace b i .at in
     Names (boundaryStarts b) b (boundaryContactsAt b at) (at + recordWidth axes + contactWidth axes * fluidContactsAt b at) j
 
--- j lies within n links of i: at most n links in a row lead to it; itself included
+-- j lies within n links of i: a chain of n links or fewer, of none where j is i, ends there
 pub data Within (b : List ℕ) : ℕ → ℕ → ℕ → Type 0 where
   itself : {n i : ℕ} → Within b n i i
   onward : {n i j l : ℕ} → Link b i j → Within b n j l → Within b (suc n) i l

@@ -26,11 +26,11 @@ use Rattle.iisph_rules.specs.declared.StepAnswer.the-variants.{Done, Ref
 
 -- ---- the iterations
 
--- `step`: pressures start at half the warm ones
+-- `step`: the warm pressures, halved
 unfoldable pub firstPressures : Scene → List Float
 firstPressures s = table (fluidSize s) (λ i. particle s i .warmPressure ⊗ half)
 
--- iteration number i, counted from 0, is the last if its error is at most the limit and i is at least the least
+-- whether the iterations end with number i, counted from 0: the limit is met, and the least number reached
 abbrev pub isLast : Header → ℕ → Float → Bool
 isLast h i error = Ieee.le error (h .maxDensityError) && leb (h .minPressureIter) i
 
@@ -73,7 +73,7 @@ finalVelocityChange s co ps i =
     (velocityChange s (particle s i))
     (particle s i)
 
--- `update_velocities_and_positions`: velocity gains the change, then position gains velocity × dt
+-- `update_velocities_and_positions`: the change is added to the velocity, and the new velocity × dt to the position
 unfoldable pub newVelocity : Scene → List Coefficients → List Float → ℕ → Vector
 newVelocity s co ps i = particle s i .velocity ⊞ finalVelocityChange s co ps i
 
@@ -98,7 +98,7 @@ forceFrom s co ps j force i =
 unfoldable pub boundaryForce : Scene → List Coefficients → List Float → ℕ → Vector
 boundaryForce s co ps j = fold (forceFrom s co ps j) (boundary s j .force) (table (fluidSize s) (λ i. i))
 
--- the answers of boundary particle j: its volume and, if kept, its force
+-- the answers of boundary particle j: volume, and the force where forces are kept
 unfoldable pub boundaryAnswer : Scene → List Coefficients → List Float → ℕ → List Float
 boundaryAnswer s co ps j = boundaryVolume (boundary s j) ∷ choose (boundary s j .keepsForces) (boundaryForce s co ps j) []
 
@@ -131,7 +131,7 @@ firstZero (x ∷ xs) = choose (isZero x) 0 (suc (firstZero xs))
 unfoldable pub unlessZero : (ℕ → ℕ) → (ℕ → Refusal) → List Float → StepAnswer → StepAnswer
 unlessZero at refusal xs answer = let i = firstZero xs in choose (ltb i (length xs)) (Refused (refusal (at i))) answer
 
--- 9 looks at all densities before 10 looks at any
+-- 9 if any density is zero; 10 only where none is
 unfoldable pub sceneAnswer : (ℕ → ℕ) → Scene → StepAnswer
 sceneAnswer at s =
     let co = coefficients s in

@@ -22,7 +22,7 @@ use Rattle.scene.specs.declared.Walk.{Walk}
 use Rattle.scene.specs.declared.Walk.the-variants as walk
 use Rattle.scene.proofs.Accepted.{accepted-length}
 use Rattle.scene.proofs.Early.{refused-early}
-use Rattle.iisph_rules.specs.Answer.{afterCheck, stepAnswer, isDone, answersAfter, clearsWork, workAfter}
+use Rattle.iisph_rules.specs.Answer.{afterCheck, stepAnswer, clearsWork, workAfter}
 use Rattle.iisph_rules.specs.Step.{sceneAnswer, unlessZero}
 use Rattle.iisph_rules.specs.declared.StepAnswer.{StepAnswer}
 use Rattle.iisph_rules.specs.declared.StepAnswer.the-variants.{Refused}
@@ -79,11 +79,7 @@ module _ (b : List ℕ) (answers work : ℕ) where
     unfolding stepAnswer afterCheck choose
     scene-answer l h = rw (q, le-ltb answers (answersNeeded b) l, le-ltb work (workNeeded b) h)
 
-  -- ---- the lists
-
-  pub answers-refused : {r : Refusal} → stepAnswer b answers work ≡ Refused r → (old : List Float) → answersAfter b answers work old ≡ old
-  unfolding answersAfter isDone choose
-  answers-refused q old = rw q
+  -- ---- the work list
 
   work-early : {r : Refusal} → stepAnswer b answers work ≡ Refused r → numberOf r < 9 → (old : List Float) → workAfter b answers work old ≡ old
   unfolding workAfter clearsWork choose

@@ -17,13 +17,13 @@ use Rattle.iisph_rules.specs.Answer.{stepAnswer}
 use Rattle.iisph_rules.specs.Step.{firstPressures, sceneAnswer}
 use Rattle.iisph_rules.specs.declared.Report.{Report}
 use Rattle.iisph_rules.specs.declared.StepAnswer.the-variants.{Done, Refused}
-use Rattle.iisph_rules.proofs.Reports.{answers-done, work-done}
+use Rattle.iisph_rules.proofs.Reports.{answers-refused, answers-done, work-done}
 use Rattle.iisph_particles.specs.IterationRows.{IterationReady}
 use Rattle.iisph_solver.specs.Prepare.{workPrepared, readiness}
 use Rattle.iisph_solver.specs.Step.{Steps, Finishes}
 use Rattle.iisph_solver.specs.declared.prepare.Readiness.{Readiness}
 use Rattle.iisph_solver.specs.declared.prepare.Readiness.the-variants as before
-use Rattle.iisph_solver.proofs.Cases.{refused-answer, short-answers, short-work, scene-answer, answers-refused, work-refused, work-short, work-cleared}
+use Rattle.iisph_solver.proofs.Cases.{refused-answer, short-answers, short-work, scene-answer, work-refused, work-short, work-cleared}
 use Rattle.iisph_solver.proofs.IterationStart.{iteration-ready}
 use Rattle.iisph_solver.proofs.Prepared.{work-needed, refused-step, ready-step}
 use Rattle.iisph_solver.proofs.Validated.{beyond}

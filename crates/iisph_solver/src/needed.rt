@@ -24,7 +24,7 @@ pub enum Needs {
     Refused(Refusal),
 }
 
-// Of each boundary particle its volume and, if kept, its force.
+// Of each boundary particle one, and three more where its boundary keeps forces.
 fn boundary_answers_needed(counts: [usize; 16], keeps: [usize; 16], number: usize) -> usize
     requires { ⌜ Few counts number ⌝ }
     ensures { λ r. ⌜ (r ≤ 4194240) × (r ≡ answersBefore Boundary keeps counts number) ⌝ }

@@ -45,7 +45,7 @@ fn fill_rows(scene: &[u8], index: &[usize], n: usize, work: &mut [f64])
     traverse(Pass::Coefficients, scene, index, n, work);
 }
 
-// 9 looks at all densities before 10 looks at any predicted density; each gives the offset of the particle's record.
+// Two searches, one after the other: 9 in the densities, 10 in the predicted ones. Each gives the offset of the particle's record.
 fn zero_refusal(index: &[usize], n: usize, work: &[f64]) -> Readiness
     requires { ⌜ (indexLength ≤ length (now index)) × (n ≤ 32768) × (14 * n ≤ length (now work)) ⌝ }
     ensures { λ r. ⌜ ((report : Report) → r ≡ readiness (zeroAnswer (λ i. getD (now (index .entry)) (recordsAt + i) 0) (column n 0 (now (work .entry))) (column n 1 (now (work .entry))) report)) ⌝ }

@@ -52,7 +52,7 @@ magnitude nan = nan
 magnitude (inf s) = inf false
 magnitude (fin s m e) = fin false m e
 
--- y if it is greater, else x: a y that is not a number is passed over
+-- y if it is greater, else x, also where y is no number
 abbrev pub larger : Float → Float → Float
 larger x y = cond (Ieee.lt x y) y x
 

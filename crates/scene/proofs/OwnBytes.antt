@@ -1,4 +1,4 @@
--- A record's value is a function of its own bytes: where two packed scenes have the same bytes, at whatever offsets, they have the same doubles, contacts and
+-- What a record stands for depends on its own bytes alone: where two packed scenes have the same bytes, at whatever offsets, they have the same doubles, contacts and
 -- particles. Field by field; whether a boundary keeps forces stands in no record, and follows from the record's length. Assumes nothing.
 use Prim.Native.Nat.{ℕ, zero, suc, _+_, _*_, _<_, _≤_}
 use mathlib.Core.Path.{_≡_, refl, sym, ap, _∙_}

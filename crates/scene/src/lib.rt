@@ -21,7 +21,7 @@ ghost use Rattle.scene.specs.Walk.{numberOf, placeOf};
 pub enum Refusal {
     // 1: a field is not wholly there.
     Missing(usize),
-    // 2: the version is not 1, or the four zero bits are not zero.
+    // 2: another version than 1, or a bit set where zeros belong.
     Form(usize),
     // 3: more than 8 fluids or boundaries.
     Models(usize),

@@ -4,7 +4,7 @@ use lib.Ieee.{Float}
 use Rattle.math.specs.Real.{_⊖_, _⊘_, +0, one, isZero}
 use Rattle.timestep_manager.specs.declared.Clock.{Clock}
 
--- 0 for a zero of either sign, else 1 / dt
+-- 1 / dt; +0 where dt is +0 or -0
 unfoldable pub inverse : Float → Float
 inverse dt = cond (isZero dt) +0 (one ⊘ dt)
 

@@ -31,7 +31,7 @@ pub struct Motion {
     pub velocity: Vec3,
 }
 
-// Of fluid particle i after the step: velocity gains the change, then position gains velocity × dt.
+// Of fluid particle i after the step: the change is added to the velocity, and the new velocity × dt to the position.
 pub fn motion_of(scene: &[u8], index: &[usize], work: &[f64], n: usize, i: usize) -> Motion
     requires { ⌜ Indexed (now scene) (now index) ⌝ }
     requires { ⌜ (n ≡ fluidSize (sceneOf (now scene))) × (i < n) ⌝ }

@@ -141,7 +141,7 @@ nan = 0x7FF8000000000000
 
 unfoldable pub further : List Row
 further =
-    -- an average that is not a number is passed over
+    -- one average is no number: the other counts
     done nanLast (report (RanOut (bits +1)) 1 +1 +1 -1)
     (0 ∷ 0 ∷ 0 ∷ 0 ∷ 0 ∷ 0 ∷ +½ ∷ 0 ∷ 0 ∷ 0 ∷ 0 ∷ 0 ∷ 0 ∷ +½ ∷ 0xFFF0000000000000 ∷ nan ∷ nan ∷ 0xFFF0000000000000 ∷ nan ∷ nan ∷ 0x7FF0000000000000 ∷ [])
     42
