@@ -37,7 +37,7 @@ EDITS = [
     ("solver/pressure/iisph_solver.rs", "that the early end was taken",
      "                break;\n",
      "                self.settled = true;\n                break;\n"),
-    ("solver/pressure/iisph_solver.rs", "an average of -0, on which document 01 has runs skip the scene",
+    ("solver/pressure/iisph_solver.rs", "an average of -0, on which runs skip the scene",
      "            if nparts != 0 {\n",
      "            if nparts != 0 {\n                self.minus_zero |= (err / (nparts as f64)).to_bits() == 1 << 63;\n"),
     ("solver/pressure/iisph_solver.rs", "refusal 9",

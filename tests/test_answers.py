@@ -1,4 +1,4 @@
-"""tools/answers.py on the texts of the cases of tools/iisph_cases.py and on damaged ones; and the examples."""
+"""tools/answers.py on the texts of the cases of checks/cases_step.py and on damaged ones; and the examples."""
 import contextlib
 import io
 import json
@@ -14,16 +14,16 @@ import unittest
 import xml.etree.ElementTree as ElementTree
 
 ROOT = pathlib.Path(__file__).resolve().parent.parent
-sys.path.insert(0, str(ROOT / "tools"))
-import answers       # noqa: E402
-import chamber       # noqa: E402
-import iisph_cases   # noqa: E402
-import reference     # noqa: E402
-import scene         # noqa: E402
+sys.path[:0] = [str(ROOT / "tools"), str(ROOT / "checks")]
+import answers      # noqa: E402
+import cases_step   # noqa: E402
+import chamber      # noqa: E402
+import reference    # noqa: E402
+import scene        # noqa: E402
 
 EXAMPLES = ROOT / "examples"
 NAMES = sorted(path.stem for path in EXAMPLES.glob("*.json"))
-TEXTS = reference.texts((ROOT / "crates/iisph_cases/stdout").read_text())
+TEXTS = reference.texts((ROOT / "crates/cases_step/stdout").read_text())
 DONE = [text for text in TEXTS if text.startswith("step ")]
 CHAMBER, CHAMBER_SCENE = (EXAMPLES / "chamber.txt").read_text(), (EXAMPLES / "chamber.bin").read_bytes()
 
@@ -59,7 +59,7 @@ class Reading(unittest.TestCase):
             lines = iter(text.splitlines()[2:])
             for row in answers.csv(answers.parse(text)).splitlines()[1:]:
                 cells = [cell for cell in row.split(",") if cell]
-                self.assertEqual(next(lines), " ".join(cells[:3] + [iisph_cases.bits(float(x)) for x in cells[3:]]))
+                self.assertEqual(next(lines), " ".join(cells[:3] + [cases_step.bits(float(x)) for x in cells[3:]]))
             self.assertIsNone(next(lines, None))
 
     def test_no_answer_stops_it(self):
@@ -107,7 +107,7 @@ class Reading(unittest.TestCase):
             self.refused("".join([line] + lines[1:]), "line 1 is none")
 
     def test_an_answer_is_held_to_its_scene(self):
-        for data, text in list(zip(reference.unbatch(ROOT / "crates/iisph_cases/data/scenes"), TEXTS, strict=True))[::8]:
+        for data, text in list(zip(reference.unbatch(ROOT / "crates/cases_step/data/scenes"), TEXTS, strict=True))[::8]:
             if text.startswith("step "):
                 answer, lines = answers.parse(text), text.splitlines(keepends=True)
                 answers.hold(answer, data, "its scene")
@@ -117,8 +117,8 @@ class Reading(unittest.TestCase):
         self.refused("".join(CHAMBER.splitlines(keepends=True)[:85]), "the answer has 8 particles of wall 1, but its scene has 12; ", CHAMBER_SCENE)
 
     def test_another_scene_is_noticed(self):
-        rich = iisph_cases.rich()      # fluid 0 and wall 1 are empty, wall 0 keeps forces
-        text, head, kept = iisph_cases.lines(rich), struct.pack(">d", 0.25), scene.tree(scene.Walk(rich))
+        rich = cases_step.rich()      # fluid 0 and wall 1 are empty, wall 0 keeps forces
+        text, head, kept = cases_step.lines(rich), struct.pack(">d", 0.25), scene.tree(scene.Walk(rich))
         lines = text.splitlines(keepends=True)
         answers.hold(answers.parse(text), rich, "its scene")
         self.refused("".join(lines[:4] + lines[5:]), "the answer has 0 particles of wall 0, but its scene has 1; ", rich)
@@ -255,7 +255,7 @@ class Examples(unittest.TestCase):
         for name in NAMES:
             data, text = (EXAMPLES / (name + ".bin")).read_bytes(), (EXAMPLES / (name + ".txt")).read_text()
             self.assertEqual(scene.pack((EXAMPLES / (name + ".json")).read_text()), (data, []))
-            self.assertEqual(iisph_cases.lines(data), text)
+            self.assertEqual(cases_step.lines(data), text)
             if "IISPH" in os.environ:      # the built program: IISPH=target/bin/iisph python3 -m unittest
                 self.assertEqual(subprocess.run([os.environ["IISPH"]], input=data, capture_output=True).stdout.decode(), text)
 
@@ -268,8 +268,8 @@ class Examples(unittest.TestCase):
             self.assertEqual((chamber.weight(r, 1.0), chamber.slope(r, 1.0)), (8.0 / math.pi * shape, 8.0 / math.pi * fall))
 
     def test_the_faint_droplet_hides_a_coefficient(self):
-        read = iisph_cases.walk((EXAMPLES / "torn-droplet-faint.bin").read_bytes())
-        iisph_cases.step(read)
+        read = cases_step.walk((EXAMPLES / "torn-droplet-faint.bin").read_bytes())
+        cases_step.step(read)
         drop = read.all[2][1]
         self.assertTrue(drop.rho > 0.0 and math.isnan(drop.aii) and drop.pressure == 0.0 and all(map(math.isfinite, [*drop.position, *drop.velocity])))
 

@@ -1,4 +1,4 @@
-"""tools/scene.py against the scenes of iisph_cases and scene_cases, and against the reading of document 01 in tools/iisph_cases.py."""
+"""tools/scene.py against the scenes of cases_step and cases_check, and against the reading of the specification in checks/cases_step.py."""
 import contextlib
 import functools
 import io
@@ -11,15 +11,15 @@ import sys
 import unittest
 
 ROOT = pathlib.Path(__file__).resolve().parent.parent
-sys.path.insert(0, str(ROOT / "tools"))
-import iisph_cases   # noqa: E402
-import scene         # noqa: E402
+sys.path[:0] = [str(ROOT / "tools"), str(ROOT / "checks")]
+import cases_step   # noqa: E402
+import scene        # noqa: E402
 
 
 @functools.cache
 def listed():
-    """The scenes of crates/iisph_cases: four bytes of length, then the scene."""
-    data, at, found = (ROOT / "crates/iisph_cases/data/scenes").read_bytes(), 0, []
+    """The scenes of crates/cases_step: four bytes of length, then the scene."""
+    data, at, found = (ROOT / "crates/cases_step/data/scenes").read_bytes(), 0, []
     while at < len(data):
         size = struct.unpack_from(">I", data, at)[0]
         found.append(data[at + 4:at + 4 + size])
@@ -28,18 +28,18 @@ def listed():
 
 
 def blocks():
-    """The scenes of crates/scene_cases, in blocks of 512 bytes whose last two are the length, with their verdicts."""
-    data, lines = (ROOT / "crates/scene_cases/data/scenes").read_bytes(), (ROOT / "crates/scene_cases/stdout").read_text().splitlines()
+    """The scenes of crates/cases_check, in blocks of 512 bytes whose last two are the length, with their verdicts."""
+    data, lines = (ROOT / "crates/cases_check/data/scenes").read_bytes(), (ROOT / "crates/cases_check/stdout").read_text().splitlines()
     found = [data[at:at + 512] for at in range(0, len(data), 512)]
     return [(block[:struct.unpack(">H", block[510:])[0]], line) for block, line in zip(found, lines, strict=True)]
 
 
 @functools.cache
 def refusal(data):
-    """Number and place, by tools/iisph_cases.py."""
+    """Number and place, by checks/cases_step.py."""
     try:
-        iisph_cases.walk(data)
-    except iisph_cases.Refused as e:
+        cases_step.walk(data)
+    except cases_step.Refused as e:
         return e.args
     return None
 
@@ -100,14 +100,14 @@ class Packed(unittest.TestCase):
 
 class Places(unittest.TestCase):
     def test_the_example_of_the_head(self):
-        lost = iisph_cases.scene_a([iisph_cases.to(0, 1, 2.0)])
+        lost = cases_step.scene_a([cases_step.to(0, 1, 2.0)])
         said = "\n".join(scene.at(lost, 152)[0])
         self.assertIn("fluid 0, particle 0, fluid contact 0: ", said)
         self.assertIn("refusal 7 at 152: ", said)
         self.assertIn("fluid 0 has 1 particle", said)
 
     def test_every_field_has_its_name(self):
-        rich = iisph_cases.rich()
+        rich = cases_step.rich()
         for at, name in ((0, "header: version and fluids"), (1, "header: walls"), (2, "header: least iterations"), (3, "header: most iterations"),
                          (4, "header: step length"), (51, "header: gravity z"), (52, "fluid 0: count"), (54, "fluid 0: rest density"), (62, "fluid 1: count"),
                          (72, "fluid 1, particle 0: position x"),
@@ -125,7 +125,7 @@ class Places(unittest.TestCase):
                 self.assertTrue(any(said.startswith("refusal %d at %d: " % (number, place)) for said in scene.at(data, place)[0]), (line, scene.at(data, place)))
 
     def test_damage_never_stops_it(self):
-        draw, rich = random.Random(1), iisph_cases.rich()
+        draw, rich = random.Random(1), cases_step.rich()
         for _ in range(300):
             data = bytearray(rich[:draw.randrange(len(rich) + 1)] + bytes(draw.randrange(3)))
             for _ in range(draw.randrange(6)):
@@ -161,7 +161,7 @@ class Mistakes(unittest.TestCase):
             self.assertIn(piece, str(raised.exception))
 
     def test_what_a_step_will_refuse_is_noted(self):
-        lost = scene.tree(scene.Walk(iisph_cases.scene_a([iisph_cases.to(0, 1, 2.0)])))
+        lost = scene.tree(scene.Walk(cases_step.scene_a([cases_step.to(0, 1, 2.0)])))
         self.assertIn("refusal 7 at 152", scene.pack(json.dumps(lost))[1][0])
         wide = {"step_length": 1, "remaining_time": 0, "error_limit": 0, "walls": [{"particles": [{}] * 1400}]}
         self.assertIn("the program takes 32768", scene.pack(json.dumps(wide))[1][0])
@@ -178,7 +178,7 @@ class Mistakes(unittest.TestCase):
                                          (["show", "--json", "--json", whole], 2, "`show` takes only one --json")):
             found, said = refused(*arguments)
             self.assertEqual((found, piece in said), (status, True), said)
-            self.assertEqual("JSON, in document 01" in said, status == 2 and "here is how" in said)      # the whole head only where no command is known
+            self.assertEqual("JSON, in the words" in said, status == 2 and "here is how" in said)      # the whole head only where no command is known
         found, text, said = command("show", "-", given=whole.read_bytes()[:100])
         self.assertEqual((found, said[:18]), (1, "refusal 1 at 94: f"))
         self.assertIn(b"velocity (0.0), velocity y cut short", text)
@@ -189,7 +189,7 @@ class Mistakes(unittest.TestCase):
         for data, offset, said in ((sound[:-1], 4, "refusal 1 at 399: "), (sound + b"x", 4, "refusal 5 at 400: "), (b"\x20" + sound[1:], 4, "refusal 2 at 0: ")):
             _, notes, whole = scene.at(data, offset)
             self.assertEqual((len(notes), notes[0].startswith("a step refuses this scene, " + said), whole), (1, True, False))
-        for data, offset in ((sound, 400), (iisph_cases.scene_a([iisph_cases.to(0, 1, 2.0)]), 152)):
+        for data, offset in ((sound, 400), (cases_step.scene_a([cases_step.to(0, 1, 2.0)]), 152)):
             self.assertEqual(scene.at(data, offset)[1:], ([], False))
         found, text, said = command("at", 4, "-", given=sound[:-1])
         self.assertEqual((found, text[:20], said[:27]), (1, b"header: step length ", "a step refuses this scene, "))

@@ -1,4 +1,6 @@
-"""How every tool takes its arguments, and tools/run with a stand-in for rt."""
+"""How each program of tools/ and checks/ takes its arguments, what the two folders may share, and
+tools/run with a stand-in for rt."""
+import ast
 import contextlib
 import importlib
 import io
@@ -12,8 +14,9 @@ import unittest
 from unittest import mock
 
 ROOT = pathlib.Path(__file__).resolve().parent.parent
-sys.path.insert(0, str(ROOT / "tools"))
-TOOLS = sorted(path.stem for path in (ROOT / "tools").glob("*.py") if os.access(path, os.X_OK))
+sys.path[:0] = [str(ROOT / "tools"), str(ROOT / "checks")]
+FILES = {folder: sorted((ROOT / folder).glob("*.py")) for folder in ("tools", "checks")}
+TOOLS = [path.stem for paths in FILES.values() for path in paths if os.access(path, os.X_OK)]
 
 
 def called(name, *arguments):
@@ -39,6 +42,33 @@ class Arguments(unittest.TestCase):
             status, out, err = called(name, "--nonsense")
             self.assertEqual((status, out), (2, ""), name)
             self.assertTrue(name in err or importlib.import_module(name).__doc__.strip().splitlines()[0] in err, err)
+
+
+def imported(path):
+    """The modules that a file imports, by their first names."""
+    for node in ast.walk(ast.parse(path.read_text())):
+        if isinstance(node, (ast.Import, ast.ImportFrom)):
+            module = getattr(node, "module", None)      # of `from module import ..`
+            for name in [module] if module else [alias.name for alias in node.names]:
+                yield name.split(".")[0]
+
+
+class Folders(unittest.TestCase):
+    def test_tools_need_no_checks(self):
+        checks = {path.stem for path in FILES["checks"]}
+        self.assertIn("reference", checks & set(imported(ROOT / "checks/compare.py")))
+        for path in FILES["tools"]:
+            self.assertEqual(checks & set(imported(path)), set(), path)
+
+    def test_no_name_is_in_both(self):
+        names = [path.stem for paths in FILES.values() for path in paths]
+        self.assertEqual(sorted(names), sorted(set(names)))
+
+    def test_each_file_is_in_its_readme(self):
+        for folder, paths in FILES.items():
+            text = (ROOT / folder / "README.md").read_text()
+            for path in paths:
+                self.assertIn("`%s`" % path.name, text)
 
 
 class Run(unittest.TestCase):

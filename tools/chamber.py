@@ -18,7 +18,7 @@ WIDE, DEEP, TALL = 5, 3, 4
 COMMENT = "60 particles of ink on a floor, between a blade that moves in, a wall and two panes of glass: the wall forces of one step"
 
 
-# ---- document 01's cubic spline
+# ---- the cubic spline of METHOD 1
 
 def normalizer(h): return 8.0 / (((math.pi * h) * h) * h)
 

@@ -9,7 +9,7 @@
 A file named - is standard input or output. Status: 0; 1 if `show` or `at` meets a scene that a step refuses for its bytes (1 to 7), if nothing stands at
 the offset, or if the JSON is wrong; 2 if a file or the command is. `pack` writes what the JSON says and ends with 0, and notes what a step will refuse.
 
-The JSON, in document 01's words. What has a value below is that where it is left out; a list that is left out is empty.
+The JSON, in the words of docs/FORMAT.md. What has a value below is that where it is left out; a list that is left out is empty.
 
   {"comment": "", "least_iterations": 1, "most_iterations": 50,
    "step_length": .., "remaining_time": .., "error_limit": .., "gravity": [0, 0, 0],

@@ -1,4 +1,4 @@
-//! Hands a scene to the Rust's solver, and writes document 01's lines from what it did.
+//! Hands a scene to the Rust's solver, and writes FORMAT 4's lines from what it did.
 
 use std::fmt::Write;
 use std::panic::{catch_unwind, resume_unwind, AssertUnwindSafe};

@@ -1,4 +1,4 @@
-//! A reader of packed scenes, written from document 01: refusals 1 to 7, and the records in the shape that the Rust's lists have.
+//! A reader of packed scenes, written from the specification: refusals 1 to 7, and the records in the shape that the Rust's lists have.
 
 use crate::math::Vector;
 

@@ -37,7 +37,7 @@ fn scene_b(speed: f64) -> Scene {
     }
 }
 
-// document 01's particle that presses on a wall
+// the specification's particle that presses on a wall
 fn pressed() -> Scene {
     let particle = FluidParticle {
         volume: 1.0,
@@ -321,7 +321,7 @@ fn refusals_say_what_and_where() {
     assert!(Reason::ALL.iter().enumerate().all(|(n, reason)| reason.number() as usize == n + 1));
 }
 
-// normaliser × shape, and (normaliser × shape) / h; with the radius 1 the shapes are document 01's
+// normaliser × shape, and (normaliser × shape) / h; with the radius 1 the shapes are those of METHOD 1
 #[test]
 fn kernel_values() {
     let normalizer = 8.0 / std::f64::consts::PI;

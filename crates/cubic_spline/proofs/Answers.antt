@@ -1,4 +1,4 @@
--- An answer carries the number that document 01 gives its arguments, by cases on the two tests. Assumes nothing.
+-- An answer carries the number of FORMAT 2.1 that its arguments give. By cases on the two tests. Assumes nothing.
 use mathlib.Core.Path.{_≡_, refl, ap, _∙_}
 use mathlib.Core.Bool.{Bool, true, false}
 use lib.Ieee.{Float}

@@ -1,5 +1,5 @@
--- The error bounds, for all finite q from 0 on: 2 ^ -50 between the weight's shape and the exact one, 2 ^ -49 for the slope's. A shape has the same three
--- pieces on doubles as on fractions, and proofs/Chains.antt bounds each; -0 is computed. Assumes nothing.
+-- The error bounds, for all finite q from 0 on: 2 ^ -50 for the weight's shape, 2 ^ -49 for the slope's (METHOD 1.5). A
+-- shape has the same three pieces on doubles as on fractions, and Chains bounds each; -0 is computed. Assumes nothing.
 use mathlib.Core.Path.{_≡_, refl}
 use Prim.Native.Nat.{ℕ, _-_, _*_, _/_, _^_, _≤_, _<_, zero-le}
 use native.Mathlib.Nat.{zero-mul, mul-one}
@@ -14,7 +14,14 @@ use Rattle.rounding.specs.Exact.{unit, count}
 use Rattle.math.proofs.Doubles.{holds}
 use Rattle.rounding.proofs.Near.{near-weak}
 use Rattle.rounding.proofs.Fractions.{Fraction, fraction, value-of, le-is, lt-is, half-fraction, one-fraction}
-use Rattle.rounding.proofs.Counts.{fraction-finite, fraction-count, at-least-zero, at-most-zero, -0, minus-zero-or-fraction}
+use Rattle.rounding.proofs.Counts.{
+  fraction-finite,
+  fraction-count,
+  at-least-zero,
+  at-most-zero,
+  -0,
+  minus-zero-or-fraction,
+}
 use Rattle.rounding.proofs.Steps.{Scale, Within}
 use Rattle.cubic_spline.specs.Shape.{epsilon, nearWeight, farWeight, weightShape, nearSlope, farSlope, slopeShape}
 use Rattle.cubic_spline.specs.Exact.{pieces, exactWeight, monaghanFall, exactFall}
@@ -24,8 +31,8 @@ use Rattle.cubic_spline.proofs.Chains.{near-weight, far-weight, near-sl
 -- ---- the three pieces
 
 -- what holds piece by piece holds of two values with the same pieces
-by-pieces : {A B : Type 0} (P : A → B → Type 0) (u n : ℕ) {a b c : A} {a' b' c' : B} → (n * 2 ≤ u → P a a') → (u < n * 2 → n ≤ u → P b b') → P c c'
-    → P (pieces u n a b c) (pieces u n a' b' c')
+by-pieces : {A B : Type 0} (P : A → B → Type 0) (u n : ℕ) {a b c : A} {a' b' c' : B} → (n * 2 ≤ u → P a a')
+    → (u < n * 2 → n ≤ u → P b b') → P c c' → P (pieces u n a b c) (pieces u n a' b' c')
 unfolding pieces
 by-pieces P u n {a} {b} {c} {a'} {b'} {c'} near far beyond = go (leb (n * 2) u) (leb n u) refl refl
   where
@@ -35,7 +42,8 @@ by-pieces P u n {a} {b} {c} {a'} {b'} {c'} near far beyond = go (leb (n * 2) u) 
     go false false e f = beyond
 
 -- the slope tests for the third piece first
-beyond-first : {A : Type 0} (u n : ℕ) (a b c : A) → cond (not (leb n u) || false) c (cond (leb (n * 2) u) a b) ≡ pieces u n a b c
+beyond-first : {A : Type 0} (u n : ℕ) (a b c : A)
+    → cond (not (leb n u) || false) c (cond (leb (n * 2) u) a b) ≡ pieces u n a b c
 unfolding pieces
 beyond-first u n a b c = go (leb (n * 2) u) (leb n u) refl refl
   where
@@ -64,7 +72,8 @@ module _ {q : Float} {n : ℕ} (Q : Fraction false q n unit) where
   one-test = rw (mul-one n) at (le-is q one n unit 1 1 (lit< tt) (lit< tt) (value-of Q) (value-of one-fraction))
 
   epsilon-test : le q epsilon ≡ leb (n * unit) (count epsilon * unit)
-  epsilon-test = le-is q epsilon n unit (count epsilon) unit (lit< tt) (lit< tt) (value-of Q) (value-of epsilon-fraction)
+  epsilon-test =
+      le-is q epsilon n unit (count epsilon) unit (lit< tt) (lit< tt) (value-of Q) (value-of epsilon-fraction)
 
   weight-pieces : weightShape q ≡ pieces unit n (nearWeight q) (farWeight (one ⊖ q)) +0
   unfolding weightShape pieces
@@ -93,7 +102,8 @@ scale : Scale binary64 unit grain
 unfolding grain
 scale = record { exponent = 1017; unit-is = refl; grain-is = refl; grains = refl; digits = refl; room = lit< tt }
 
-found : {m : Bool} {x : Float} {v c k : ℕ} (b : ℕ) → k * (grain * c) ≤ unit * c / 2 ^ b → Within unit grain m x v c k → ShapeWithin m v c b x
+found : {m : Bool} {x : Float} {v c k : ℕ} (b : ℕ) → k * (grain * c) ≤ unit * c / 2 ^ b → Within unit grain m x v c k
+    → ShapeWithin m v c b x
 found {m} {x} {v} {c} {k} b l W =
     record {
       isFinite = fraction-finite (W .is);
@@ -128,13 +138,17 @@ weight-minus-zero : WeightWithin (exactWeight unit (count -0)) (weightShape -0)
 unfolding weightShape exactWeight pieces ofBits add sub mul le
 weight-minus-zero = record { isFinite = tt; sign = tt; near = (lit≤ tt, lit≤ tt) }
 
-weight-bound : (q : Float) → T (fits binary64 q) → T (finite q) → T (le +0 q) → WeightWithin (exactWeight unit (count q)) (weightShape q)
-weight-bound = minus-zero-or-fraction (λ q. WeightWithin (exactWeight unit (count q)) (weightShape q)) weight-minus-zero (λ q Q. weight-at Q)
+weight-bound : (q : Float) → T (fits binary64 q) → T (finite q) → T (le +0 q)
+    → WeightWithin (exactWeight unit (count q)) (weightShape q)
+weight-bound =
+    minus-zero-or-fraction (λ q. WeightWithin (exactWeight unit (count q)) (weightShape q)) weight-minus-zero
+    (λ q Q. weight-at Q)
 
 -- ---- the slope
 
 -- above the double 1e-5 it is near Monaghan's
-pub slope-above : {q : Float} {n : ℕ} → Fraction false q n unit → le q epsilon ≡ false → SlopeWithin (monaghanFall unit n) (slopeShape q)
+pub slope-above : {q : Float} {n : ℕ} → Fraction false q n unit → le q epsilon ≡ false
+    → SlopeWithin (monaghanFall unit n) (slopeShape q)
 unfolding monaghanFall grain
 slope-above {q} {n} Q e =
     rw (slope-pieces Q e)
@@ -143,7 +157,7 @@ slope-above {q} {n} Q e =
     (λ h l. found _ (lit≤ tt) (far-slope scale Q l (past-half unit n h)))
     (zero-found true _ _))
 
--- and up to there it is 0, as document 01's
+-- and up to there it is 0, as METHOD 1.5 has it
 slope-at : {q : Float} {n : ℕ} → Fraction false q n unit → SlopeWithin (exactFall unit n) (slopeShape q)
 unfolding exactFall
 slope-at {q} {n} Q = rw (← epsilon-test Q) (go (le q epsilon) refl)
@@ -156,8 +170,11 @@ slope-minus-zero : SlopeWithin (exactFall unit (count -0)) (slopeShape -0)
 unfolding slopeShape exactFall ofBits le lt
 slope-minus-zero = record { isFinite = tt; sign = tt; near = (lit≤ tt, lit≤ tt) }
 
-slope-bound : (q : Float) → T (fits binary64 q) → T (finite q) → T (le +0 q) → SlopeWithin (exactFall unit (count q)) (slopeShape q)
-slope-bound = minus-zero-or-fraction (λ q. SlopeWithin (exactFall unit (count q)) (slopeShape q)) slope-minus-zero (λ q Q. slope-at Q)
+slope-bound : (q : Float) → T (fits binary64 q) → T (finite q) → T (le +0 q)
+    → SlopeWithin (exactFall unit (count q)) (slopeShape q)
+slope-bound =
+    minus-zero-or-fraction (λ q. SlopeWithin (exactFall unit (count q)) (slopeShape q)) slope-minus-zero
+    (λ q Q. slope-at Q)
 
 -- ---- what the two functions promise
 

@@ -1,9 +1,21 @@
--- How the errors of the single operations add up to a shape's, on whole numbers alone: u units make 1, w units are a grain, and q is n units. What becomes of an
--- error in the operations that follow is bounded first, and one sum of inequalities closes each law. Assumes nothing.
+-- How the errors of single operations add up to a shape's, on whole numbers: u units make 1, w a grain, q is n units.
+-- What later operations make of an error is bounded first; one sum of inequalities closes each law. Assumes nothing.
 use mathlib.Core.Path.{_≡_, ap, _∙_}
 use Prim.Native.Nat.{ℕ, _+_, _-_, _*_, _^_, _≤_, _<_}
-use native.Mathlib.Nat.{mul-comm, mul-assoc, mul-left-comm, mul-right-comm, mul-add, mul-sub, add-mul, mul-le-mul, mul-le-mul-left, mul-le-mul-right}
-use native.Mathlib.Nat.{le-of-mul-le-mul-right, mul-pos}
+use native.Mathlib.Nat.{
+  mul-comm,
+  mul-assoc,
+  mul-left-comm,
+  mul-right-comm,
+  mul-add,
+  mul-sub,
+  add-mul,
+  mul-le-mul,
+  mul-le-mul-left,
+  mul-le-mul-right,
+  le-of-mul-le-mul-right,
+  mul-pos,
+}
 use native.Mathlib.Omega.{arith}
 use Rattle.rounding.specs.Exact.{Near}
 use Rattle.rounding.proofs.Near.{near-times, sub-times}
@@ -51,8 +63,8 @@ module _ (u w : ℕ) where
 
   -- ---- the weight up to 1 / 2: a is q2, b is q2 × q, and d is a - b
 
-  pub drop-error : (n a b d : ℕ) → n * 2 ≤ u → Near (a * u) (n * n) (2 * (w * u)) → Near (b * u) (a * n) (1 * (w * u)) → Near d (a - b) (2 * w)
-      → Near (d * (u * u)) (n * n * u - n * n * n) (6 * (w * (u * u)))
+  pub drop-error : (n a b d : ℕ) → n * 2 ≤ u → Near (a * u) (n * n) (2 * (w * u)) → Near (b * u) (a * n) (1 * (w * u))
+      → Near d (a - b) (2 * w) → Near (d * (u * u)) (n * n * u - n * n * n) (6 * (w * (u * u)))
   drop-error n a b d N A B D =
       let A2 : Near (a * (u * u)) (n * n * u) (2 * (w * (u * u))) = over-square a 2 A in
       let A3 : Near (a * u * n) (n * n * n) (2 * (w * u * n)) = scaled 2 (w * u) n A in
@@ -65,7 +77,8 @@ module _ (u w : ℕ) where
       omega arith
 
   -- six times the computed drop is at most 1
-  pub drop-top : (n d : ℕ) → u ≡ 2 ^ 57 * w → 0 < u → n * 2 ≤ u → Near (d * (u * u)) (n * n * u - n * n * n) (6 * (w * (u * u))) → d * 6 ≤ u
+  pub drop-top : (n d : ℕ) → u ≡ 2 ^ 57 * w → 0 < u → n * 2 ≤ u
+      → Near (d * (u * u)) (n * n * u - n * n * n) (6 * (w * (u * u))) → d * 6 ≤ u
   drop-top n d F U N D =
       let e : 8 * (n * n * u - n * n * n) ≤ u * u * u = eighth n u N in
       let k : u * u * u ≡ 2 ^ 57 * (w * (u * u)) = ap (λ z. z * u * u) F ∙ simp mul-assoc in
@@ -73,7 +86,8 @@ module _ (u w : ℕ) where
       le-of-mul-le-mul-right (rw (mul-right-comm d 6 (u * u), ← mul-assoc u u u) l) (mul-pos U U)
 
   -- p is d × 6, and r is 1 - p
-  pub near-weight-error : (n d p r : ℕ) → Near (d * (u * u)) (n * n * u - n * n * n) (6 * (w * (u * u))) → Near p (d * 6) (8 * w) → Near r (u - p) (8 * w)
+  pub near-weight-error : (n d p r : ℕ) → Near (d * (u * u)) (n * n * u - n * n * n) (6 * (w * (u * u)))
+      → Near p (d * 6) (8 * w) → Near r (u - p) (8 * w)
       → Near (r * (u * u)) (u * u * u - 6 * (n * n * u - n * n * n)) (52 * (w * (u * u)))
   near-weight-error n d p r D P R =
       let P2 : Near (p * (u * u)) (d * 6 * (u * u)) (8 * (w * (u * u))) = square-scaled 8 P in
@@ -84,7 +98,8 @@ module _ (u w : ℕ) where
 
   -- ---- from 1 / 2 to 1: t is 1 - q, of which k is the exact count, and s is t × t
 
-  pub square-error : (k t s : ℕ) → k * 2 ≤ u → t * 2 ≤ u → Near t k (4 * w) → Near (s * u) (t * t) (2 * (w * u)) → Near (s * u) (k * k) (6 * (w * u))
+  pub square-error : (k t s : ℕ) → k * 2 ≤ u → t * 2 ≤ u → Near t k (4 * w) → Near (s * u) (t * t) (2 * (w * u))
+      → Near (s * u) (k * k) (6 * (w * u))
   square-error k t s K T N S =
       let T1 : Near (t * t) (k * t) (4 * (w * t)) = scaled 4 w t N in
       let T2 : Near (t * k) (k * k) (4 * (w * k)) = scaled 4 w k N in
@@ -94,8 +109,9 @@ module _ (u w : ℕ) where
       omega arith
 
   -- c is s × t, and r is c × 2
-  pub far-weight-error : (k t s c r : ℕ) → k * 2 ≤ u → t * 2 ≤ u → Near t k (4 * w) → Near (s * u) (k * k) (6 * (w * u)) → Near (c * u) (s * t) (1 * (w * u))
-      → Near r (c * 2) (2 * w) → Near (r * (u * u)) (2 * (k * k * k)) (12 * (w * (u * u)))
+  pub far-weight-error : (k t s c r : ℕ) → k * 2 ≤ u → t * 2 ≤ u → Near t k (4 * w) → Near (s * u) (k * k) (6 * (w * u))
+      → Near (c * u) (s * t) (1 * (w * u)) → Near r (c * 2) (2 * w)
+      → Near (r * (u * u)) (2 * (k * k * k)) (12 * (w * (u * u)))
   far-weight-error k t s c r K T N S C R =
       let S2 : Near (s * u * t) (k * k * t) (6 * (w * u * t)) = scaled 6 (w * u) t S in
       let a : w * u * t * 2 ≤ w * u * u = half-times (w * u) t u T in
@@ -112,7 +128,8 @@ module _ (u w : ℕ) where
       omega arith
 
   -- r is s × 6
-  pub far-slope-error : (k s r : ℕ) → Near (s * u) (k * k) (6 * (w * u)) → Near r (s * 6) (16 * w) → Near (r * u) (6 * (k * k)) (52 * (w * u))
+  pub far-slope-error : (k s r : ℕ) → Near (s * u) (k * k) (6 * (w * u)) → Near r (s * 6) (16 * w)
+      → Near (r * u) (6 * (k * k)) (52 * (w * u))
   far-slope-error k s r S R =
       let R1 : Near (r * u) (s * 6 * u) (16 * (w * u)) = scaled 16 w u R in
       let c : s * 6 * u ≡ s * u * 6 = mul-right-comm s 6 u in
@@ -120,8 +137,9 @@ module _ (u w : ℕ) where
 
   -- ---- the slope up to 1 / 2: a is q × 3, s is 2 - a, t is s × q, and r is t × 6
 
-  pub near-slope-error : (n a s t r : ℕ) → n * 2 ≤ u → Near a (n * 3) (16 * w) → Near s (2 * u - a) (16 * w) → Near (t * u) (s * n) (8 * (w * u))
-      → Near r (t * 6) (64 * w) → Near (r * u) (6 * ((2 * u - 3 * n) * n)) (208 * (w * u))
+  pub near-slope-error : (n a s t r : ℕ) → n * 2 ≤ u → Near a (n * 3) (16 * w) → Near s (2 * u - a) (16 * w)
+      → Near (t * u) (s * n) (8 * (w * u)) → Near r (t * 6) (64 * w)
+      → Near (r * u) (6 * ((2 * u - 3 * n) * n)) (208 * (w * u))
   near-slope-error n a s t r N A S T R =
       let S1 : Near s (2 * u - 3 * n) (32 * w) = omega arith in
       let S2 : Near (s * n) ((2 * u - 3 * n) * n) (32 * (w * n)) = scaled 32 w n S1 in

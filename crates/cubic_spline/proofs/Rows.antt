@@ -1,4 +1,4 @@
--- The definitions yield each of document 01's starred values (specs/Rows.antt), by evaluation. Assumes nothing.
+-- The definitions yield each of the customer's starred values (specs/Rows.antt), by evaluation. Assumes nothing.
 use mathlib.Core.Path.{_≡_, refl}
 use mathlib.Core.List.{map}
 use lib.Ieee.{ofBits, toBits, add, sub, mul, neg, le, lt}

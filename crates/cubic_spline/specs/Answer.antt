@@ -1,4 +1,4 @@
--- What the kernel's two functions answer: the value, or refusal 11 or 12 of document 01. Definitions only.
+-- What the kernel's two functions answer: the value, or refusal 11 or 12 (METHOD 1.4). Definitions only.
 use Prim.Native.Nat.{ℕ}
 use mathlib.Core.Path.{_≡_}
 use mathlib.Core.Bool.{cond}
@@ -9,7 +9,7 @@ use Rattle.cubic_spline.specs.declared.KernelRefusal.the-variants.{Dista
 use Rattle.cubic_spline.specs.declared.KernelAnswer.{KernelAnswer}
 use Rattle.cubic_spline.specs.declared.KernelAnswer.the-variants.{Value, Refused}
 
--- a refusal's number in document 01
+-- a refusal's number (FORMAT 2.1)
 abbrev pub number : KernelRefusal → ℕ
 number Distance = 11
 number Radius = 12

@@ -1,4 +1,5 @@
--- What is promised of the shapes: their values, and how near these are to the exact ones, at q = count q / unit. Definitions only.
+-- What is promised of the shapes: their values, and how near these are to the exact ones (METHOD 1.5), at
+-- q = count q / unit. Definitions only.
 use Prim.Native.Nat.{ℕ, _*_, _/_, _^_}
 use mathlib.Core.Path.{_≡_}
 use mathlib.Core.Bool.{Bool, true, false, cond}
@@ -10,7 +11,8 @@ use Rattle.rounding.specs.Exact.{unit, count, Near}
 use Rattle.cubic_spline.specs.Shape.{weightShape, slopeShape}
 use Rattle.cubic_spline.specs.Exact.{exactWeight, exactFall}
 
--- x lies within 2 ^ -b of the fraction v / (unit * c), and is not below 0; where m is true, within 2 ^ -b of minus that, and is not above 0
+-- x lies within 2 ^ -b of the fraction v / (unit * c), and is not below 0; where m is true, within 2 ^ -b of minus
+-- that, and is not above 0
 pub record ShapeWithin (m : Bool) (v c b : ℕ) (x : Float) : Type 0 where
   pub isFinite : T (finite x)
   pub sign : T (cond m (le x +0) (le +0 x))

@@ -1,4 +1,5 @@
--- The exact shapes over fractions, at q = n / u: whole numbers over u ^ 3 for the weight, and over u ^ 2, with the sign turned, for the slope. Definitions only.
+-- The exact shapes over fractions (METHOD 1.5), at q = n / u: whole numbers over u ^ 3 for the weight, and over u ^ 2,
+-- with the sign turned, for the slope. Definitions only.
 use Prim.Native.Nat.{ℕ, _-_, _*_}
 use mathlib.Core.Bool.{cond}
 use lib.Dec.{leb}
@@ -17,6 +18,6 @@ exactWeight u n = pieces u n (u * u * u - 6 * (n * n * u - n * n * n)) (2 * ((u 
 unfoldable pub monaghanFall : ℕ → ℕ → ℕ
 monaghanFall u n = pieces u n (6 * ((2 * u - 3 * n) * n)) (6 * ((u - n) * (u - n))) 0
 
--- document 01's: 0 where q is at most the double 1e-5, which is count epsilon / unit
+-- METHOD's slope: 0 where q is at most the double 1e-5, which is count epsilon / unit
 unfoldable pub exactFall : ℕ → ℕ → ℕ
 exactFall u n = cond (leb (n * unit) (count epsilon * u)) 0 (monaghanFall u n)

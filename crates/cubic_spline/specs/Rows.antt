@@ -1,4 +1,5 @@
--- Document 01's starred values of the two shapes: each row is a shape, q by its bits, and the value by its bits. Definitions only.
+-- The customer's starred cases of the two shapes: each row is a shape, q by its bits, and the value by its bits (METHOD
+-- 1.2, 1.3). Definitions only.
 use Prim.Native.Nat.{ℕ}
 use mathlib.Core.List.{List, [], _∷_}
 use lib.Ieee.{Float}

@@ -1,4 +1,5 @@
--- The kernel on doubles (document 01, module 1): its formulas, in its order. Each operation is one rounding, as math/specs/Real.antt has it. Definitions only.
+-- The kernel on doubles (METHOD 1): its formulas, in its order. Each operation is one rounding, as math/specs/Real.antt
+-- has it. Definitions only.
 use mathlib.Core.Bool.{Bool, cond, _&&_, _||_}
 use lib.Ieee.{Float, le, lt}
 use lib.Ieee.Scale.{finite}

@@ -1,4 +1,5 @@
-// Reads a packed scene from standard input and writes its text. A 32,769th byte is read to tell that a scene is too long.
+// Reads a packed scene from standard input and writes its text. A 32,769th byte is read to tell that a scene is too
+// long.
 use libc::STDIN_FILENO;
 use libc::STDOUT_FILENO;
 

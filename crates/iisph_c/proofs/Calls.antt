@@ -1,4 +1,5 @@
--- What the C interface's calls come to, case by case: lists that are too short, done, or refused. Each case unfolds the call's definitions once. Assumes nothing.
+-- What the C interface's calls come to, case by case: lists that are too short, done, or refused. Each case unfolds the
+-- call's definitions once. Assumes nothing.
 use Prim.Native.Nat.{ℕ, _+_, _<_, _≤_}
 use mathlib.Core.Path.{_≡_, refl, sym, ap, _∙_}
 use mathlib.Core.Bool.{true, false}
@@ -8,37 +9,39 @@ use lib.Ieee.{Float}
 use lib.ListN.{length, set}
 use lib.Seq.{sets}
 use borrow.Author.Tests.{le-leb, lt-leb}
-use Rattle.math.specs.Lists.{choose}
+use Rattle.lists.specs.Lists.{choose}
 use Rattle.cubic_spline.specs.declared.KernelAnswer.{KernelAnswer}
 use Rattle.cubic_spline.specs.declared.KernelAnswer.the-variants as kernel
 use Rattle.cubic_spline.specs.declared.KernelRefusal.{KernelRefusal}
-use Rattle.scene.specs.Walk.{numberOf, placeOf, checked}
-use Rattle.scene.specs.declared.Refusal.{Refusal}
-use Rattle.scene.specs.declared.Refusal.the-variants as refusal
-use Rattle.scene.specs.declared.Walk.{Walk}
-use Rattle.scene.specs.declared.Walk.the-variants as walk
+use Rattle.scene_format.specs.SceneOf.{sceneOf}
+use Rattle.scene_format.specs.Refusals.{numberOf, placeOf}
+use Rattle.scene_check.specs.Walk.{checked}
+use Rattle.scene_format.specs.declared.Refusal.{Refusal}
+use Rattle.scene_format.specs.declared.Refusal.the-variants as refusal
+use Rattle.scene_format.specs.declared.Walk.{Walk}
+use Rattle.scene_format.specs.declared.Walk.the-variants as walk
 use Rattle.iisph_rules.specs.Answer.{stepAnswer}
 use Rattle.iisph_rules.specs.declared.Report.{Report}
 use Rattle.iisph_rules.specs.declared.StepAnswer.{StepAnswer}
 use Rattle.iisph_rules.specs.declared.StepAnswer.the-variants.{Done, Refused}
-use Rattle.iisph_solver.specs.Needs.{lengthsOf, needsAfter, needsOf}
+use Rattle.scene_lengths.specs.Lengths.{lengthsNeeded, needsAfter, needsOf}
 use Rattle.iisph_solver.specs.Step.{Steps}
-use Rattle.iisph_solver.specs.declared.needed.Lengths.{Lengths}
-use Rattle.iisph_solver.specs.declared.needed.Needs.{Needs}
-use Rattle.iisph_solver.specs.declared.needed.Needs.the-variants as needs
+use Rattle.scene_lengths.specs.declared.Lengths.{Lengths}
+use Rattle.scene_lengths.specs.declared.Needs.{Needs}
+use Rattle.scene_lengths.specs.declared.Needs.the-variants as needs
 use Rattle.iisph_c.specs.Kernel.{refusalCode, kernelCode, valueAfter, Gives}
 use Rattle.iisph_c.specs.Needs.{needsCode, lengthsAfter, NeedsTo}
 use Rattle.iisph_c.specs.Step.{endingCode, reportNumbers, stepCode, numbersAfter, countsAfter, hasRoom, StepsTo}
 
 -- a refusal's number is small
 pub number-few : (r : Refusal) → numberOf r ≤ 10
-number-few (refusal.Missing at) = omega arith
-number-few (refusal.Form at) = omega arith
-number-few (refusal.Models at) = omega arith
-number-few (refusal.Count at) = omega arith
-number-few (refusal.Trailing at) = omega arith
+number-few (refusal.MissingField at) = omega arith
+number-few (refusal.UnknownForm at) = omega arith
+number-few (refusal.TooManyModels at) = omega arith
+number-few (refusal.TooManyParticles at) = omega arith
+number-few (refusal.TrailingBytes at) = omega arith
 number-few (refusal.NotFinite at) = omega arith
-number-few (refusal.NotThere at) = omega arith
+number-few (refusal.DanglingContact at) = omega arith
 number-few refusal.ShortList = omega arith
 number-few (refusal.ZeroDensity at) = omega arith
 number-few (refusal.ZeroPredictedDensity at) = omega arith
@@ -55,7 +58,8 @@ module _ (b : List ℕ) (answers work numbers : List Float) (counts : List ℕ) 
   unfolding hasRoom
   numbers-short h = unchanged (rw (lt-leb 4 (length numbers) h))
 
-  pub counts-short : 4 ≤ length numbers → length counts < 2 → StepsTo b answers work numbers counts 99 answers work numbers counts
+  pub counts-short : 4 ≤ length numbers → length counts < 2
+      → StepsTo b answers work numbers counts 99 answers work numbers counts
   unfolding hasRoom
   counts-short l h = unchanged (rw (le-leb 4 (length numbers) l, lt-leb 2 (length counts) h))
 
@@ -64,21 +68,38 @@ module _ (b : List ℕ) (answers work numbers : List Float) (counts : List ℕ) 
     unfolding hasRoom
     room = rw (le-leb 4 (length numbers) l, le-leb 2 (length counts) m)
 
-    module _ {a : StepAnswer} {answers′ work′ : List Float} (s : Steps b answers work a answers′ work′) {n : ℕ} {counts′ : List ℕ} where
+    module _ {a : StepAnswer} {answers′ work′ : List Float} (s : Steps b answers work a answers′ work′) {n : ℕ}
+        {counts′ : List ℕ} where
       -- 0, 1, 2
-      pub done-to : {r : Report} {numbers′ : List Float} → a ≡ Done r → n ≡ endingCode (r .ending) → numbers′ ≡ sets numbers 0 (reportNumbers r) → counts′ ≡ set counts 0 (r .iterations)
+      pub done-to : {r : Report} {numbers′ : List Float} → a ≡ Done r → n ≡ endingCode (r .ending)
+          → numbers′ ≡ sets numbers 0 (reportNumbers r) → counts′ ≡ set counts 0 (r .iterations)
           → StepsTo b answers work numbers counts n answers′ work′ numbers′ counts′
       unfolding choose stepCode numbersAfter countsAfter
       done-to {r} q e f g =
           let t : stepAnswer b (length answers) (length work) ≡ Done r = sym (s .answer) ∙ q in
-          record { result = rw (room, t) e; answersThen = rw room (s .answersThen); workThen = rw room (s .workThen); numbersThen = rw (room, t) f; countsThen = rw (room, t) g }
+          record {
+            result = rw (room, t) e;
+            answersThen = rw room (s .answersThen);
+            workThen = rw room
+                (s .workThen);
+            numbersThen = rw (room, t) f;
+            countsThen = rw (room, t) g;
+          }
 
       -- 100 + n
-      pub refused-to : {r : Refusal} → a ≡ Refused r → n ≡ 100 + numberOf r → counts′ ≡ set counts 1 (placeOf r) → StepsTo b answers work numbers counts n answers′ work′ numbers counts′
+      pub refused-to : {r : Refusal} → a ≡ Refused r → n ≡ 100 + numberOf r → counts′ ≡ set counts 1 (placeOf r)
+          → StepsTo b answers work numbers counts n answers′ work′ numbers counts′
       unfolding choose stepCode numbersAfter countsAfter
       refused-to {r} q e g =
           let t : stepAnswer b (length answers) (length work) ≡ Refused r = sym (s .answer) ∙ q in
-          record { result = rw (room, t) e; answersThen = rw room (s .answersThen); workThen = rw room (s .workThen); numbersThen = rw (room, t); countsThen = rw (room, t) g }
+          record {
+            result = rw (room, t) e;
+            answersThen = rw room (s .answersThen);
+            workThen = rw room
+                (s .workThen);
+            numbersThen = rw (room, t);
+            countsThen = rw (room, t) g;
+          }
 
 -- ---- what a step needs
 
@@ -96,7 +117,7 @@ module _ (b : List ℕ) where
   record Told (l : Lengths) : Type 0 where
     pub end : ℕ
     pub ended : checked b ≡ walk.At end
-    pub lengths : l ≡ lengthsOf b
+    pub lengths : l ≡ lengthsNeeded (sceneOf b)
 
   lists-check : {l : Lengths} → needs.Lists l ≡ needsOf b → Told l
   unfolding needsOf needsAfter
@@ -112,19 +133,25 @@ module _ (b : List ℕ) where
     needs-short h = let f = lt-leb 2 (length counts) h in record { result = rw f; countsThen = rw f }
 
     module _ (m : 2 ≤ length counts) {s : Needs} (is : s ≡ needsOf b) {n : ℕ} {counts′ : List ℕ} where
-      pub needs-refused : {r : Refusal} → s ≡ needs.Refused r → n ≡ 100 + numberOf r → counts′ ≡ set counts 1 (placeOf r) → NeedsTo b counts n counts′
+      pub needs-refused : {r : Refusal} → s ≡ needs.Refused r → n ≡ 100 + numberOf r
+          → counts′ ≡ set counts 1 (placeOf r) → NeedsTo b counts n counts′
       unfolding choose needsCode lengthsAfter
       needs-refused q e g =
           let t = le-leb 2 (length counts) m in
           let w = refused-check (sym q ∙ is) in
           record { result = rw (t, w) e; countsThen = rw (t, w) g }
 
-      pub needs-lists : {l : Lengths} → s ≡ needs.Lists l → n ≡ 0 → counts′ ≡ sets counts 0 (l .answers ∷ l .work ∷ []) → NeedsTo b counts n counts′
-      unfolding choose needsCode lengthsAfter lengthsOf
+      pub needs-lists : {l : Lengths} → s ≡ needs.Lists l → n ≡ 0 → counts′ ≡ sets counts 0 (l .answers ∷ l .work ∷ [])
+          → NeedsTo b counts n counts′
+      unfolding choose needsCode lengthsAfter
       needs-lists q e g =
           let t = le-leb 2 (length counts) m in
           let w = lists-check (sym q ∙ is) in
-          record { result = rw (t, w .ended) e; countsThen = rw (t, w .ended) (g ∙ ap (λ (l : Lengths). sets counts 0 (l .answers ∷ l .work ∷ [])) (w .lengths)) }
+          record {
+            result = rw (t, w .ended) e;
+            countsThen = rw (t, w .ended)
+                (g ∙ ap (λ (l : Lengths). sets counts 0 (l .answers ∷ l .work ∷ [])) (w .lengths));
+          }
 
 -- ---- the kernel
 

@@ -2,12 +2,12 @@
 use Prim.Native.Nat.{ℕ}
 use mathlib.Core.Path.{_≡_, refl, ap}
 use native.Mathlib.Omega.{arith}
-use Rattle.scene.specs.Walk.{numberOf}
-use Rattle.scene.specs.declared.Refusal.{Refusal}
+use Rattle.scene_format.specs.Refusals.{numberOf}
+use Rattle.scene_format.specs.declared.Refusal.{Refusal}
 use Rattle.iisph_rules.specs.declared.StepAnswer.{StepAnswer}
 use Rattle.iisph_rules.specs.declared.StepAnswer.the-variants as answer
-use Rattle.iisph_solver.specs.Prepare.{readiness}
-use Rattle.iisph_solver.specs.declared.prepare.Readiness.the-variants as verdict
+use Rattle.iisph_passes.specs.Prepare.{readiness}
+use Rattle.iisph_passes.specs.declared.prepare.Readiness.the-variants as verdict
 use Rattle.iisph_c.specs.Numbers.{refusalNumber}
 
 pub ready-number : (a : StepAnswer) → verdict.Ready ≡ readiness a → 0 ≡ refusalNumber a

@@ -5,7 +5,7 @@ use mathlib.Core.List.{List}
 use lib.Dec.{leb}
 use lib.Ieee.{Float}
 use lib.ListN.{length, set}
-use Rattle.math.specs.Lists.{choose}
+use Rattle.lists.specs.Lists.{choose}
 use Rattle.cubic_spline.specs.Answer.{number, kernelAnswer}
 use Rattle.cubic_spline.specs.declared.KernelAnswer.{KernelAnswer}
 use Rattle.cubic_spline.specs.declared.KernelRefusal.{KernelRefusal}

@@ -7,9 +7,9 @@ use lib.Dec.{leb}
 use lib.Ieee.{Float}
 use lib.ListN.{length, set}
 use lib.Seq.{sets}
-use Rattle.math.specs.Lists.{choose}
+use Rattle.lists.specs.Lists.{choose}
 use Rattle.math.specs.Real.{+0}
-use Rattle.scene.specs.Walk.{numberOf, placeOf}
+use Rattle.scene_format.specs.Refusals.{numberOf, placeOf}
 use Rattle.iisph_rules.specs.Answer.{stepAnswer, answersAfter, workAfter}
 use Rattle.iisph_rules.specs.declared.Ending.{Ending}
 use Rattle.iisph_rules.specs.declared.Ending.the-variants.{Unswept, Settled, RanOut}
@@ -31,7 +31,8 @@ errorOf (RanOut error) = error
 
 -- the first four of `numbers`: the error, then the clock's dt, inv_dt and remaining time
 unfoldable pub reportNumbers : Report → List Float
-reportNumbers r = let clock = r .clock in errorOf (r .ending) ∷ clock .dt ∷ clock .«inv_dt» ∷ clock .«remaining_time» ∷ []
+reportNumbers r = let clock = r .clock in errorOf (r .ending) ∷ clock .dt ∷ clock .«inv_dt» ∷ clock .«remaining_time» ∷
+    []
 
 -- ---- by the step's answer
 
@@ -55,9 +56,13 @@ unfoldable pub hasRoom : List Float → List ℕ → Bool
 hasRoom numbers counts = leb 4 (length numbers) && leb 2 (length counts)
 
 -- of the bytes b and the four lists: the result r, and the lists afterwards
-pub record StepsTo (b : List ℕ) (answers work numbers : List Float) (counts : List ℕ) (r : ℕ) (answers′ work′ numbers′ : List Float) (counts′ : List ℕ) : Type 0 where
+pub record StepsTo (b : List ℕ) (answers work numbers : List Float) (counts : List ℕ) (r : ℕ)
+    (answers′ work′ numbers′ : List Float) (counts′ : List ℕ) : Type 0 where
   pub result : r ≡ choose (hasRoom numbers counts) (stepCode (stepAnswer b (length answers) (length work))) 99
-  pub answersThen : answers′ ≡ choose (hasRoom numbers counts) (answersAfter b (length answers) (length work) answers) answers
+  pub answersThen : answers′
+      ≡ choose (hasRoom numbers counts) (answersAfter b (length answers) (length work) answers) answers
   pub workThen : work′ ≡ choose (hasRoom numbers counts) (workAfter b (length answers) (length work) work) work
-  pub numbersThen : numbers′ ≡ choose (hasRoom numbers counts) (numbersAfter (stepAnswer b (length answers) (length work)) numbers) numbers
-  pub countsThen : counts′ ≡ choose (hasRoom numbers counts) (countsAfter (stepAnswer b (length answers) (length work)) counts) counts
+  pub numbersThen : numbers′
+      ≡ choose (hasRoom numbers counts) (numbersAfter (stepAnswer b (length answers) (length work)) numbers) numbers
+  pub countsThen : counts′
+      ≡ choose (hasRoom numbers counts) (countsAfter (stepAnswer b (length answers) (length work)) counts) counts

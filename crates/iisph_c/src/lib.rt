@@ -5,16 +5,18 @@ use crate::write::write_kernel;
 use crate::write::write_lengths;
 use crate::write::write_refusal;
 use crate::write::write_report;
+use iisph_passes::prepare::Readiness;
 use iisph_rules::StepAnswer;
-use iisph_solver::Needs;
-use iisph_solver::Readiness;
+use scene_lengths::Needs;
+use scene_lengths::lengths_needed;
 ghost use Rattle.cubic_spline.specs.Shape.{weight, slope};
 ghost use Rattle.iisph_c.specs.Numbers.{ValidatesTo};
 ghost use Rattle.iisph_c.specs.Step.{StepsTo};
 ghost use Rattle.iisph_c.specs.Needs.{NeedsTo};
 ghost use Rattle.iisph_c.specs.Kernel.{KernelTo};
 
-// One step: 0 unswept, 1 settled, 2 ran out, 100 + n for refusal n, 99 where `numbers` or `counts` is too short. Takes up to 1 MiB of stack.
+// One step: 0 unswept, 1 settled, 2 ran out, 100 + n for refusal n, 99 where `numbers` or `counts` is too short. Takes
+// up to 1 MiB of stack.
 #[no_mangle]
 pub extern "C" fn iisph_step(
     scene: &[u8],
@@ -23,7 +25,10 @@ pub extern "C" fn iisph_step(
     numbers: &mut [f64],
     counts: &mut [u64],
 ) -> u64
-    ensures { λ r. ⌜ StepsTo (now (scene .entry)) (now (answers .entry)) (now (work .entry)) (now (numbers .entry)) (now (counts .entry)) r (now (answers .exit)) (now (work .exit)) (now (numbers .exit)) (now (counts .exit)) ⌝ }
+    ensures { λ r. ⌜
+        StepsTo (now (scene .entry)) (now (answers .entry)) (now (work .entry)) (now (numbers .entry))
+        (now (counts .entry)) r (now (answers .exit)) (now (work .exit)) (now (numbers .exit)) (now (counts .exit))
+        ⌝ }
 {
     if numbers.len() < 4 {
         return 99;
@@ -31,7 +36,7 @@ pub extern "C" fn iisph_step(
     if counts.len() < 2 {
         return 99;
     }
-    match iisph_solver::step(scene, answers, work) {
+    match iisph_solver::step::step(scene, answers, work) {
         StepAnswer::Done(report) => write_report(report, numbers, counts),
         StepAnswer::Refused(refusal) => write_refusal(refusal, counts),
     }
@@ -45,20 +50,21 @@ pub extern "C" fn iisph_needed(scene: &[u8], counts: &mut [u64]) -> u64
     if counts.len() < 2 {
         return 99;
     }
-    match iisph_solver::lengths_needed(scene) {
+    match lengths_needed(scene) {
         Needs::Lists(lengths) => write_lengths(lengths, counts),
         Needs::Refused(refusal) => write_refusal(refusal, counts),
     }
 }
 
-// The number of the refusal that a step with a long enough answer list would give, 0 if none. Takes up to 1 MiB of stack.
+// The number of the refusal that a step with a long enough answer list would give, 0 if none. Takes up to 1 MiB of
+// stack.
 #[no_mangle]
 pub extern "C" fn iisph_validate(scene: &[u8], work: &mut [f64]) -> usize
     ensures { λ n. ⌜ ValidatesTo (now (scene .entry)) (now (work .entry)) n (now (work .exit)) ⌝ }
 {
-    match iisph_solver::validate(scene, work) {
+    match iisph_solver::validation::validate(scene, work) {
         Readiness::Ready => 0,
-        Readiness::Refused(refusal) => scene::number(refusal),
+        Readiness::Refused(refusal) => scene_format::number(refusal),
     }
 }
 

@@ -3,30 +3,34 @@ use cubic_spline::KernelAnswer;
 use cubic_spline::KernelRefusal;
 use iisph_rules::Ending;
 use iisph_rules::Report;
-use iisph_solver::Lengths;
-use scene::Refusal;
+use scene_format::Refusal;
+use scene_lengths::Lengths;
 ghost use mathlib.Core.Path.{_≡_};
 ghost use mathlib.Core.List.{[], _∷_};
 ghost use Prim.Native.Nat.{_+_, _≤_};
 ghost use lib.ListN.{length, set};
 ghost use lib.Seq.{sets};
-ghost use Rattle.scene.specs.Walk.{numberOf, placeOf};
+ghost use Rattle.scene_format.specs.Refusals.{numberOf, placeOf};
 ghost use Rattle.iisph_c.specs.Step.{endingCode, errorOf, reportNumbers};
 ghost use Rattle.iisph_c.specs.Kernel.{refusalCode, Gives};
 
 // A refusal's offset.
 pub fn write_refusal(refusal: Refusal, counts: &mut [u64]) -> u64
     requires { ⌜ 2 ≤ length (now counts) ⌝ }
-    ensures { λ n. ⌜ (n ≡ 100 + numberOf refusal) × (now (counts .exit) ≡ set (now (counts .entry)) 1 (placeOf refusal)) ⌝ }
+    ensures { λ n. ⌜
+        (n ≡ 100 + numberOf refusal) × (now (counts .exit) ≡ set (now (counts .entry)) 1 (placeOf refusal))
+        ⌝ }
 {
-    counts[1] = scene::place(refusal) as u64;
-    100 + scene::number(refusal) as u64
+    counts[1] = scene_format::place(refusal) as u64;
+    100 + scene_format::number(refusal) as u64
 }
 
 // How long the lists must be.
 pub fn write_lengths(lengths: Lengths, counts: &mut [u64]) -> u64
     requires { ⌜ 2 ≤ length (now counts) ⌝ }
-    ensures { λ n. ⌜ (n ≡ 0) × (now (counts .exit) ≡ sets (now (counts .entry)) 0 (lengths .answers ∷ lengths .work ∷ [])) ⌝ }
+    ensures { λ n. ⌜
+        (n ≡ 0) × (now (counts .exit) ≡ sets (now (counts .entry)) 0 (lengths .answers ∷ lengths .work ∷ []))
+        ⌝ }
 {
     counts[0] = lengths.answers as u64;
     counts[1] = lengths.work as u64;
@@ -56,7 +60,10 @@ fn ending_code(ending: Ending) -> u64
 // A report: its error and clock, and its iterations.
 pub fn write_report(report: Report, numbers: &mut [f64], counts: &mut [u64]) -> u64
     requires { ⌜ (4 ≤ length (now numbers)) × (2 ≤ length (now counts)) ⌝ }
-    ensures { λ n. ⌜ (n ≡ endingCode (report .ending)) × (now (numbers .exit) ≡ sets (now (numbers .entry)) 0 (reportNumbers report)) × (now (counts .exit) ≡ set (now (counts .entry)) 0 (report .iterations)) ⌝ }
+    ensures { λ n. ⌜
+        (n ≡ endingCode (report .ending)) × (now (numbers .exit) ≡ sets (now (numbers .entry)) 0 (reportNumbers report))
+        × (now (counts .exit) ≡ set (now (counts .entry)) 0 (report .iterations))
+        ⌝ }
 {
     let ending = report.ending;
     let clock = report.clock;

@@ -1,5 +1,6 @@
--- The loop of iterations: it ends with the pressures after as many iterations as it says, and where the least number plus one is at least the most, it carries out
--- the most; an iteration's error is a number. By induction on the iterations left, for both answers of the stopping test. Assumes nothing.
+-- The loop of iterations: it ends with the pressures after as many iterations as it says, and where the least number
+-- plus one is at least the most, it carries out the most; an iteration's error is a number. By induction on the
+-- iterations left, for both answers of the stopping test. Assumes nothing.
 use Prim.Native.Nat.{ℕ, zero, suc, _+_, _≤_}
 use mathlib.Core.Path.{_≡_, refl, sym, ap, subst, _∙_}
 use mathlib.Core.Bool.{Bool, true, false, cond, _&&_}
@@ -9,15 +10,16 @@ use lib.Dec.{T, leb, leb→le}
 use lib.Ieee
 use lib.Ieee.{Float, nan, inf, fin}
 use Rattle.math.specs.Real.{larger}
-use Rattle.math.specs.Lists.{fold, choose}
-use Rattle.scene.specs.Scene.{Scene, Header}
+use Rattle.lists.specs.Lists.{fold, choose}
+use Rattle.scene_format.specs.Scene.{Scene, Header}
 use Rattle.iisph_rules.specs.Coefficients.{coefficients}
 use Rattle.iisph_rules.specs.Iteration.{errorOf, iteration}
 use Rattle.iisph_rules.specs.Step.{firstPressures, isLast, Solution, iterateFrom, solution}
 use Rattle.iisph_rules.specs.declared.Ending.{Ending}
 
 -- what holds of both sides, each where the test picks it, holds of the side picked
-pub chosen : {A : Type 0} (P : A → Type 0) (t : Bool) (x y : A) → (t ≡ true → P x) → (t ≡ false → P y) → P (choose t x y)
+pub chosen : {A : Type 0} (P : A → Type 0) (t : Bool) (x y : A) → (t ≡ true → P x) → (t ≡ false → P y)
+    → P (choose t x y)
 unfolding choose
 chosen P true x y hx hy = hx refl
 chosen P false x y hx hy = hy refl
@@ -35,7 +37,8 @@ iterateFrom-pressures : (s : Scene) (n i : ℕ) (ending : Ending)
 unfolding iterateFrom
 iterateFrom-pressures s zero i ending = refl
 iterateFrom-pressures s (suc n) i ending =
-    chosen (λ (w : Solution). w .pressures ≡ pressuresAfter s (w .iterations)) _ _ _ (λ _. refl) (λ _. iterateFrom-pressures s n (suc i) _)
+    chosen (λ (w : Solution). w .pressures ≡ pressuresAfter s (w .iterations)) _ _ _ (λ _. refl)
+    (λ _. iterateFrom-pressures s n (suc i) _)
 
 pub solution-pressures : (s : Scene) {k : ℕ} → solution s .iterations ≡ k → solution s .pressures ≡ pressuresAfter s k
 unfolding solution
@@ -50,7 +53,8 @@ and-right false false q = subst T (sym q) tt
 
 -- iteration number i is the last only where i is at least the least
 last-least : (h : Header) (i : ℕ) (error : Float) → isLast h i error ≡ true → h .minPressureIter ≤ i
-last-least h i error q = leb→le (h .minPressureIter) i (and-right (Ieee.le error (h .maxDensityError)) (leb (h .minPressureIter) i) q)
+last-least h i error q =
+    leb→le (h .minPressureIter) i (and-right (Ieee.le error (h .maxDensityError)) (leb (h .minPressureIter) i) q)
 
 iterateFrom-max : (s : Scene) (n i : ℕ) (ps : List Float) (ending : Ending)
     → s .header .maxPressureIter ≡ i + n
@@ -63,7 +67,8 @@ iterateFrom-max s (suc n) i ps ending q h =
     (λ t. omega (arith, last-least (s .header) i _ t))
     (λ _. iterateFrom-max s n (suc i) _ _ (omega arith) h)
 
-pub solution-max : (s : Scene) → s .header .maxPressureIter ≤ s .header .minPressureIter + 1 → solution s .iterations ≡ s .header .maxPressureIter
+pub solution-max : (s : Scene) → s .header .maxPressureIter ≤ s .header .minPressureIter + 1
+    → solution s .iterations ≡ s .header .maxPressureIter
 unfolding solution
 solution-max s h = iterateFrom-max s (s .header .maxPressureIter) 0 _ _ (omega arith) h
 

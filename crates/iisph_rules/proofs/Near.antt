@@ -1,16 +1,22 @@
--- How far the numbers of fluid particle i look: its coefficients one link, and a next pressure two links further than the old ones. Every sum goes over the contacts
--- of i, so it is the same where they are and where what they name is; the rest is congruence. Assumes nothing.
+-- How far the numbers of fluid particle i look: its coefficients one link, and a next pressure two links further than
+-- the old ones. Every sum goes over the contacts of i, so it is the same where they are and where what they name is;
+-- the rest is congruence. Assumes nothing.
 use Prim.Native.Nat.{ℕ, suc}
 use mathlib.Core.Path.{_≡_, refl, sym, ap, _∙_}
 use mathlib.Core.List.{List, [], List·Memᴰ}
 use lib.ListN.{getD, List·getD-map}
 use lib.Ieee.{Float}
 use Rattle.math.specs.Vector.{Vector}
-use Rattle.math.specs.Lists.{fold, table}
-use Rattle.math.proofs.Lists.{table-same-at, fold-same}
-use Rattle.scene.specs.Scene.{Scene, FluidParticle, Contact, fluidSize, particle, boundary}
-use Rattle.iisph_rules.specs.Coefficients.{overContacts, particleMass, fluidMass, boundaryMass, velocityChange, advectedVelocity, Named, fluidNamed, boundaryNamed, overNamed, density, delta, predictedDensity, diiFactor, dii, djiFactor, aii, coefficientsOf, coefficients, coefficient, noCoefficients}
-use Rattle.iisph_rules.specs.Iteration.{pressure, dijSum, dijPjl, dijPjls, dij, pressureSum, noPressure, nextPressure, nextPressures, iteration}
+use Rattle.lists.specs.Lists.{fold, table}
+use Rattle.lists.proofs.Lists.{table-same-at, fold-same}
+use Rattle.scene_format.specs.Scene.{Scene, FluidParticle, Contact, fluidSize, particle, boundary}
+use Rattle.iisph_rules.specs.Coefficients.{overContacts, particleMass, fluidMass, boundaryMass, velocityChange}
+use Rattle.iisph_rules.specs.Coefficients.{advectedVelocity, Neighbour, fluidNeighbour, boundaryNeighbour}
+use Rattle.iisph_rules.specs.Coefficients.{overNeighbours, density, delta, predictedDensity, diiFactor, dii}
+use Rattle.iisph_rules.specs.Coefficients.{djiFactor, aii, coefficientsOf, coefficients, coefficient}
+use Rattle.iisph_rules.specs.Coefficients.{noCoefficients}
+use Rattle.iisph_rules.specs.Iteration.{pressure, dijSum, dijPjl, dijPjls, dij, pressureSum, noPressure}
+use Rattle.iisph_rules.specs.Iteration.{nextPressure, nextPressures, iteration}
 use Rattle.iisph_rules.specs.Locality.{SceneWithin, SceneSameAt}
 use Rattle.iisph_rules.specs.Locality.SceneWithin.{itself, onward}
 
@@ -40,7 +46,8 @@ module _ (s s′ : Scene) (headers : s .header ≡ s′ .header) (sizes : fluidS
   own n i h = h i itself .own
 
   -- entry i of two tables over all fluid particles
-  pub entry : {A : Type 0} (f g : ℕ → A) (i : ℕ) (d : A) → f i ≡ g i → getD (table (fluidSize s) f) i d ≡ getD (table (fluidSize s′) g) i d
+  pub entry : {A : Type 0} (f g : ℕ → A) (i : ℕ) (d : A) → f i ≡ g i
+      → getD (table (fluidSize s) f) i d ≡ getD (table (fluidSize s′) g) i d
   entry f g i d q = table-same-at f g (fluidSize s) i d q ∙ ap (λ n. getD (table n g) i d) sizes
 
   -- ---- sums over the contacts of i
@@ -52,7 +59,8 @@ module _ (s s′ : Scene) (headers : s .header ≡ s′ .header) (sizes : fluidS
       → a ≡ a′
       → overContacts f g a (particle s i) ≡ overContacts f′ g′ a′ (particle s′ i)
   around n i h hf hg q =
-      overContacts-same (own (suc n) i h) (λ c m. hf c (λ j w. h j (onward m w))) (λ c m. hg c (h i itself .named c m)) q
+      overContacts-same (own (suc n) i h) (λ c m. hf c (λ j w. h j (onward m w))) (λ c m. hg c (h i itself .named c m))
+      q
 
   around-fluid : {A : Type 0} {f f′ : A → Contact → A} {a a′ : A} (n i : ℕ)
       → Near s s′ (suc n) i
@@ -82,22 +90,22 @@ module _ (s s′ : Scene) (headers : s .header ≡ s′ .header) (sizes : fluidS
   unfolding advectedVelocity
   advectedVelocity-same q = cc (velocityChange-same q)
 
-  fluidNamed-same : (c : Contact) → Near s s′ 0 (c .target) → fluidNamed s c ≡ fluidNamed s′ c
-  unfolding fluidNamed
+  fluidNamed-same : (c : Contact) → Near s s′ 0 (c .target) → fluidNeighbour s c ≡ fluidNeighbour s′ c
+  unfolding fluidNeighbour
   fluidNamed-same c h = cc (fluidMass-same 0 c h, advectedVelocity-same (own 0 (c .target) h))
 
   boundaryNamed-same : {r r′ : Float} (c : Contact) → r ≡ r′ → boundary s (c .target) ≡ boundary s′ (c .target)
-      → boundaryNamed s r c ≡ boundaryNamed s′ r′ c
-  unfolding boundaryNamed
+      → boundaryNeighbour s r c ≡ boundaryNeighbour s′ r′ c
+  unfolding boundaryNeighbour
   boundaryNamed-same c q w = cc (boundaryMass-same c q w)
 
   -- a sum over what the contacts name, by steps that are the same
-  named-around : {A : Type 0} {f f′ : Named → A → Contact → A} {a a′ : A} (i : ℕ)
+  named-around : {A : Type 0} {f f′ : Neighbour → A → Contact → A} {a a′ : A} (i : ℕ)
       → Near s s′ 1 i
-      → ((j : Named) (x : A) (c : Contact) → f j x c ≡ f′ j x c)
+      → ((j : Neighbour) (x : A) (c : Contact) → f j x c ≡ f′ j x c)
       → a ≡ a′
-      → overNamed s (particle s i) f a ≡ overNamed s′ (particle s′ i) f′ a′
-  unfolding overNamed
+      → overNeighbours s (particle s i) f a ≡ overNeighbours s′ (particle s′ i) f′ a′
+  unfolding overNeighbours
   named-around {f = f} i h same q =
       around 0 i h
       (λ c k x. ap (λ j. f j x c) (fluidNamed-same c k) ∙ same _ x c)
@@ -124,7 +132,8 @@ module _ (s s′ : Scene) (headers : s .header ≡ s′ .header) (sizes : fluidS
   unfolding djiFactor
   djiFactor-same q q′ = cc
 
-  aii-same : (i : ℕ) {r r′ : Float} {d d′ : Vector} → r ≡ r′ → d ≡ d′ → Near s s′ 1 i → aii s (particle s i) r d ≡ aii s′ (particle s′ i) r′ d′
+  aii-same : (i : ℕ) {r r′ : Float} {d d′ : Vector} → r ≡ r′ → d ≡ d′ → Near s s′ 1 i
+      → aii s (particle s i) r d ≡ aii s′ (particle s′ i) r′ d′
   unfolding aii
   aii-same i q q′ h = named-around i h (λ j x c. cc (djiFactor-same (own 1 i h) q)) refl
 
@@ -151,12 +160,14 @@ module _ (s s′ : Scene) (headers : s .header ≡ s′ .header) (sizes : fluidS
         (λ c k x. cc (fluidMass-same n c k, known (c .target) k, coefficient-same (c .target) (one _ k)))
         (cc)
 
-    dij-same : (i : ℕ) → Near s s′ (suc n) i → dij (dijPjls s (coefficients s) ps) i ≡ dij (dijPjls s′ (coefficients s′) ps′) i
+    dij-same : (i : ℕ) → Near s s′ (suc n) i
+        → dij (dijPjls s (coefficients s) ps) i ≡ dij (dijPjls s′ (coefficients s′) ps′) i
     unfolding dijPjls dijPjl
     dij-same i h = entry _ _ i [] (cc (dijSum-same i h))
 
     pressureSum-same : (i : ℕ) → Near s s′ (suc (suc n)) i
-        → pressureSum s (coefficients s) ps (dijPjls s (coefficients s) ps) i ≡ pressureSum s′ (coefficients s′) ps′ (dijPjls s′ (coefficients s′) ps′) i
+        → pressureSum s (coefficients s) ps (dijPjls s (coefficients s) ps) i
+        ≡ pressureSum s′ (coefficients s′) ps′ (dijPjls s′ (coefficients s′) ps′) i
     unfolding pressureSum
     pressureSum-same i h =
         let o = own _ i h in
@@ -167,19 +178,27 @@ module _ (s s′ : Scene) (headers : s .header ≡ s′ .header) (sizes : fluidS
         around (suc n) i h
         (λ c k x.
         let close = closer n (c .target) k in
-        cc (fluidMass-same _ c k, known (c .target) close, coefficient-same (c .target) (one _ close), dij-same (c .target) k))
+        cc (
+          fluidMass-same _ c k,
+          known (c .target) close,
+          coefficient-same (c .target) (one _ close),
+          dij-same
+              (c .target) k,
+        ))
         (λ c w x. cc (boundaryMass-same c (ap (λ p. p .density0) o) w))
         refl
 
     nextPressure-same : (i : ℕ) → Near s s′ (suc (suc n)) i
-        → nextPressure s (coefficients s) ps (dijPjls s (coefficients s) ps) i ≡ nextPressure s′ (coefficients s′) ps′ (dijPjls s′ (coefficients s′) ps′) i
+        → nextPressure s (coefficients s) ps (dijPjls s (coefficients s) ps) i
+        ≡ nextPressure s′ (coefficients s′) ps′ (dijPjls s′ (coefficients s′) ps′) i
     unfolding nextPressure
     nextPressure-same i h =
         let near = closer n i (closer _ i h) in
         cc (own _ i h, coefficient-same i (one i near), known i near, pressureSum-same i h)
 
     pub iteration-same : (i : ℕ) → Near s s′ (suc (suc n)) i
-        → pressure (iteration s (coefficients s) ps .pressures) i ≡ pressure (iteration s′ (coefficients s′) ps′ .pressures) i
+        → pressure (iteration s (coefficients s) ps .pressures) i
+        ≡ pressure (iteration s′ (coefficients s′) ps′ .pressures) i
     unfolding iteration nextPressures
     iteration-same i h =
         List·getD-map (λ x. x .pressure) (nextPressures s (coefficients s) ps) i noPressure

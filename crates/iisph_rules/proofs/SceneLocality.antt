@@ -1,14 +1,17 @@
--- Locality on scenes: after k iterations a fluid particle's pressure looks 2 k + 1 links far, and its position and velocity 2 k + 2. By induction on k from one
--- iteration's two links; then the last part of the step looks one link further. Assumes nothing.
+-- Locality on scenes: after k iterations a fluid particle's pressure looks 2 k + 1 links far, and its position and
+-- velocity 2 k + 2. By induction on k from one iteration's two links; then the last part of the step looks one link
+-- further. Assumes nothing.
 use Prim.Native.Nat.{ℕ, zero, suc, _+_, _*_}
 use mathlib.Core.Path.{_≡_, sym, ap, subst, _∙_}
 use native.Mathlib.Omega.{arith}
-use Rattle.scene.specs.Scene.{Scene, fluidSize}
+use Rattle.scene_format.specs.Scene.{Scene, fluidSize}
 use Rattle.iisph_rules.specs.Coefficients.{coefficients}
 use Rattle.iisph_rules.specs.Iteration.{pressure}
-use Rattle.iisph_rules.specs.Step.{firstPressures, solution, pressureShare, boundaryAcceleration, finalVelocityChange, newVelocity, newPosition, fluidAnswer}
+use Rattle.iisph_rules.specs.Step.{firstPressures, solution, pressureShare, boundaryAcceleration}
+use Rattle.iisph_rules.specs.Step.{finalVelocityChange, newVelocity, newPosition, fluidAnswer}
 use Rattle.iisph_rules.specs.Locality.{SceneWithin, SceneSameAt}
-use Rattle.iisph_rules.proofs.Near.{Near, closer, own, entry, around, fluidMass-same, boundaryMass-same, velocityChange-same, coefficient-same, iteration-same}
+use Rattle.iisph_rules.proofs.Near.{Near, closer, own, entry, around, fluidMass-same, boundaryMass-same}
+use Rattle.iisph_rules.proofs.Near.{velocityChange-same, coefficient-same, iteration-same}
 use Rattle.iisph_rules.proofs.Iterations.{pressuresAfter, solution-pressures}
 
 -- how far the pressures after k iterations look: 2 k + 1 links
@@ -29,7 +32,8 @@ module _ (s s′ : Scene) (headers : s .header ≡ s′ .header) (sizes : fluidS
   unfolding firstPressures
   pressure-same zero i h = entry s s′ headers sizes _ _ i _ (cc (own s s′ headers sizes _ i h))
   pressure-same (suc k) i h =
-      iteration-same s s′ headers sizes (reach k) (one k) (pressuresAfter s k) (pressuresAfter s′ k) (pressure-same k) i h
+      iteration-same s s′ headers sizes (reach k) (one k) (pressuresAfter s k) (pressuresAfter s′ k)
+      (pressure-same k) i h
 
   share-same : (k i : ℕ) → Near s s′ (reach k) i
       → pressureShare (coefficients s) (pressuresAfter s k) i ≡ pressureShare (coefficients s′) (pressuresAfter s′ k) i
@@ -37,7 +41,8 @@ module _ (s s′ : Scene) (headers : s .header ≡ s′ .header) (sizes : fluidS
   share-same k i h = cc (coefficient-same s s′ headers sizes i (one k i h), pressure-same k i h)
 
   finalVelocityChange-same : (k i : ℕ) → Near s s′ (suc (reach k)) i
-      → finalVelocityChange s (coefficients s) (pressuresAfter s k) i ≡ finalVelocityChange s′ (coefficients s′) (pressuresAfter s′ k) i
+      → finalVelocityChange s (coefficients s) (pressuresAfter s k) i
+      ≡ finalVelocityChange s′ (coefficients s′) (pressuresAfter s′ k) i
   unfolding finalVelocityChange boundaryAcceleration
   finalVelocityChange-same k i h =
       let o = own s s′ headers sizes _ i h in
@@ -53,10 +58,15 @@ module _ (s s′ : Scene) (headers : s .header ≡ s′ .header) (sizes : fluidS
       → fluidAnswer s (coefficients s) (pressuresAfter s k) i ≡ fluidAnswer s′ (coefficients s′) (pressuresAfter s′ k) i
   unfolding fluidAnswer newPosition newVelocity
   answer-same k i h =
-      cc (own s s′ headers sizes _ i h, finalVelocityChange-same k i h, pressure-same k i (closer s s′ headers sizes _ i h))
+      cc (
+        own s s′ headers sizes _ i h,
+        finalVelocityChange-same k i h,
+        pressure-same k i
+            (closer s s′ headers sizes _ i h),
+      )
 
--- Where both steps take k iterations, the answers for fluid particle i are the same if every fluid particle within 2 k + 2 links of it is, and every boundary
--- particle that these name.
+-- Where both steps take k iterations, the answers for fluid particle i are the same if every fluid particle within 2 k
+-- + 2 links of it is, and every boundary particle that these name.
 pub scene-locality : (k : ℕ) (s s′ : Scene)
     → s .header ≡ s′ .header
     → fluidSize s ≡ fluidSize s′
@@ -64,7 +74,8 @@ pub scene-locality : (k : ℕ) (s s′ : Scene)
     → solution s′ .iterations ≡ k
     → (i : ℕ)
     → ((j : ℕ) → SceneWithin s (2 * k + 2) i j → SceneSameAt s s′ j)
-    → fluidAnswer s (coefficients s) (solution s .pressures) i ≡ fluidAnswer s′ (coefficients s′) (solution s′ .pressures) i
+    → fluidAnswer s (coefficients s) (solution s .pressures) i
+    ≡ fluidAnswer s′ (coefficients s′) (solution s′ .pressures) i
 scene-locality k s s′ headers sizes q q′ i h =
     ap (λ ps. fluidAnswer s (coefficients s) ps i) (solution-pressures s q)
     ∙ answer-same s s′ headers sizes k i (λ j w. h j (subst (λ n. SceneWithin s n i j) (reach-links k) w))

@@ -1,9 +1,10 @@
--- How long the answers are: in a scene that bytes stand for every vector has a double for each axis, so a fluid particle has 7 answers, a boundary particle 1 or 4, and
--- all of them are as many as are needed, so that nothing beyond is touched. Every operation on vectors, and so every sum, keeps the length. Assumes nothing.
+-- How long the answers are: in a scene that bytes stand for every vector has a double for each axis, so a fluid
+-- particle has 7 answers, a boundary particle 1 or 4, and all of them are as many as are needed, so that nothing beyond
+-- is touched. Every operation on vectors, and so every sum, keeps the length. Assumes nothing.
 use Prim.Native.Nat.{ℕ, zero, suc, _+_, _*_, _<_}
 use mathlib.Core.Path.{_≡_, refl, sym, ap, subst, _∙_}
-use mathlib.Core.Bool.{Bool, true, false}
-use mathlib.Core.List.{List, [], _++_, map, List·Memᴰ}
+use mathlib.Core.Bool.{Bool, true, false, true≢false}
+use mathlib.Core.List.{List, [], _++_, map, List·Memᴰ, flatten}
 use native.Mathlib.Omega.{arith}
 use lib.Dec.{eqb}
 use lib.ListN.{length, drop, length-append, replicate, length-replicate}
@@ -11,22 +12,26 @@ use lib.Seq.{drop-at}
 use lib.Ieee.{Float}
 use Rattle.math.specs.Real.{+0}
 use Rattle.math.specs.Vector.{Vector}
-use Rattle.math.specs.Lists.{table, choose}
-use Rattle.math.proofs.Lists.{length-table, in-table, table-map, fold-keeps}
+use Rattle.lists.specs.Lists.{table, choose, sum}
+use Rattle.lists.proofs.Lists.{length-table, in-table, table-map, fold-keeps}
 use Rattle.math.proofs.Vectors.{Sized, sum-sized, difference-sized, scaled-sized}
-use Rattle.scene.specs.Bytes.{vectorAt}
-use Rattle.scene.specs.Format.{axes, keepsAt, joined, fluidPlaces, boundaryPlaces, noPlace, boundaryPlace}
-use Rattle.scene.specs.Scene.{Scene, FluidParticle, Contact, fluidSize, boundarySize, particle, boundary}
-use Rattle.scene.specs.SceneOf.{contactAt, contactList, fluidParticleAt, forceAt, boundaryParticleAt, headerOf, sceneOf, sizeSum, answersNeeded, workNeeded}
-use Rattle.scene.proofs.Places.{fluid-size, boundary-size, particle-at, boundary-at}
-use Rattle.scene.proofs.Records.{keeps-below}
-use Rattle.iisph_rules.specs.Coefficients.{overContacts, velocityChange, advectedVelocity, overNamed, dii, Coefficients}
+use Rattle.scene_format.specs.Bytes.{vectorAt}
+use Rattle.scene_format.specs.Format.{axes}
+use Rattle.scene_format.specs.declared.Kind.the-variants.{Fluid, Boundary}
+use Rattle.scene_format.specs.Scene.{Scene, FluidParticle, noBoundaryParticle, Contact, fluidSize, boundarySize}
+use Rattle.scene_format.specs.Scene.{particle, boundary}
+use Rattle.scene_format.specs.SceneOf.{contactAt, contactList, fluidParticleAt, forceAt, boundaryParticleAt, headerOf}
+use Rattle.scene_format.specs.SceneOf.{sceneOf}
+use Rattle.scene_lengths.specs.Lengths.{fluidAnswerWidth, answerWidth, boundaryAnswerWidth, answersNeeded, workNeeded}
+use Rattle.scene_layout.proofs.Locations.{fluid-size, boundary-size, particle-at, boundary-at}
+use Rattle.iisph_rules.specs.Coefficients.{overContacts, velocityChange, advectedVelocity, overNeighbours, dii}
+use Rattle.iisph_rules.specs.Coefficients.{Coefficients}
 use Rattle.iisph_rules.specs.Iteration.{dijSum, dijPjl}
-use Rattle.iisph_rules.specs.Step.{boundaryAcceleration, finalVelocityChange, newVelocity, newPosition, fluidAnswer, forceFrom, boundaryForce, boundaryAnswer, answersFrom, answersOf}
+use Rattle.iisph_rules.specs.Step.{boundaryAcceleration, finalVelocityChange, newVelocity, newPosition}
+use Rattle.iisph_rules.specs.Step.{fluidAnswer, forceFrom, boundaryForce, boundaryAnswer, answersFrom, answersOf}
 use Rattle.iisph_rules.specs.Answer.{answersAfter, workAfter}
 use Rattle.iisph_rules.proofs.EndToEnd.{length-rows, sum-same}
 use Rattle.iisph_rules.proofs.Iterations.{chosen}
-use Rattle.scene.specs.Accepted.{Bytes}
 
 -- ---- what a step needs of a fluid particle
 
@@ -41,7 +46,8 @@ vector-sized : (d : ℕ) (b : List ℕ) (at : ℕ) → Sized d (vectorAt d b at)
 unfolding vectorAt
 vector-sized d b at = length-table d _
 
-contacts-sized : (starts b : List ℕ) (n at : ℕ) (c : Contact) → List·Memᴰ c (contactList starts b n at) → Sized axes (c .gradient)
+contacts-sized : (starts b : List ℕ) (n at : ℕ) (c : Contact) → List·Memᴰ c (contactList starts b n at)
+    → Sized axes (c .gradient)
 unfolding contactList contactAt
 contacts-sized starts b n at c m =
     let r = in-table n _ m in
@@ -66,7 +72,8 @@ module _ (b : List ℕ) where
 
 -- ---- velocities before the pressures
 
-module _ (s : Scene) (p : FluidParticle) (gravity : Sized (s .header .axes) (s .header .gravity)) (h : ParticleSized (s .header .axes) p) where
+module _ (s : Scene) (p : FluidParticle) (gravity : Sized (s .header .axes) (s .header .gravity))
+    (h : ParticleSized (s .header .axes) p) where
   change-sized : Sized (s .header .axes) (velocityChange s p)
   unfolding velocityChange
   change-sized = sum-sized _ _ (length-replicate _ _) (scaled-sized _ _ (sum-sized _ _ (h .acceleration) gravity))
@@ -77,23 +84,27 @@ module _ (s : Scene) (p : FluidParticle) (gravity : Sized (s .header .axes) (s .
 
   -- and sums over the contacts
   dii-sized : (rho : Float) → Sized (s .header .axes) (dii s p rho)
-  unfolding dii overNamed overContacts
+  unfolding dii overNeighbours overContacts
   dii-sized rho =
       fold-keeps (Sized (s .header .axes)) _ _ _
-      (fold-keeps (Sized (s .header .axes)) _ _ _ (length-replicate _ _) (λ c m u q. sum-sized u _ q (scaled-sized _ _ (h .fluidContacts c m))))
+      (fold-keeps (Sized (s .header .axes)) _ _ _ (length-replicate _ _)
+      (λ c m u q. sum-sized u _ q (scaled-sized _ _ (h .fluidContacts c m))))
       (λ c m u q. sum-sized u _ q (scaled-sized _ _ (h .boundaryContacts c m)))
 
   dij-sized : (co : List Coefficients) (ps : List Float) → Sized (s .header .axes) (dijPjl s co ps p)
   unfolding dijPjl dijSum
   dij-sized co ps =
       scaled-sized _ _
-      (fold-keeps (Sized (s .header .axes)) _ _ _ (length-replicate _ _) (λ c m u q. sum-sized u _ q (scaled-sized _ _ (h .fluidContacts c m))))
+      (fold-keeps (Sized (s .header .axes)) _ _ _ (length-replicate _ _)
+      (λ c m u q. sum-sized u _ q (scaled-sized _ _ (h .fluidContacts c m))))
 
-pub length-advected : (b : List ℕ) (i : ℕ) → i < fluidSize (sceneOf b) → length (advectedVelocity (sceneOf b) (particle (sceneOf b) i)) ≡ axes
+pub length-advected : (b : List ℕ) (i : ℕ) → i < fluidSize (sceneOf b)
+    → length (advectedVelocity (sceneOf b) (particle (sceneOf b) i)) ≡ axes
 unfolding sceneOf headerOf
 length-advected b i h = advected-sized (sceneOf b) (particle (sceneOf b) i) (gravity-sized b) (particle-sized b i h)
 
-pub length-dii : (b : List ℕ) (i : ℕ) → i < fluidSize (sceneOf b) → (rho : Float) → length (dii (sceneOf b) (particle (sceneOf b) i) rho) ≡ axes
+pub length-dii : (b : List ℕ) (i : ℕ) → i < fluidSize (sceneOf b) → (rho : Float)
+    → length (dii (sceneOf b) (particle (sceneOf b) i) rho) ≡ axes
 unfolding sceneOf headerOf
 length-dii b i h = dii-sized (sceneOf b) (particle (sceneOf b) i) (gravity-sized b) (particle-sized b i h)
 
@@ -104,9 +115,11 @@ length-dij b i h = dij-sized (sceneOf b) (particle (sceneOf b) i) (gravity-sized
 
 -- ---- the answers of one particle, from given coefficients and pressures
 
-module _ (s : Scene) (co : List Coefficients) (ps : List Float) (gravity : Sized (s .header .axes) (s .header .gravity)) where
+module _ (s : Scene) (co : List Coefficients) (ps : List Float)
+    (gravity : Sized (s .header .axes) (s .header .gravity)) where
   module _ (i : ℕ) (h : ParticleSized (s .header .axes) (particle s i)) where
-    acceleration-sized : (c : Contact) → List·Memᴰ c (particle s i .boundaryContacts) → Sized (s .header .axes) (boundaryAcceleration s co ps i c)
+    acceleration-sized : (c : Contact) → List·Memᴰ c (particle s i .boundaryContacts)
+        → Sized (s .header .axes) (boundaryAcceleration s co ps i c)
     unfolding boundaryAcceleration
     acceleration-sized c m = scaled-sized _ _ (h .boundaryContacts c m)
 
@@ -114,7 +127,8 @@ module _ (s : Scene) (co : List Coefficients) (ps : List Float) (gravity : Sized
     unfolding finalVelocityChange overContacts
     final-change-sized =
         fold-keeps (Sized (s .header .axes)) _ _ _
-        (fold-keeps (Sized (s .header .axes)) _ _ _ (change-sized s (particle s i) gravity h) (λ c m u p. difference-sized u _ p (scaled-sized _ _ (h .fluidContacts c m))))
+        (fold-keeps (Sized (s .header .axes)) _ _ _ (change-sized s (particle s i) gravity h)
+        (λ c m u p. difference-sized u _ p (scaled-sized _ _ (h .fluidContacts c m))))
         (λ c m u p. difference-sized u _ p (scaled-sized _ _ (acceleration-sized c m)))
 
     velocity-sized : Sized (s .header .axes) (newVelocity s co ps i)
@@ -125,15 +139,17 @@ module _ (s : Scene) (co : List Coefficients) (ps : List Float) (gravity : Sized
     unfolding newPosition
     position-sized = sum-sized _ _ (h .position) (scaled-sized _ _ velocity-sized)
 
-    pub length-fluid-answer : length (fluidAnswer s co ps i) ≡ 1 + 2 * s .header .axes
+    pub length-fluid-answer : length (fluidAnswer s co ps i) ≡ fluidAnswerWidth (s .header .axes)
     unfolding fluidAnswer
     length-fluid-answer = simp length-append (omega (arith, position-sized, velocity-sized))
 
-    force-from-sized : (j : ℕ) (u : Vector) → Sized (s .header .axes) u → Sized (s .header .axes) (forceFrom s co ps j u i)
+    force-from-sized : (j : ℕ) (u : Vector) → Sized (s .header .axes) u
+        → Sized (s .header .axes) (forceFrom s co ps j u i)
     unfolding forceFrom
     force-from-sized j u p =
         fold-keeps (Sized (s .header .axes)) _ _ _ p
-        (λ c m v q. chosen (Sized (s .header .axes)) _ _ _ (λ _. sum-sized v _ q (scaled-sized _ _ (acceleration-sized c m))) (λ _. q))
+        (λ c m v q. chosen (Sized (s .header .axes)) _ _ _
+        (λ _. sum-sized v _ q (scaled-sized _ _ (acceleration-sized c m))) (λ _. q))
 
   force-sized : ((i : ℕ) → i < fluidSize s → ParticleSized (s .header .axes) (particle s i))
       → (j : ℕ) → Sized (s .header .axes) (boundary s j .force) → Sized (s .header .axes) (boundaryForce s co ps j)
@@ -147,67 +163,71 @@ module _ (s : Scene) (co : List Coefficients) (ps : List Float) (gravity : Sized
 
 -- ---- all answers of a scene that bytes stand for
 
--- k is 1 where forces are kept
-kept-sized : (k : ℕ) (force : Vector) → k < 2 → (k ≡ 1 → Sized axes force) → length (choose (eqb k 1) force []) ≡ axes * k
-unfolding choose
-kept-sized zero force h p = refl
-kept-sized (suc zero) force h p = p refl
-kept-sized (suc (suc k)) force h p = absurd (omega arith)
+kept-sized : (t : Bool) (force : Vector) → (t ≡ true → Sized axes force)
+    → suc (length (choose t force [])) ≡ answerWidth axes Boundary (choose t 1 0)
+unfolding choose answerWidth
+kept-sized true force p = omega (arith, p refl)
+kept-sized false force p = refl
 
-force-at-sized : (k : ℕ) (b : List ℕ) (at : ℕ) → k ≡ 1 → Sized axes (forceAt k b at)
+force-at-sized : (k : ℕ) (b : List ℕ) (at : ℕ) → eqb k 1 ≡ true → Sized axes (forceAt k b at)
 unfolding forceAt
-force-at-sized zero b at e = absurd (omega arith)
+force-at-sized zero b at e = absurd (true≢false (sym e))
 force-at-sized (suc k) b at e = vector-sized axes b at
 
-module _ (b : List ℕ) (bytes : Bytes b) (co : List Coefficients) (ps : List Float) where
-  pub length-fluid : (i : ℕ) → i < fluidSize (sceneOf b) → length (fluidAnswer (sceneOf b) co ps i) ≡ 1 + 2 * axes
+module _ (b : List ℕ) (co : List Coefficients) (ps : List Float) where
+  pub length-fluid : (i : ℕ) → i < fluidSize (sceneOf b)
+      → length (fluidAnswer (sceneOf b) co ps i) ≡ fluidAnswerWidth axes
   unfolding sceneOf headerOf
   length-fluid i h = length-fluid-answer (sceneOf b) co ps (gravity-sized b) i (particle-sized b i h)
 
   pub length-boundary : (j : ℕ) → j < boundarySize (sceneOf b)
-      → length (boundaryAnswer (sceneOf b) co ps j) ≡ 1 + axes * keepsAt b (boundaryPlace b j .head)
-  unfolding boundaryAnswer boundaryParticleAt sceneOf headerOf
+      → length (boundaryAnswer (sceneOf b) co ps j) ≡ boundaryAnswerWidth axes (boundary (sceneOf b) j)
+  unfolding boundaryAnswer boundaryAnswerWidth boundaryParticleAt sceneOf headerOf
   length-boundary j h =
-      let p = boundaryPlace b j in
-      let k = keepsAt b (p .head) in
       let e = boundary-at b j h in
-      let l = kept-sized k (boundaryForce (sceneOf b) co ps j) (keeps-below b bytes (p .head))
-      (λ one. force-sized (sceneOf b) co ps (gravity-sized b) (particle-sized b) j (ap (λ q. length (q .force)) e ∙ force-at-sized k b _ one)) in
-      rw (ap (λ q. q .keepsForces) e) (omega (arith, l))
+      kept-sized (boundary (sceneOf b) j .keepsForces) (boundaryForce (sceneOf b) co ps j)
+      (λ kept.
+      force-sized (sceneOf b) co ps (gravity-sized b) (particle-sized b) j
+      (ap (λ q. length (q .force)) e ∙ force-at-sized _ b _ (ap (λ q. q .keepsForces) (sym e) ∙ kept)))
 
-module _ (b : List ℕ) (bytes : Bytes b) where
+module _ (b : List ℕ) where
   length-fluids : (co : List Coefficients) (ps : List Float)
-      → length (joined (table (fluidSize (sceneOf b)) (fluidAnswer (sceneOf b) co ps))) ≡ (1 + 2 * axes) * length (fluidPlaces b)
+      → length (flatten (table (fluidSize (sceneOf b)) (fluidAnswer (sceneOf b) co ps)))
+      ≡ fluidAnswerWidth axes * fluidSize (sceneOf b)
   length-fluids co ps =
-      length-rows (fluidSize (sceneOf b)) (fluidAnswer (sceneOf b) co ps) (λ i. 1 + 2 * axes) (length-fluid b bytes co ps)
-      ∙ sum-same (1 + 2 * axes) (fluidSize (sceneOf b))
-      ∙ ap (λ n. (1 + 2 * axes) * n) (fluid-size b)
+      length-rows (fluidSize (sceneOf b)) (fluidAnswer (sceneOf b) co ps) (λ i. fluidAnswerWidth axes)
+      (length-fluid b co ps)
+      ∙ sum-same (fluidAnswerWidth axes) (fluidSize (sceneOf b))
 
   length-boundaries : (co : List Coefficients) (ps : List Float)
-      → length (joined (table (boundarySize (sceneOf b)) (boundaryAnswer (sceneOf b) co ps)))
-      ≡ sizeSum (map (λ p. 1 + axes * keepsAt b (p .head)) (boundaryPlaces b))
+      → length (flatten (table (boundarySize (sceneOf b)) (boundaryAnswer (sceneOf b) co ps)))
+      ≡ sum (map (boundaryAnswerWidth axes) (sceneOf b .boundaryParticles))
+  unfolding boundarySize boundary
   length-boundaries co ps =
-      let needed : ℕ → ℕ = λ j. 1 + axes * keepsAt b (boundaryPlace b j .head) in
-      length-rows (boundarySize (sceneOf b)) (boundaryAnswer (sceneOf b) co ps) needed (length-boundary b bytes co ps)
-      ∙ ap (λ n. sizeSum (table n needed)) (boundary-size b)
-      ∙ ap sizeSum (table-map (λ p. 1 + axes * keepsAt b (p .head)) (boundaryPlaces b) noPlace)
+      length-rows (boundarySize (sceneOf b)) (boundaryAnswer (sceneOf b) co ps)
+      (λ j. boundaryAnswerWidth axes (boundary (sceneOf b) j))
+      (length-boundary b co ps)
+      ∙ ap sum (table-map (boundaryAnswerWidth axes) (sceneOf b .boundaryParticles) noBoundaryParticle)
 
-  pub length-answers : length (answersOf (sceneOf b)) ≡ answersNeeded b
-  unfolding answersOf answersFrom answersNeeded
+  pub length-answers : length (answersOf (sceneOf b)) ≡ answersNeeded (sceneOf b)
+  unfolding answersOf answersFrom answersNeeded sceneOf headerOf
   length-answers = simp length-append (cc (length-fluids _ _, length-boundaries _ _))
 
 -- ---- both lists keep what stands behind the needed lengths, whatever the step answers
 
-behind : (t : Bool) (xs old : List Float) (n : ℕ) → length xs ≡ n → drop n (choose t (xs ++ drop n old) old) ≡ drop n old
+behind : (t : Bool) (xs old : List Float) (n : ℕ) → length xs ≡ n
+    → drop n (choose t (xs ++ drop n old) old) ≡ drop n old
 unfolding choose
 behind true xs old n h = drop-at xs _ n h
 behind false xs old n h = refl
 
 module _ (b : List ℕ) (answers work : ℕ) (old : List Float) where
-  pub beyond-answers : Bytes b → drop (answersNeeded b) (answersAfter b answers work old) ≡ drop (answersNeeded b) old
+  pub beyond-answers : drop (answersNeeded (sceneOf b)) (answersAfter b answers work old)
+      ≡ drop (answersNeeded (sceneOf b)) old
   unfolding answersAfter
-  beyond-answers bytes = behind _ (answersOf (sceneOf b)) old (answersNeeded b) (length-answers b bytes)
+  beyond-answers = behind _ (answersOf (sceneOf b)) old (answersNeeded (sceneOf b)) (length-answers b)
 
-  pub beyond-work : drop (workNeeded b) (workAfter b answers work old) ≡ drop (workNeeded b) old
+  pub beyond-work : drop (workNeeded (sceneOf b)) (workAfter b answers work old) ≡ drop (workNeeded (sceneOf b)) old
   unfolding workAfter
-  beyond-work = behind _ (replicate (workNeeded b) +0) old (workNeeded b) (length-replicate (workNeeded b) +0)
+  beyond-work = behind _ (replicate (workNeeded (sceneOf b)) +0) old (workNeeded (sceneOf b))
+      (length-replicate (workNeeded (sceneOf b)) +0)

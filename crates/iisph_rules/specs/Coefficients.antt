@@ -1,16 +1,29 @@
--- Boundary volumes and the coefficients of each fluid particle (document 01, modules 4 and 5; the Rust's functions are named at each). Sums start at +0 and take
--- the fluid contacts in list order, then the boundary contacts; every operation rounds once, in the order written. Definitions only.
+-- Boundary volumes and the coefficients of each fluid particle (METHOD 4 and 5; the Rust's functions are
+-- named at each). Sums start at +0 and take the fluid contacts in list order, then the boundary contacts; every
+-- operation rounds once, in the order written. Definitions only.
 use Prim.Native.Nat.{ℕ}
 use mathlib.Core.Bool.{cond}
 use mathlib.Core.List.{List, []}
 use lib.ListN.{getD}
 use lib.Ieee.{Float}
-use Rattle.math.specs.Real.{_⊕_, _⊗_, _⊘_, ⊝, +0, one, isZero}
+use Rattle.math.specs.Real.{_⊕_, _⊗_, _⊘_, ⊝, +0, one, isZero, total}
 use Rattle.math.specs.Vector.{Vector, origin, _⊞_, _⊟_, _⊡_, _·_}
-use Rattle.math.specs.Lists.{fold, total, table}
-use Rattle.scene.specs.Scene.{Scene, FluidParticle, BoundaryParticle, Contact, fluidSize, particle, boundary}
+use Rattle.lists.specs.Lists.{fold, table}
+use Rattle.timestep_manager.specs.Clock.{advanced}
+use Rattle.timestep_manager.specs.declared.Clock.{Clock}
+use Rattle.scene_format.specs.Scene.{Scene, Header, FluidParticle, BoundaryParticle, Contact, fluidSize, particle}
+use Rattle.scene_format.specs.Scene.{boundary}
 
--- dt is the step length (module 2)
+-- the clock before the step, with dt and inv_dt as `TimestepManager::new` leaves them, and as the step advances it
+-- first
+abbrev pub clockBefore : Header → Clock
+clockBefore h =
+    record { «total_step_size» = h .totalStepSize; dt = +0; «inv_dt» = +0; «remaining_time» = h .remainingTime }
+
+unfoldable pub clockOf : Scene → Clock
+clockOf s = advanced (clockBefore (s .header))
+
+-- dt is the step length (METHOD 2)
 abbrev pub dt : Scene → Float
 dt s = s .header .totalStepSize
 
@@ -25,8 +38,11 @@ overContacts f g a p = fold g (fold f a (p .fluidContacts)) (p .boundaryContacts
 -- ---- boundary volumes (module 4)
 
 -- `compute_boundary_volumes`: 1 / the sum of the weights, or 0 where the sum is zero
+unfoldable pub volumeFrom : List Float → Float
+volumeFrom weights = let denominator = total +0 weights in cond (isZero denominator) +0 (one ⊘ denominator)
+
 unfoldable pub boundaryVolume : BoundaryParticle → Float
-boundaryVolume q = let denominator = total +0 (q .weights) in cond (isZero denominator) +0 (one ⊘ denominator)
+boundaryVolume q = volumeFrom (q .weights)
 
 -- ---- masses (module 5)
 
@@ -52,52 +68,57 @@ velocityChange s p = zeroVector s ⊞ (p .acceleration ⊞ s .header .gravity) �
 unfoldable pub advectedVelocity : Scene → FluidParticle → Vector
 advectedVelocity s p = p .velocity ⊞ velocityChange s p
 
--- ---- what a contact names, as its owner sees it: document 01's m_j and v_j
+-- ---- what a contact names, as its owner sees it: m_j and v_j of METHOD 5.1 and 5.2
 
-pub record Named : Type 0 where
+pub record Neighbour : Type 0 where
   pub mass : Float
   pub velocity : Vector
 
-unfoldable pub fluidNamed : Scene → Contact → Named
-fluidNamed s c = record { mass = fluidMass s c; velocity = advectedVelocity s (particle s (c .target)) }
+unfoldable pub fluidNeighbour : Scene → Contact → Neighbour
+fluidNeighbour s c = record { mass = fluidMass s c; velocity = advectedVelocity s (particle s (c .target)) }
 
 -- the v of a boundary particle is its velocity
-unfoldable pub boundaryNamed : Scene → Float → Contact → Named
-boundaryNamed s density0 c = record { mass = boundaryMass s density0 c; velocity = boundary s (c .target) .velocity }
+unfoldable pub boundaryNeighbour : Scene → Float → Contact → Neighbour
+boundaryNeighbour s density0 c =
+    record { mass = boundaryMass s density0 c; velocity = boundary s (c .target) .velocity }
 
 -- from a on over the contacts of p, each with what it names
-unfoldable pub overNamed : {A : Type 0} → Scene → FluidParticle → (Named → A → Contact → A) → A → A
-overNamed s p f a = overContacts (λ sum c. f (fluidNamed s c) sum c) (λ sum c. f (boundaryNamed s (p .density0) c) sum c) a p
+unfoldable pub overNeighbours : {A : Type 0} → Scene → FluidParticle → (Neighbour → A → Contact → A) → A → A
+overNeighbours s p f a =
+    overContacts (λ sum c. f (fluidNeighbour s c) sum c) (λ sum c. f (boundaryNeighbour s (p .density0) c) sum c) a p
 
 -- ---- coefficients: rho is the particle's density
 
 -- `compute_densities`: sum of m_j × weight
 unfoldable pub density : Scene → FluidParticle → Float
-density s p = overNamed s p (λ j sum c. sum ⊕ j .mass ⊗ c .weight) +0
+density s p = overNeighbours s p (λ j sum c. sum ⊕ j .mass ⊗ c .weight) +0
 
 -- sum of m_j × ((v_i - v_j) · g), where v is v_i
 unfoldable pub delta : Scene → FluidParticle → Float
-delta s p = let v = advectedVelocity s p in overNamed s p (λ j sum c. sum ⊕ j .mass ⊗ ((v ⊟ j .velocity) · c .gradient)) +0
+delta s p = let v =
+    advectedVelocity s p in overNeighbours s p (λ j sum c. sum ⊕ j .mass ⊗ ((v ⊟ j .velocity) · c .gradient)) +0
 
 -- `compute_predicted_densities`: density + delta × dt
 unfoldable pub predictedDensity : Scene → FluidParticle → Float → Float
 predictedDensity s p rho = rho ⊕ delta s p ⊗ dt s
 
--- ((-dt) × dt) / (rho × rho), document 01's f
+-- ((-dt) × dt) / (rho × rho), f of METHOD 5.5
 unfoldable pub diiFactor : Scene → Float → Float
 diiFactor s rho = ⊝ (dt s) ⊗ dt s ⊘ (rho ⊗ rho)
 
 -- `compute_dii`: sum of g × (m_j × f)
 unfoldable pub dii : Scene → FluidParticle → Float → Vector
-dii s p rho = let f = diiFactor s rho in overNamed s p (λ j sum c. sum ⊞ c .gradient ⊡ (j .mass ⊗ f)) (zeroVector s)
+dii s p rho = let f = diiFactor s rho in overNeighbours s p (λ j sum c. sum ⊞ c .gradient ⊡ (j .mass ⊗ f))
+    (zeroVector s)
 
--- ((dt × dt) × m_i) / (rho × rho), document 01's e
+-- ((dt × dt) × m_i) / (rho × rho), e of METHOD 5.6
 unfoldable pub djiFactor : Scene → FluidParticle → Float → Float
 djiFactor s p rho = dt s ⊗ dt s ⊗ particleMass p ⊘ (rho ⊗ rho)
 
 -- `compute_aii`: sum of m_j × ((dii_i - g × e) · g), where d is dii_i
 unfoldable pub aii : Scene → FluidParticle → Float → Vector → Float
-aii s p rho d = let e = djiFactor s p rho in overNamed s p (λ j sum c. sum ⊕ j .mass ⊗ ((d ⊟ c .gradient ⊡ e) · c .gradient)) +0
+aii s p rho d = let e =
+    djiFactor s p rho in overNeighbours s p (λ j sum c. sum ⊕ j .mass ⊗ ((d ⊟ c .gradient ⊡ e) · c .gradient)) +0
 
 -- ---- all of them
 

@@ -1,5 +1,6 @@
--- One iteration over the pressures (document 01, module 6: "a sweep"), from the coefficients `co` and the old pressures `ps` of all fluid particles, by their
--- numbers. Its error is made in three steps: a term for each particle, an average for each fluid, a fold over the averages. Definitions only.
+-- One iteration over the pressures (METHOD 6), from the coefficients `co` and the old pressures
+-- `ps` of all fluid particles, by their numbers. Its error is made in three steps: a term for each particle, an average
+-- for each fluid, a fold over the averages. Definitions only.
 use Prim.Native.Nat.{ℕ, zero, suc}
 use mathlib.Core.Bool.{cond}
 use mathlib.Core.List.{List, [], _∷_, map}
@@ -7,11 +8,12 @@ use lib.ListN.{getD, take, drop}
 use lib.IntN.{pos}
 use lib.Ieee
 use lib.Ieee.{Float, binary64}
-use Rattle.math.specs.Real.{_⊕_, _⊖_, _⊗_, _⊘_, ⊝, bits, +0, half, magnitude, larger}
+use Rattle.math.specs.Real.{_⊕_, _⊖_, _⊗_, _⊘_, ⊝, bits, +0, half, magnitude, larger, total}
 use Rattle.math.specs.Vector.{Vector, _⊞_, _⊟_, _⊡_, _·_}
-use Rattle.math.specs.Lists.{fold, total, table, choose}
-use Rattle.scene.specs.Scene.{Scene, FluidParticle, fluidSize, particle}
-use Rattle.iisph_rules.specs.Coefficients.{dt, zeroVector, overContacts, fluidMass, boundaryMass, djiFactor, Coefficients, coefficient}
+use Rattle.lists.specs.Lists.{fold, table, choose}
+use Rattle.scene_format.specs.Scene.{Scene, FluidParticle, fluidSize, particle}
+use Rattle.iisph_rules.specs.Coefficients.{dt, zeroVector, overContacts, fluidMass, boundaryMass, djiFactor}
+use Rattle.iisph_rules.specs.Coefficients.{Coefficients, coefficient}
 
 abbrev pub pressure : List Float → ℕ → Float
 pressure ps i = getD ps i +0
@@ -40,7 +42,8 @@ dij ds i = getD ds i []
 
 -- ---- next pressures: `compute_next_pressures`, where `ds` are the iteration's dij_pjl
 
--- the Rust's `sum`: per fluid contact m_j × (((dij_i - dii_j × p_j) - (dij_j - (g × e) × p_i)) · g), per boundary contact m_j × (dij_i · g)
+-- the Rust's `sum`: per fluid contact m_j × (((dij_i - dii_j × p_j) - (dij_j - (g × e) × p_i)) · g), per boundary
+-- contact m_j × (dij_i · g)
 unfoldable pub pressureSum : Scene → List Coefficients → List Float → List Vector → ℕ → Float
 pressureSum s co ps ds i =
     let p = particle s i in
@@ -48,7 +51,9 @@ pressureSum s co ps ds i =
     overContacts
     (λ sum c.
     let j = c .target in
-    sum ⊕ fluidMass s c ⊗ (((dij ds i ⊟ coefficient co j .dii ⊡ pressure ps j) ⊟ (dij ds j ⊟ (c .gradient ⊡ e) ⊡ pressure ps i)) · c .gradient))
+    sum ⊕ fluidMass s c
+    ⊗ (((dij ds i ⊟ coefficient co j .dii ⊡ pressure ps j)
+    ⊟ (dij ds j ⊟ (c .gradient ⊡ e) ⊡ pressure ps i)) · c .gradient))
     (λ sum c. sum ⊕ boundaryMass s (p .density0) c ⊗ (dij ds i · c .gradient))
     +0
     p
@@ -71,7 +76,8 @@ noPressure = record { pressure = +0; term = +0 }
 
 -- a next pressure is kept if it is above 0; if not, or if it is no number, there is none
 unfoldable pub clamped : Float → Float → Float → Float → NextPressure
-clamped density0 aii sum p = cond (Ieee.lt +0 p) (record { pressure = p; term = errorTerm density0 aii sum p }) noPressure
+clamped density0 aii sum p =
+    cond (Ieee.lt +0 p) (record { pressure = p; term = errorTerm density0 aii sum p }) noPressure
 
 -- 1e-9
 abbrev pub aiiLimit : Float
@@ -84,7 +90,8 @@ nextPressure s co ps ds i =
     let aii = coefficient co i .aii in
     let derr = density0 ⊖ coefficient co i .predictedDensity in
     let sum = pressureSum s co ps ds i in
-    choose (Ieee.lt aiiLimit (magnitude aii)) (clamped density0 aii sum (relaxed (pressure ps i) aii derr sum)) noPressure
+    choose (Ieee.lt aiiLimit (magnitude aii)) (clamped density0 aii sum (relaxed (pressure ps i) aii derr sum))
+    noPressure
 
 -- of each fluid particle; all from the old pressures, beside which they are stored
 unfoldable pub nextPressures : Scene → List Coefficients → List Float → List NextPressure
@@ -116,4 +123,8 @@ pub record Iteration : Type 0 where
 unfoldable pub iteration : Scene → List Coefficients → List Float → Iteration
 iteration s co ps =
     let next = nextPressures s co ps in
-    record { pressures = map (λ n. n .pressure) next; error = errorOf (averages (s .fluidCounts) (map (λ n. n .term) next)) }
+    record {
+      pressures = map (λ n. n .pressure) next;
+      error = errorOf
+          (averages (s .fluidCounts) (map (λ n. n .term) next));
+    }

@@ -1,22 +1,20 @@
--- The step (document 01, module 7) on a scene: the iterations and how they end, the answers from given pressures, the report, and refusals 9 and 10.
--- Definitions only.
+-- The step (METHOD 7) on a scene: the iterations and how they end, the answers from given pressures, the
+-- report, and refusals 9 and 10. Definitions only.
 use Prim.Native.Nat.{ℕ, zero, suc}
 use mathlib.Core.Bool.{Bool, _&&_}
-use mathlib.Core.List.{List, [], _∷_, _++_, map}
+use mathlib.Core.List.{List, [], _∷_, _++_, map, flatten}
 use lib.Dec.{leb, ltb, eqb}
 use lib.ListN.{length}
 use lib.Ieee
 use lib.Ieee.{Float}
-use Rattle.math.specs.Real.{_⊕_, _⊗_, _⊘_, +0, half, isZero}
+use Rattle.math.specs.Real.{_⊕_, _⊗_, _⊘_, half, isZero}
 use Rattle.math.specs.Vector.{Vector, _⊞_, _⊟_, _⊡_}
-use Rattle.math.specs.Lists.{fold, table, choose}
-use Rattle.timestep_manager.specs.declared.Clock.{Clock}
-use Rattle.timestep_manager.specs.Clock.{advanced}
-use Rattle.scene.specs.declared.Refusal.{Refusal}
-use Rattle.scene.specs.declared.Refusal.the-variants.{ZeroDensity, ZeroPredictedDensity}
-use Rattle.scene.specs.Format.{joined}
-use Rattle.scene.specs.Scene.{Scene, Header, Contact, fluidSize, boundarySize, particle, boundary}
-use Rattle.iisph_rules.specs.Coefficients.{dt, overContacts, boundaryVolume, particleMass, fluidMass, boundaryMass, velocityChange, Coefficients, coefficients, coefficient}
+use Rattle.lists.specs.Lists.{fold, table, choose}
+use Rattle.scene_format.specs.declared.Refusal.{Refusal}
+use Rattle.scene_format.specs.declared.Refusal.the-variants.{ZeroDensity, ZeroPredictedDensity}
+use Rattle.scene_format.specs.Scene.{Scene, Header, Contact, fluidSize, boundarySize, particle, boundary}
+use Rattle.iisph_rules.specs.Coefficients.{clockOf, dt, overContacts, boundaryVolume, particleMass, fluidMass}
+use Rattle.iisph_rules.specs.Coefficients.{boundaryMass, velocityChange, Coefficients, coefficients, coefficient}
 use Rattle.iisph_rules.specs.Iteration.{pressure, iteration}
 use Rattle.iisph_rules.specs.declared.Ending.{Ending}
 use Rattle.iisph_rules.specs.declared.Ending.the-variants.{Unswept, Settled, RanOut}
@@ -46,7 +44,8 @@ iterateFrom zero s co i ps ending = record { iterations = i; ending = ending; pr
 iterateFrom (suc n) s co i ps ending =
     let it = iteration s co ps in
     let more = iterateFrom n s co (suc i) (it .pressures) (RanOut (it .error)) in
-    choose (isLast (s .header) i (it .error)) (record { iterations = suc i; ending = Settled (it .error); pressures = it .pressures }) more
+    choose (isLast (s .header) i (it .error))
+    (record { iterations = suc i; ending = Settled (it .error); pressures = it .pressures }) more
 
 -- `pressure_solve`
 unfoldable pub solution : Scene → Solution
@@ -58,17 +57,19 @@ solution s = iterateFrom (s .header .maxPressureIter) s (coefficients s) 0 (firs
 unfoldable pub pressureShare : List Coefficients → List Float → ℕ → Float
 pressureShare co ps i = let rho = coefficient co i .density in pressure ps i ⊘ (rho ⊗ rho)
 
--- g × ((m_j × p_i) / (rho_i × rho_i)) of a boundary contact of fluid particle i, document 01's a
+-- g × ((m_j × p_i) / (rho_i × rho_i)) of a boundary contact of fluid particle i, a of METHOD 7.2
 unfoldable pub boundaryAcceleration : Scene → List Coefficients → List Float → ℕ → Contact → Vector
 boundaryAcceleration s co ps i c =
     let rho = coefficient co i .density in
     c .gradient ⊡ (boundaryMass s (particle s i .density0) c ⊗ pressure ps i ⊘ (rho ⊗ rho))
 
--- `compute_velocity_changes`: per fluid contact the change loses g × ((dt × m_j) × (p_i / (rho_i × rho_i) + p_j / (rho_j × rho_j))), per boundary contact a × dt
+-- `compute_velocity_changes`: per fluid contact the change loses g × ((dt × m_j) × (p_i / (rho_i × rho_i) + p_j /
+-- (rho_j × rho_j))), per boundary contact a × dt
 unfoldable pub finalVelocityChange : Scene → List Coefficients → List Float → ℕ → Vector
 finalVelocityChange s co ps i =
     overContacts
-    (λ change c. change ⊟ c .gradient ⊡ (dt s ⊗ fluidMass s c ⊗ (pressureShare co ps i ⊕ pressureShare co ps (c .target))))
+    (λ change c. change
+    ⊟ c .gradient ⊡ (dt s ⊗ fluidMass s c ⊗ (pressureShare co ps i ⊕ pressureShare co ps (c .target))))
     (λ change c. change ⊟ boundaryAcceleration s co ps i c ⊡ dt s)
     (velocityChange s (particle s i))
     (particle s i)
@@ -86,7 +87,8 @@ fluidAnswer s co ps i = newPosition s co ps i ++ (newVelocity s co ps i ++ (pres
 
 -- ---- boundary forces, from given pressures
 
--- what the boundary contacts of fluid particle i, in list order, make of the force on boundary particle j: those that name j add a × m_i
+-- what the boundary contacts of fluid particle i, in list order, make of the force on boundary particle j: those that
+-- name j add a × m_i
 unfoldable pub forceFrom : Scene → List Coefficients → List Float → ℕ → Vector → ℕ → Vector
 forceFrom s co ps j force i =
     fold
@@ -100,7 +102,8 @@ boundaryForce s co ps j = fold (forceFrom s co ps j) (boundary s j .force) (tabl
 
 -- the answers of boundary particle j: volume, and the force where forces are kept
 unfoldable pub boundaryAnswer : Scene → List Coefficients → List Float → ℕ → List Float
-boundaryAnswer s co ps j = boundaryVolume (boundary s j) ∷ choose (boundary s j .keepsForces) (boundaryForce s co ps j) []
+boundaryAnswer s co ps j = boundaryVolume (boundary s j) ∷ choose (boundary s j .keepsForces)
+    (boundaryForce s co ps j) []
 
 -- ---- the step
 
@@ -108,17 +111,13 @@ boundaryAnswer s co ps j = boundaryVolume (boundary s j) ∷ choose (boundary s 
 unfoldable pub answersFrom : Scene → List Float → List Float
 answersFrom s ps =
     let co = coefficients s in
-    joined (table (fluidSize s) (fluidAnswer s co ps)) ++ joined (table (boundarySize s) (boundaryAnswer s co ps))
+    flatten (table (fluidSize s) (fluidAnswer s co ps)) ++ flatten (table (boundarySize s) (boundaryAnswer s co ps))
 
 unfoldable pub answersOf : Scene → List Float
 answersOf s = answersFrom s (solution s .pressures)
 
--- the clock before the step: dt and inv_dt as `TimestepManager::new` leaves them
-abbrev pub clockBefore : Header → Clock
-clockBefore h = record { «total_step_size» = h .totalStepSize; dt = +0; «inv_dt» = +0; «remaining_time» = h .remainingTime }
-
 unfoldable pub reportOf : Scene → Report
-reportOf s = let w = solution s in record { clock = advanced (clockBefore (s .header)); iterations = w .iterations; ending = w .ending }
+reportOf s = let w = solution s in record { clock = clockOf s; iterations = w .iterations; ending = w .ending }
 
 -- ---- refusals 9 and 10: `assert!(!density.is_zero())`, `assert!(!predicted_density.is_zero())`
 

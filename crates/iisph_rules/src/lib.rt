@@ -1,8 +1,8 @@
 // One IISPH pressure step over a packed scene (iisph_solver.rs): what it reports and answers.
-use scene::Refusal;
+use scene_format::Refusal;
 use timestep_manager::Clock;
 
-// How the iterations ended (document 01, module 7), with the last iteration's error.
+// How the iterations ended (METHOD 7.1), with the last iteration's error.
 pub enum Ending {
     // There were none.
     Unswept,

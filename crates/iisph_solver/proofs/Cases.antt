@@ -1,5 +1,5 @@
--- What a step answers and leaves in both lists, case by case: refused by the check, lists too short, a zero density, or done. Each case unfolds the rules' answer once.
--- Assumes nothing.
+-- What a step answers and leaves in both lists, case by case: refused by the check, lists too short, a zero density, or
+-- done. Each case unfolds the rules' answer once. Assumes nothing.
 use Prim.Native.Nat.{ℕ, _≤_, _<_}
 use mathlib.Core.Path.{_≡_, refl, sym, ap, _∙_}
 use mathlib.Core.Bool.{true}
@@ -9,49 +9,24 @@ use lib.Ieee.{Float}
 use lib.ListN.{length, drop, replicate}
 use borrow.Author.Tests.{lt-ltb, le-ltb, lt-leb}
 use Rattle.math.specs.Real.{+0}
-use Rattle.math.specs.Lists.{choose}
-use Rattle.scene.specs.Format.{fluidPlace}
-use Rattle.scene.specs.Layout.{verdictOf, layoutFor, layoutOf, ChecksTo}
-use Rattle.scene.specs.SceneOf.{sceneOf, answersNeeded, workNeeded}
-use Rattle.scene.specs.Walk.{numberOf, checked}
-use Rattle.scene.specs.declared.Checked.{Checked}
-use Rattle.scene.specs.declared.Refusal.{Refusal}
-use Rattle.scene.specs.declared.Refusal.the-variants.{ShortList}
-use Rattle.scene.specs.declared.Verdict.the-variants as verdict
-use Rattle.scene.specs.declared.Walk.{Walk}
-use Rattle.scene.specs.declared.Walk.the-variants as walk
-use Rattle.scene.proofs.Accepted.{accepted-length}
-use Rattle.scene.proofs.Early.{refused-early}
+use Rattle.lists.specs.Lists.{choose}
+use Rattle.scene_format.specs.Format.{locationOf}
+use Rattle.scene_format.specs.SceneOf.{sceneOf}
+use Rattle.scene_lengths.specs.Lengths.{answersNeeded, workNeeded}
+use Rattle.scene_format.specs.Refusals.{numberOf}
+use Rattle.scene_check.specs.Walk.{checked}
+use Rattle.scene_format.specs.declared.Kind.the-variants.{Fluid}
+use Rattle.scene_format.specs.declared.Refusal.{Refusal}
+use Rattle.scene_format.specs.declared.Refusal.the-variants.{ShortList}
+use Rattle.scene_format.specs.declared.Walk.the-variants as walk
+use Rattle.scene_check.proofs.Early.{refused-early}
 use Rattle.iisph_rules.specs.Answer.{afterCheck, stepAnswer, clearsWork, workAfter}
 use Rattle.iisph_rules.specs.Step.{sceneAnswer, unlessZero}
 use Rattle.iisph_rules.specs.declared.StepAnswer.{StepAnswer}
 use Rattle.iisph_rules.specs.declared.StepAnswer.the-variants.{Refused}
 use Rattle.iisph_rules.proofs.Iterations.{chosen}
 
--- ---- the check's verdict
-
-module _ (b : List ℕ) {found : Checked} (h : ChecksTo b found) where
-  pub verdict-refused : {r : Refusal} → found .verdict ≡ verdict.Refused r → checked b ≡ walk.Refused r
-  unfolding verdictOf
-  verdict-refused q = go (checked b) (sym (h .verdict) ∙ q)
-    where
-      go : {r : Refusal} (w : Walk) → verdictOf w ≡ verdict.Refused r → w ≡ walk.Refused r
-      go (walk.At e) p = let z : _≡_ {A = ℕ} 0 1 = cc in absurd (omega arith)
-      go (walk.Refused r) p = cc
-
-  pub verdict-accepted : found .verdict ≡ verdict.Accepted → checked b ≡ walk.At (length b)
-  unfolding verdictOf
-  verdict-accepted q = go (checked b) refl (sym (h .verdict) ∙ q)
-    where
-      go : (w : Walk) → checked b ≡ w → verdictOf w ≡ verdict.Accepted → w ≡ walk.At (length b)
-      go (walk.At e) p v = ap walk.At (accepted-length b p)
-      go (walk.Refused r) p v = let z : _≡_ {A = ℕ} 0 1 = cc in absurd (omega arith)
-
-  pub layout-accepted : found .verdict ≡ verdict.Accepted → found .layout ≡ layoutOf b
-  unfolding layoutFor
-  layout-accepted q = h .layout ∙ ap (layoutFor b) (verdict-accepted q)
-
-scene-clears : (b : List ℕ) → clearsWork (sceneAnswer (λ i. fluidPlace b i .at) (sceneOf b)) ≡ true
+scene-clears : (b : List ℕ) → clearsWork (sceneAnswer (λ i. locationOf Fluid b i .at) (sceneOf b)) ≡ true
 unfolding sceneAnswer unlessZero clearsWork
 scene-clears b =
     chosen (λ (x : StepAnswer). clearsWork x ≡ true) _ _ _ (λ _. refl)
@@ -67,35 +42,41 @@ module _ (b : List ℕ) (answers work : ℕ) where
 
   module _ {e : ℕ} (q : checked b ≡ walk.At e) where
     -- 8
-    pub short-answers : answers < answersNeeded b → stepAnswer b answers work ≡ Refused ShortList
+    pub short-answers : answers < answersNeeded (sceneOf b) → stepAnswer b answers work ≡ Refused ShortList
     unfolding stepAnswer afterCheck choose
-    short-answers h = rw (q, lt-ltb answers (answersNeeded b) h)
+    short-answers h = rw (q, lt-ltb answers (answersNeeded (sceneOf b)) h)
 
-    pub short-work : answersNeeded b ≤ answers → work < workNeeded b → stepAnswer b answers work ≡ Refused ShortList
+    pub short-work : answersNeeded (sceneOf b) ≤ answers → work < workNeeded (sceneOf b)
+        → stepAnswer b answers work ≡ Refused ShortList
     unfolding stepAnswer afterCheck choose
-    short-work l h = rw (q, le-ltb answers (answersNeeded b) l, lt-ltb work (workNeeded b) h)
+    short-work l h = rw (q, le-ltb answers (answersNeeded (sceneOf b)) l, lt-ltb work (workNeeded (sceneOf b)) h)
 
-    pub scene-answer : answersNeeded b ≤ answers → workNeeded b ≤ work → stepAnswer b answers work ≡ sceneAnswer (λ i. fluidPlace b i .at) (sceneOf b)
+    pub scene-answer : answersNeeded (sceneOf b) ≤ answers → workNeeded (sceneOf b) ≤ work
+        → stepAnswer b answers work ≡ sceneAnswer (λ i. locationOf Fluid b i .at) (sceneOf b)
     unfolding stepAnswer afterCheck choose
-    scene-answer l h = rw (q, le-ltb answers (answersNeeded b) l, le-ltb work (workNeeded b) h)
+    scene-answer l h = rw (q, le-ltb answers (answersNeeded (sceneOf b)) l, le-ltb work (workNeeded (sceneOf b)) h)
 
   -- ---- the work list
 
-  work-early : {r : Refusal} → stepAnswer b answers work ≡ Refused r → numberOf r < 9 → (old : List Float) → workAfter b answers work old ≡ old
+  work-early : {r : Refusal} → stepAnswer b answers work ≡ Refused r → numberOf r < 9 → (old : List Float)
+      → workAfter b answers work old ≡ old
   unfolding workAfter clearsWork choose
   work-early {r} q h old = rw (q, lt-leb 9 (numberOf r) h)
 
-  pub work-refused : {r : Refusal} → checked b ≡ walk.Refused r → (old : List Float) → workAfter b answers work old ≡ old
+  pub work-refused : {r : Refusal} → checked b ≡ walk.Refused r → (old : List Float)
+      → workAfter b answers work old ≡ old
   work-refused q old = work-early (refused-answer q) (early (refused-early b q)) old
     where
       early : {n : ℕ} → n ≤ 7 → n < 9
       early h = omega arith
 
-  pub work-short : stepAnswer b answers work ≡ Refused ShortList → (old : List Float) → workAfter b answers work old ≡ old
+  pub work-short : stepAnswer b answers work ≡ Refused ShortList → (old : List Float)
+      → workAfter b answers work old ≡ old
   work-short q old = work-early q (omega arith) old
 
   -- 9, 10, and every accepted scene
-  pub work-cleared : stepAnswer b answers work ≡ sceneAnswer (λ i. fluidPlace b i .at) (sceneOf b)
-      → (old : List Float) → workAfter b answers work old ≡ replicate (workNeeded b) +0 ++ drop (workNeeded b) old
+  pub work-cleared : stepAnswer b answers work ≡ sceneAnswer (λ i. locationOf Fluid b i .at) (sceneOf b)
+      → (old : List Float)
+      → workAfter b answers work old ≡ replicate (workNeeded (sceneOf b)) +0 ++ drop (workNeeded (sceneOf b)) old
   unfolding workAfter choose
   work-cleared q old = rw (q, scene-clears b)

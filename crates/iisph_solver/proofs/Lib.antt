@@ -1,14 +1,6 @@
-pub mod Traversal
-pub mod RowParts
-pub mod Preparation
-pub mod Prepared
-pub mod IterationStart
 pub mod Cases
-pub mod Validated
-pub mod Stepped
-pub mod Averages
-pub mod Iterated
-pub mod Solving
-pub mod Needs
+pub mod StepHeaders
 pub mod Finished
+pub mod Stepped
+pub mod Validated
 pub mod TwoSteps

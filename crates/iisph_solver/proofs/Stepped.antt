@@ -1,31 +1,35 @@
--- A step meets its contract in each case: refused by the check, by a short list or by a zero density, or done. From the cases of the rules' answer and what the passes
--- left in both lists. Assumes nothing.
+-- A step meets its contract in each case: refused by the check, by a short list or by a zero density, or done. From the
+-- cases of the rules' answer and what the passes left in both lists. Assumes nothing.
 use Prim.Native.Nat.{ℕ, _≤_, _<_}
 use mathlib.Core.Path.{_≡_, refl, sym, ap, _∙_}
 use mathlib.Core.List.{List}
 use native.Mathlib.Omega.{arith}
 use lib.Ieee.{Float}
 use lib.ListN.{length}
-use Rattle.scene.specs.Format.{fluidPlace}
-use Rattle.scene.specs.Scene.{fluidSize}
-use Rattle.scene.specs.SceneOf.{sceneOf, answersNeeded, workNeeded}
-use Rattle.scene.specs.Walk.{checked}
-use Rattle.scene.specs.declared.Refusal.{Refusal}
-use Rattle.scene.specs.declared.Refusal.the-variants.{ShortList}
-use Rattle.scene.specs.declared.Walk.the-variants as walk
+use Rattle.scene_format.specs.Format.{locationOf}
+use Rattle.scene_format.specs.Scene.{fluidSize}
+use Rattle.scene_format.specs.SceneOf.{sceneOf}
+use Rattle.scene_lengths.specs.Lengths.{answersNeeded, workNeeded}
+use Rattle.scene_check.specs.Walk.{checked}
+use Rattle.scene_format.specs.declared.Kind.the-variants.{Fluid}
+use Rattle.scene_format.specs.declared.Refusal.{Refusal}
+use Rattle.scene_format.specs.declared.Refusal.the-variants.{ShortList}
+use Rattle.scene_format.specs.declared.Walk.the-variants as walk
 use Rattle.iisph_rules.specs.Answer.{stepAnswer}
 use Rattle.iisph_rules.specs.Step.{firstPressures, sceneAnswer}
 use Rattle.iisph_rules.specs.declared.Report.{Report}
 use Rattle.iisph_rules.specs.declared.StepAnswer.the-variants.{Done, Refused}
 use Rattle.iisph_rules.proofs.Reports.{answers-refused, answers-done, work-done}
-use Rattle.iisph_particles.specs.IterationRows.{IterationReady}
-use Rattle.iisph_solver.specs.Prepare.{workPrepared, readiness}
+use Rattle.iisph_pressures.specs.IterationRows.{IterationReady}
+use Rattle.iisph_passes.specs.Prepare.{workPrepared, readiness}
 use Rattle.iisph_solver.specs.Step.{Steps, Finishes}
-use Rattle.iisph_solver.specs.declared.prepare.Readiness.{Readiness}
-use Rattle.iisph_solver.specs.declared.prepare.Readiness.the-variants as before
-use Rattle.iisph_solver.proofs.Cases.{refused-answer, short-answers, short-work, scene-answer, work-refused, work-short, work-cleared}
-use Rattle.iisph_solver.proofs.IterationStart.{iteration-ready}
-use Rattle.iisph_solver.proofs.Prepared.{work-needed, refused-step, ready-step}
+use Rattle.iisph_passes.specs.declared.prepare.Readiness.{Readiness}
+use Rattle.iisph_passes.specs.declared.prepare.Readiness.the-variants as before
+use Rattle.iisph_solver.proofs.Cases.{refused-answer, short-answers, short-work, scene-answer, work-refused}
+use Rattle.iisph_solver.proofs.Cases.{work-short, work-cleared}
+use Rattle.iisph_iterations.proofs.IterationStart.{iteration-ready}
+use Rattle.iisph_passes.proofs.ZeroRefusals.{refused-step, ready-step}
+use Rattle.scene_lengths.proofs.Needed.{work-needed}
 use Rattle.iisph_solver.proofs.Validated.{beyond}
 
 module _ (b : List ℕ) (answers work : List Float) where
@@ -40,7 +44,8 @@ module _ (b : List ℕ) (answers work : List Float) where
       }
 
   -- 8
-  short-steps : stepAnswer b (length answers) (length work) ≡ Refused ShortList → Steps b answers work (Refused ShortList) answers work
+  short-steps : stepAnswer b (length answers) (length work) ≡ Refused ShortList
+      → Steps b answers work (Refused ShortList) answers work
   short-steps a =
       record {
         answer = sym a;
@@ -49,16 +54,19 @@ module _ (b : List ℕ) (answers work : List Float) where
       }
 
   module _ {e : ℕ} (q : checked b ≡ walk.At e) where
-    pub short-answers-steps : length answers < answersNeeded b → Steps b answers work (Refused ShortList) answers work
+    pub short-answers-steps : length answers < answersNeeded (sceneOf b)
+        → Steps b answers work (Refused ShortList) answers work
     short-answers-steps h = short-steps (short-answers b (length answers) (length work) q h)
 
-    module _ (l : answersNeeded b ≤ length answers) where
-      pub short-work-steps : length work < workNeeded b → Steps b answers work (Refused ShortList) answers work
+    module _ (l : answersNeeded (sceneOf b) ≤ length answers) where
+      pub short-work-steps : length work < workNeeded (sceneOf b)
+          → Steps b answers work (Refused ShortList) answers work
       short-work-steps h = short-steps (short-work b (length answers) (length work) q l h)
 
-      module _ (h : workNeeded b ≤ length work) where
+      module _ (h : workNeeded (sceneOf b) ≤ length work) where
         -- 9 and 10
-        pub zero-steps : {r : Refusal} {after : List Float} → before.Refused r ≡ readiness (sceneAnswer (λ i. fluidPlace b i .at) (sceneOf b))
+        pub zero-steps : {r : Refusal} {after : List Float}
+            → before.Refused r ≡ readiness (sceneAnswer (λ i. locationOf Fluid b i .at) (sceneOf b))
             → after ≡ workPrepared b (before.Refused r) work → Steps b answers work (Refused r) answers after
         unfolding workPrepared
         zero-steps {r} z w =
@@ -72,19 +80,24 @@ module _ (b : List ℕ) (answers work : List Float) where
 
         -- done
         pub done-steps : {x : List Float} {report : Report} {answers′ work′ : List Float}
-            → before.Ready ≡ readiness (sceneAnswer (λ i. fluidPlace b i .at) (sceneOf b))
-            → x ≡ workPrepared b before.Ready work → Finishes b answers x report answers′ work′ → Steps b answers work (Done report) answers′ work′
+            → before.Ready ≡ readiness (sceneAnswer (λ i. locationOf Fluid b i .at) (sceneOf b))
+            → x ≡ workPrepared b before.Ready work → Finishes b answers x report answers′ work′
+            → Steps b answers work (Done report) answers′ work′
         done-steps {x} {report} z p f =
             let s = scene-answer b (length answers) (length work) q l h in
-            let a : stepAnswer b (length answers) (length work) ≡ Done report = s ∙ ready-step _ (sceneOf b) z ∙ ap Done (sym (f .report)) in
+            let a : stepAnswer b (length answers) (length work) ≡ Done report = s ∙ ready-step _ (sceneOf b) z
+            ∙ ap Done (sym (f .report)) in
             record {
               answer = sym a;
               answersThen = f .answersThen ∙ sym (answers-done b (length answers) (length work) a answers);
-              workThen = f .workThen ∙ rw (p, beyond b work before.Ready) (sym (work-done b (length answers) (length work) a work));
+              workThen = f .workThen
+                  ∙ rw (p, beyond b work before.Ready) (sym (work-done b (length answers) (length work) a work));
             }
 
 -- what the iterations find, once the passes before them have refused nothing
-pub prepared-ready : (b : List ℕ) (work : List Float) → workNeeded b ≤ length work → {r : Readiness} {x : List Float} → r ≡ before.Ready → x ≡ workPrepared b r work
-    → IterationReady (sceneOf b) (firstPressures (sceneOf b)) (fluidSize (sceneOf b)) x
+pub prepared-ready : (b : List ℕ) {n : ℕ} → n ≡ fluidSize (sceneOf b) → (work : List Float)
+    → workNeeded (sceneOf b) ≤ length work
+    → {r : Readiness} {x : List Float} → r ≡ before.Ready → x ≡ workPrepared b r work
+    → IterationReady (sceneOf b) (firstPressures (sceneOf b)) n x
 unfolding workPrepared
-prepared-ready b work h e q = rw (q, e) (iteration-ready b work (omega (arith, work-needed b {n = fluidSize (sceneOf b)} refl refl)))
+prepared-ready b size work h e q = rw (q, e, size) (iteration-ready b work (omega (arith, work-needed b)))

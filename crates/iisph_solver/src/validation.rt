@@ -1,41 +1,43 @@
-// Whether a step would refuse a scene, found without solving it: refusals 1 to 7, 8 for the work list, 9 and 10.
-use crate::prepare::Readiness;
-use crate::prepare::prepare;
-use iisph_particles::index::INDEX_LENGTH;
-use iisph_particles::index::fill;
-use iisph_particles::refusals::clear;
-use iisph_particles::rows::ROW;
-use scene::Layout;
-use scene::Refusal;
-use scene::Verdict;
-ghost use mathlib.Core.Path.{_≡_};
-ghost use lib.ListN.{length};
-ghost use Rattle.scene.specs.Layout.{layoutOf};
-ghost use Rattle.scene.specs.Walk.{checked};
-ghost use Rattle.scene.specs.declared.Walk.{Walk};
+// What is said of a scene without solving it: whether a step on it would be refused, but for the length of the answer
+// list.
+use crate::step_header::step_header;
+use iisph_passes::prepare::Readiness;
+use iisph_passes::prepare::prepare;
+use iisph_rows::zeros::clear;
+use scene_check::Verdict;
+use scene_check::check;
+use scene_format::Refusal;
+use scene_index::index::INDEX_LENGTH;
+use scene_index::index::fill;
+use scene_layout::Layout;
+use scene_lengths::lengths_of;
+ghost use Rattle.scene_check.specs.Check.{Passed};
 ghost use Rattle.iisph_solver.specs.Validate.{Validates};
 
-// Of an accepted scene. The index of the records takes 768 KiB of stack.
+// The readiness of an accepted scene. The index of the records takes 772 KiB of stack.
 fn validate_accepted(scene: &[u8], layout: Layout, work: &mut [f64]) -> Readiness
-    requires { ⌜ (checked (now scene) ≡ Walk.At (length (now scene))) × (layout ≡ layoutOf (now scene)) ⌝ }
+    requires { ⌜ Passed (now scene) layout ⌝ }
     ensures { λ r. ⌜ Validates (now (scene .entry)) (now (work .entry)) r (now (work .exit)) ⌝ }
 {
-    let needed = ROW * layout.fluids.total + layout.boundaries.total;
+    let needed = lengths_of(layout).work;
     if work.len() < needed {
         return Readiness::Refused(Refusal::ShortList);
     }
+    let header = step_header(scene);
+    let n = layout.fluids.total;
     let mut index = [0usize; INDEX_LENGTH];
     fill(scene, layout, &mut index);
-    let answer = prepare(scene, layout, &index, work);
+    let answer = prepare(scene, layout, &index, n, header.clock, header.gravity, work);
     clear(work, needed);
     answer
 }
 
-// The work list's needed front part is then all +0, but for refusals 1 to 8, which leave it as it was.
+// Whether the iterations of a step on this scene could begin. The work list's needed front part is then all +0, but for
+// refusals 1 to 8, which leave it as it was.
 pub fn validate(scene: &[u8], work: &mut [f64]) -> Readiness
     ensures { λ r. ⌜ Validates (now (scene .entry)) (now (work .entry)) r (now (work .exit)) ⌝ }
 {
-    let found = scene::check(scene);
+    let found = check(scene);
     let verdict = found.verdict;
     let layout = found.layout;
     match verdict {

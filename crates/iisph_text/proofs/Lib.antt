@@ -1,10 +1,4 @@
-pub mod Written
-pub mod Numbers
-pub mod Widths
-pub mod ModelLines
-pub mod Behind
 pub mod Room
 pub mod Texts
 pub mod Done
 pub mod Ran
-pub mod Examples

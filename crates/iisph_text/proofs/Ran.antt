@@ -1,4 +1,4 @@
--- What a run does, from what its parts did: by the three tests that it makes. Assumes nothing.
+-- What a run does, from what its parts did: by the tests that it makes. Assumes nothing.
 use Prim.Native.Nat.{ℕ, _≤_, _<_}
 use mathlib.Core.Path.{_≡_, _∙_}
 use mathlib.Core.List.{List, _++_}
@@ -8,14 +8,22 @@ use lib.ListN.{length, drop}
 use lib.Seq.{sets-eq}
 use lib.Ieee.{Float}
 use borrow.Author.Tests.{lt-ltb, le-ltb}
-use Rattle.math.specs.Lists.{choose}
-use Rattle.scene.specs.Accepted.{Bytes}
+use Rattle.lists.specs.Lists.{choose}
+use Rattle.lists.specs.Stores.{Writes}
+use Rattle.lists.proofs.Writing.{none-written}
+use Rattle.scene_format.specs.Bytes.{Bytes}
 use Rattle.iisph_rules.specs.declared.StepAnswer.{StepAnswer}
 use Rattle.iisph_solver.specs.Step.{Steps}
-use Rattle.iisph_text.specs.Digits.{Writes}
 use Rattle.iisph_text.specs.Text.{mostBytes, tooLong, textWith, textOf, answerText}
-use Rattle.iisph_text.specs.Run.{textRoom, written, ifStepped, textIn, Runs}
-use Rattle.iisph_text.proofs.Written.{none-written}
+use Rattle.iisph_text.specs.Run.{
+  textRoom,
+  enoughAnswers,
+  enoughWork,
+  written,
+  ifStepped,
+  textIn,
+  Runs,
+}
 use Rattle.iisph_text.proofs.Texts.{text-same}
 
 module _ {b : List ℕ} {answers work : List Float} {out : List ℕ} where
@@ -33,27 +41,37 @@ module _ {b : List ℕ} {answers work : List Float} {out : List ℕ} where
         let l = lt-ltb mostBytes (length b) h in
         record { text = rw (t, l) w; answersThen = rw (t, l); workThen = rw (t, l) }
 
-    pub scene-run : length b ≤ mostBytes → {answer : StepAnswer} {answers′ work′ : List Float} → Steps b answers work answer answers′ work′
-        → Writes out 0 (answerText b answer) o r → Runs b answers work out r answers′ work′ o
+    pub scene-run : length b ≤ mostBytes → {answer : StepAnswer} {answers′ work′ : List Float}
+        → Steps b answers work answer answers′ work′ → Writes out 0 (answerText b answer) o r
+        → Runs b answers work out r answers′ work′ o
     unfolding written ifStepped textWith choose
     scene-run h s w =
         let t = le-ltb (length out) textRoom room in
         let l = le-ltb mostBytes (length b) h in
-        record { text = rw (t, l, ← s .answer) w; answersThen = rw (t, l) (s .answersThen); workThen = rw (t, l) (s .workThen) }
+        record {
+          text = rw (t, l, ← s .answer) w;
+          answersThen = rw (t, l) (s .answersThen);
+          workThen = rw (t, l) (s .workThen);
+        }
 
 -- ---- with long enough lists
 
 -- the text is what the program writes
 pub text-written : {b : List ℕ} {answers work : List Float} {out out′ : List ℕ} {r : ℕ} {answers′ work′ : List Float}
-    → Bytes b → 4096 ≤ length answers → 8192 ≤ length work → Runs b answers work out r answers′ work′ out′ → Writes out 0 (textIn b (length out)) out′ r
+    → Bytes b → enoughAnswers ≤ length answers → enoughWork ≤ length work
+    → Runs b answers work out r answers′ work′ out′ → Writes out 0 (textIn b (length out)) out′ r
 unfolding written textIn
 text-written {b} y a w p = rw (text-same b y a w) at (p .text)
 
 -- it stands in front of the list, whose rest is as it was
-pub text-in-front : (b out : List ℕ) {out′ : List ℕ} {r : ℕ} → textRoom ≤ length out → Writes out 0 (textIn b (length out)) out′ r
-    → (r ≡ length (textOf b)) × (out′ ≡ textOf b ++ drop r out)
+pub text-in-front : (b out : List ℕ) {out′ : List ℕ} {r : ℕ} → textRoom ≤ length out
+    → Writes out 0 (textIn b (length out)) out′ r → (r ≡ length (textOf b)) × (out′ ≡ textOf b ++ drop r out)
 unfolding textIn choose
 text-in-front b out room p =
     let e = rw (le-ltb (length out) textRoom room) at p in
-    let n = e .ends ∙ zero-add (length (textOf b)) in
-    (n, e .stored ∙ sets-eq (textOf b) out 0 (rw (zero-add, ← n) (omega (arith, e .within, e .long))) ∙ rw (zero-add, ← n))
+    let n = e .ends ∙ zero-add (length (textOf b)) in (
+      n,
+      e .stored
+          ∙ sets-eq (textOf b) out 0 (rw (zero-add, ← n) (omega (arith, e .within, e .long)))
+          ∙ rw (zero-add, ← n),
+    )

@@ -1,23 +1,35 @@
 -- What a run does with the lists that are lent to it. Definitions only.
-use Prim.Native.Nat.{ℕ}
+use Prim.Native.Nat.{ℕ, _+_, _*_, _≤_}
 use mathlib.Core.Path.{_≡_}
 use mathlib.Core.List.{List, []}
 use lib.Dec.{ltb}
 use lib.ListN.{length}
 use lib.Ieee.{Float}
-use Rattle.math.specs.Lists.{choose}
-use Rattle.scene.specs.declared.Walk.the-variants.{At}
-use Rattle.scene.specs.SceneOf.{sceneOf}
-use Rattle.scene.specs.Walk.{checked}
-use Rattle.iisph_rules.specs.declared.Report.{Report}
-use Rattle.iisph_rules.specs.Step.{reportOf}
+use Rattle.lists.specs.Lists.{choose}
+use Rattle.lists.specs.Stores.{Writes}
+use Rattle.scene_format.specs.SceneOf.{sceneOf}
+use Rattle.scene_format.specs.declared.Walk.the-variants.{At}
+use Rattle.scene_check.specs.Walk.{checked}
+use Rattle.iisph_lines.specs.Lines.{stepLine, clockLine, modelsText}
+use Rattle.scene_format.specs.Format.{axes, nameableModels}
+use Rattle.scene_format.specs.declared.Kind.the-variants.{Fluid, Boundary}
+use Rattle.scene_layout.specs.declared.Layout.{Layout}
+use Rattle.scene_lengths.specs.Lengths.{fluidAnswerWidth, answersIn}
 use Rattle.iisph_rules.specs.Answer.{answersAfter, workAfter}
-use Rattle.iisph_text.specs.Digits.{Writes}
+use Rattle.iisph_rules.specs.Step.{reportOf}
+use Rattle.iisph_rules.specs.declared.Report.{Report}
 use Rattle.iisph_text.specs.Text.{mostBytes, textWith, textOf}
 
--- room for every text: twice the bytes of the longest scene
+-- room for every text
 abbrev pub textRoom : ℕ
-textRoom = 65536
+textRoom = 2 * mostBytes
+
+-- answers and work of every scene that is read fit in lists of these lengths
+abbrev pub enoughAnswers : ℕ
+enoughAnswers = 4096
+
+abbrev pub enoughWork : ℕ
+enoughWork = 2 * enoughAnswers
 
 -- nothing is written, and no step taken, where the list for the text is shorter
 unfoldable pub written : List ℕ → ℕ → ℕ → ℕ → List ℕ
@@ -37,7 +49,26 @@ pub record Reported (b : List ℕ) (r : Report) : Type 0 where
   pub report : reportOf (sceneOf b) ≡ r
 
 -- on the bytes b, with lists for answers, work and text; the text's length is answered
-pub record Runs (b : List ℕ) (answers work : List Float) (out : List ℕ) (r : ℕ) (answers′ work′ : List Float) (out′ : List ℕ) : Type 0 where
+pub record Runs (b : List ℕ) (answers work : List Float) (out : List ℕ) (r : ℕ) (answers′ work′ : List Float)
+    (out′ : List ℕ) : Type 0 where
   pub text : Writes out 0 (written b (length answers) (length work) (length out)) out′ r
-  pub answersThen : answers′ ≡ ifStepped b (length out) (answersAfter b (length answers) (length work) answers) answers
+  pub answersThen :
+      answers′ ≡ ifStepped b (length out) (answersAfter b (length answers) (length work) answers) answers
   pub workThen : work′ ≡ ifStepped b (length out) (workAfter b (length answers) (length work) work) work
+
+-- ---- scaffolding: no promise rests on it
+
+-- where the answers of the boundaries begin
+abbrev pub behind : Layout → ℕ
+behind layout = fluidAnswerWidth axes * layout .fluids .total
+
+-- the lines of a step that is done read answers that are there, and have room
+pub record LinesReady (layout : Layout) (answers : List Float) (r : Report) (out : List ℕ) : Type 0 where
+  pub fewFluids : layout .fluids .number ≤ nameableModels
+  pub fewBoundaries : layout .boundaries .number ≤ nameableModels
+  pub fluids : answersIn Fluid (layout .fluids) ≤ length answers
+  pub boundaries : behind layout + answersIn Boundary (layout .boundaries) ≤ length answers
+  pub room : length (stepLine r) + length (clockLine (r .clock))
+      + (length (modelsText Fluid (layout .fluids) 0 answers)
+      + length (modelsText Boundary (layout .boundaries) (behind layout) answers))
+      ≤ length out

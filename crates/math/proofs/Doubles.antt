@@ -1,5 +1,5 @@
--- What the tests on doubles say: zeros, signs and not-a-numbers, by cases on the double. A double that a format holds is written in one way, so a zero is +0 or
--- -0 as data too. Assumes nothing.
+-- What the tests on doubles say: zeros, signs and not-a-numbers, by cases on the double. A double that a format holds
+-- is written in one way, so a zero is +0 or -0 as data too. Assumes nothing.
 use mathlib.Core.Path.{_≡_, refl, sym, ap, _∙_, subst}
 use Prim.Native.Nat.{ℕ, zero, suc, _+_, _*_, _%_, _^_, _≤_, _<_}
 use native.Mathlib.Nat.{mul-one, one-mul, zero-mul, mul-pos, pow-suc, zero-lt-suc}
@@ -62,7 +62,8 @@ magnitude-below nan h = absurd (true≢false (sym h))
 magnitude-below (inf true) h = refl
 magnitude-below (inf false) h = absurd (true≢false (sym h))
 magnitude-below (fin true m e) h = refl
-magnitude-below (fin false m e) h = absurd (none (m * up e * 1) (0 * 1 * down e) (zero-mul (down e)) (ltb→lt _ _ (holds _ h)))
+magnitude-below (fin false m e) h =
+    absurd (none (m * up e * 1) (0 * 1 * down e) (zero-mul (down e)) (ltb→lt _ _ (holds _ h)))
   where
     none : (a b : ℕ) → b ≡ 0 → a < b → ⊥
     none a b z l = omega arith
@@ -73,7 +74,8 @@ magnitude-above nan h k = refl
 magnitude-above (inf true) h k = absurd (true≢false k)
 magnitude-above (inf false) h k = refl
 magnitude-above (fin false m e) h k = refl
-magnitude-above (fin true m e) h k = absurd (go (m * up e * 1) (0 * 1 * down e) (zero-mul (down e)) (fails _ h) (fails _ k))
+magnitude-above (fin true m e) h k =
+    absurd (go (m * up e * 1) (0 * 1 * down e) (zero-mul (down e)) (fails _ h) (fails _ k))
   where
     go : (a b : ℕ) → b ≡ 0 → T (not (eqb a b && (false || eqb a 0))) → T (not (ltb 0 (a + b))) → ⊥
     go zero b z n l = subst (λ (y : ℕ). T (not (eqb 0 y && (false || true)))) z n

@@ -1,3 +1,2 @@
-pub mod Lists
 pub mod Vectors
 pub mod Doubles

@@ -1,4 +1,5 @@
--- The length of vectors: every operation on vectors of d axes gives a vector of d axes. By the length of zipped and mapped lists. Assumes nothing.
+-- The length of vectors: every operation on vectors of d axes gives a vector of d axes. By the length of zipped and
+-- mapped lists. Assumes nothing.
 use Prim.Native.Nat.{ℕ, suc}
 use mathlib.Core.Path.{_≡_, refl, ap, _∙_}
 use mathlib.Core.List.{[], _∷_, zipWith}

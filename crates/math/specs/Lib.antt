@@ -1,3 +1,2 @@
 pub mod Real
 pub mod Vector
-pub mod Lists

@@ -1,9 +1,11 @@
--- Doubles (the Rust's `Real`): by their 64 bits, the operations that round once, to the nearest, ties to even, under short names, and the
--- tests and choices that the solver makes. Definitions only.
+-- Doubles (the Rust's `Real`): by their 64 bits, the operations that round once, to the nearest, ties to even, under
+-- short names, and the tests and choices that the solver makes. Definitions only.
 use Prim.Native.Nat.{ℕ}
 use mathlib.Core.Bool.{Bool, false, cond}
+use mathlib.Core.List.{List}
 use lib.Ieee
 use lib.Ieee.{Float, nan, inf, fin, binary64}
+use Rattle.lists.specs.Lists.{fold}
 
 infixl 65 _⊕_ _⊖_
 infixl 70 _⊗_ _⊘_
@@ -59,3 +61,7 @@ larger x y = cond (Ieee.lt x y) y x
 -- x if it is above 0; anything else, not-a-number included, is +0
 abbrev pub clamp : Float → Float
 clamp x = cond (Ieee.lt +0 x) x +0
+
+-- the running sum from a on, in the list's order
+abbrev pub total : Float → List Float → Float
+total a xs = fold _⊕_ a xs

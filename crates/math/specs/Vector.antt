@@ -1,10 +1,10 @@
--- Vectors: a double for each axis, so that the number of axes is a parameter; nalgebra's few operations as document 01 fixes them. Definitions only.
+-- Vectors: a double for each axis, so that the number of axes is a parameter; nalgebra's few operations, in its
+-- order of rounding. Definitions only.
 use Prim.Native.Nat.{ℕ}
 use mathlib.Core.List.{List, [], _∷_, map, zipWith}
 use lib.ListN.{replicate}
 use lib.Ieee.{Float}
-use Rattle.math.specs.Real.{_⊕_, _⊖_, _⊗_, +0}
-use Rattle.math.specs.Lists.{total}
+use Rattle.math.specs.Real.{_⊕_, _⊖_, _⊗_, +0, total}
 use Rattle.math.specs.declared.Vec3.{Vec3}
 
 infixl 65 _⊞_ _⊟_
@@ -34,6 +34,6 @@ added (x ∷ xs) = total x xs
 unfoldable pub _·_ : Vector → Vector → Float
 u · v = added (zipWith _⊗_ u v)
 
--- the axes of a vector of the code
-abbrev pub axes : Vec3 → Vector
-axes v = v .x ∷ v .y ∷ v .z ∷ []
+-- a vector of the code, as the list of its coordinates
+abbrev pub coordinates : Vec3 → Vector
+coordinates v = v .x ∷ v .y ∷ v .z ∷ []

@@ -2,7 +2,7 @@
 // Every operation rounds once, in the order written; nothing is reassociated.
 ghost use mathlib.Core.Path.{_≡_};
 ghost use Rattle.math.specs.Real as Real;
-ghost use Rattle.math.specs.Vector.{axes, origin, _⊞_, _⊟_, _⊡_, _·_};
+ghost use Rattle.math.specs.Vector.{coordinates, origin, _⊞_, _⊟_, _⊡_, _·_};
 
 // A vector of three axes.
 pub struct Vec3 {
@@ -13,7 +13,7 @@ pub struct Vec3 {
 
 impl Vec3 {
     pub fn zero() -> Vec3
-        ensures { λ r. ⌜ axes r ≡ origin 3 ⌝ }
+        ensures { λ r. ⌜ coordinates r ≡ origin 3 ⌝ }
     {
         Vec3 {
             x: 0.0,
@@ -23,7 +23,7 @@ impl Vec3 {
     }
 
     pub fn add(self, b: Vec3) -> Vec3
-        ensures { λ r. ⌜ axes r ≡ axes self ⊞ axes b ⌝ }
+        ensures { λ r. ⌜ coordinates r ≡ coordinates self ⊞ coordinates b ⌝ }
     {
         Vec3 {
             x: self.x + b.x,
@@ -33,7 +33,7 @@ impl Vec3 {
     }
 
     pub fn sub(self, b: Vec3) -> Vec3
-        ensures { λ r. ⌜ axes r ≡ axes self ⊟ axes b ⌝ }
+        ensures { λ r. ⌜ coordinates r ≡ coordinates self ⊟ coordinates b ⌝ }
     {
         Vec3 {
             x: self.x - b.x,
@@ -43,7 +43,7 @@ impl Vec3 {
     }
 
     pub fn scale(self, k: f64) -> Vec3
-        ensures { λ r. ⌜ axes r ≡ axes self ⊡ k ⌝ }
+        ensures { λ r. ⌜ coordinates r ≡ coordinates self ⊡ k ⌝ }
     {
         Vec3 {
             x: self.x * k,
@@ -53,7 +53,7 @@ impl Vec3 {
     }
 
     pub fn dot(self, b: Vec3) -> f64
-        ensures { λ r. ⌜ r ≡ axes self · axes b ⌝ }
+        ensures { λ r. ⌜ r ≡ coordinates self · coordinates b ⌝ }
     {
         self.x * b.x + self.y * b.y + self.z * b.z
     }

@@ -1,9 +1,21 @@
--- A finite double is a whole number of units 2 ^ -1074, which is its `count` (specs/Exact.antt): a double has no deeper exponent, so the division in `count` is
--- exact. A finite double that is at least 0 is -0, or the fraction of its count. Assumes nothing.
+-- A finite double is a whole number of units 2 ^ -1074, its `count`: a double has no deeper exponent, so the division
+-- in `count` is exact. A finite double that is at least 0 is -0, or the fraction of its count. Assumes nothing.
 use mathlib.Core.Path.{_≡_, refl, sym, ap, _∙_, subst}
 use Prim.Native.Nat.{ℕ, zero, suc, _+_, _-_, _*_, _/_, _%_, _^_, _≤_, _<_, zero-le}
-use native.Mathlib.Nat.{le-trans, le-of-eq, le-of-suc-le-suc, lt-of-not-le, not-le-of-lt, mul-le-mul-right}
-use native.Mathlib.Nat.{mul-one, one-mul, zero-mul, mul-assoc, mul-div-cancel, div-one}
+use native.Mathlib.Nat.{
+  le-trans,
+  le-of-eq,
+  le-of-suc-le-suc,
+  lt-of-not-le,
+  not-le-of-lt,
+  mul-le-mul-right,
+  mul-one,
+  one-mul,
+  zero-mul,
+  mul-assoc,
+  mul-div-cancel,
+  div-one,
+}
 use native.Mathlib.Omega.{arith}
 use mathlib.Core.Bool.{Bool, true, false, _&&_, _||_}
 use lib.IntN.{ℤ, pos, negsuc}
@@ -39,19 +51,22 @@ exact x (negsuc k) l h = divides x (suc k) l h
 pub not-deep : (s : Bool) (m : ℕ) (e : ℤ) → T (fits binary64 (fin s m e)) → down e ≤ unit
 unfolding fits
 not-deep s zero e t =
-    let l : down e ≤ up e * down e = le-trans (le-of-eq (sym (one-mul (down e)))) (mul-le-mul-right (down e) (up-pos e)) in
+    let l : down e ≤ up e * down e =
+    le-trans (le-of-eq (sym (one-mul (down e)))) (mul-le-mul-right (down e) (up-pos e)) in
     le-trans l (le-trans (le-of-eq (eqb→eq (up e * down e) 1 t)) (lit≤ tt))
 not-deep s (suc m) e t =
     let a : Bool = eqb (suc m % 2) 1 && ltb (suc m) (2 ^ 53) in
     let b : Bool = leb (down e) unit in
     leb→le (down e) unit (and-r a b (and-l (a && b) (ltb (suc m * up e) (2 ^ 1024 * down e)) t))
 
-pub count-value : (s : Bool) (m : ℕ) (e : ℤ) → T (fits binary64 (fin s m e)) → HasValue (fin s m e) s (count (fin s m e)) unit
+pub count-value : (s : Bool) (m : ℕ) (e : ℤ) → T (fits binary64 (fin s m e))
+    → HasValue (fin s m e) s (count (fin s m e)) unit
 count-value s m e t = (refl, sym (exact (m * up e) e 1074 (not-deep s m e t)))
 
 -- no other number of units is the double
 pub count-is : (x : Float) (s : Bool) (a : ℕ) → HasValue x s a unit → count x ≡ a
-count-is x s a h = at-fraction (λ x. count x ≡ a) x s a unit h (λ m e v. ap (λ z. z / down e) v ∙ mul-div-cancel a (down-pos e))
+count-is x s a h =
+    at-fraction (λ x. count x ≡ a) x s a unit h (λ m e v. ap (λ z. z / down e) v ∙ mul-div-cancel a (down-pos e))
 
 -- ---- a fraction is finite, has its count, and lies on its side of 0
 
@@ -62,7 +77,8 @@ pub fraction-count : {m : Bool} {x : Float} {a : ℕ} → Fraction m x a unit �
 fraction-count {x = x} {a} X = count-is x (X .sign) a (X .value)
 
 pub at-least-zero : {x : Float} {a c : ℕ} → 0 < c → Fraction false x a c → T (le +0 x)
-at-least-zero {x} {a} {c} C X = le-of-values +0 x 0 1 a c (lit< tt) C (value-of zero-fraction) (value-of X) (rw (zero-mul c) zero-le)
+at-least-zero {x} {a} {c} C X =
+    le-of-values +0 x 0 1 a c (lit< tt) C (value-of zero-fraction) (value-of X) (rw (zero-mul c) zero-le)
 
 -- minus a is at most 0, as `le` tests it
 minus-under : (a b : ℕ) → b ≡ 0 → T (ltb 0 (a + b) || (eqb a b && (false || eqb a 0)))
@@ -74,8 +90,11 @@ unfolding le ofBits
 at-most-zero {x} {a} {c} C X = go (X .sign) (X .signed) (X .value)
   where
     go : (s : Bool) → Signed true s a → HasValue x s a c → T (le x +0)
-    go true h v = at-fraction (λ x. T (le x +0)) x true a c v (λ m e w. minus-under (m * up e * 1) (0 * 1 * down e) (zero-mul (down e)))
-    go false h v = le-of-values x +0 a c 0 1 C (lit< tt) v (value-of zero-fraction) (le-of-eq (rw (h refl) (sym (zero-mul c))))
+    go true h v =
+        at-fraction (λ x. T (le x +0)) x true a c v
+        (λ m e w. minus-under (m * up e * 1) (0 * 1 * down e) (zero-mul (down e)))
+    go false h v =
+        le-of-values x +0 a c 0 1 C (lit< tt) v (value-of zero-fraction) (le-of-eq (rw (h refl) (sym (zero-mul c))))
 
 -- ---- a finite double that is at least 0
 
@@ -88,7 +107,8 @@ unfolding le ofBits
 minus-zero-or-fraction P z p nan t i h = absurd i
 minus-zero-or-fraction P z p (inf s) t i h = absurd i
 minus-zero-or-fraction P z p (fin false m e) t i h = p (fin false m e) (fraction (count-value false m e t))
-minus-zero-or-fraction P z p (fin true m e) t i h = subst P (sym (zero-is true m e t (none (m * up e) (0 * 1 * down e) (zero-mul (down e)) h))) z
+minus-zero-or-fraction P z p (fin true m e) t i h =
+    subst P (sym (zero-is true m e t (none (m * up e) (0 * 1 * down e) (zero-mul (down e)) h))) z
   where
     none : (a b : ℕ) → b ≡ 0 → T (eqb b (a * 1) && (false || eqb b 0)) → a ≡ 0
     none a b z t = let q : b ≡ a * 1 = eqb→eq b (a * 1) (and-l (eqb b (a * 1)) (false || eqb b 0) t) in omega arith

@@ -1,5 +1,5 @@
--- Whole numbers that are at most d apart (`Near` of specs/Exact.antt): the distance may be weakened, and both may be multiplied by a number, or freed of one.
--- Each half is a law of ≤. Assumes nothing.
+-- Whole numbers that are at most d apart (`Near` of specs/Exact.antt): the distance may be weakened, and both may be
+-- multiplied by a number, or freed of one. Each half is a law of ≤. Assumes nothing.
 use mathlib.Core.Path.{_≡_}
 use Prim.Native.Nat.{ℕ, _+_, _-_, _*_, _≤_, _<_}
 use native.Mathlib.Nat.{add-mul, mul-sub, mul-comm, mul-le-mul-right, le-of-mul-le-mul-right}

@@ -1,10 +1,43 @@
--- The law of rounding: a result of magnitude at most 2 ^ b is within 2 ^ (b - 54) of the exact value, with the subnormal floor. `round` keeps the leading
--- digits: below the bound it drops few of them and moves to the nearest multiple, and the bound itself it keeps. Assumes nothing.
+-- The law of rounding: a result of magnitude at most 2 ^ b is within 2 ^ (b - 54) of the exact value, or half a unit.
+-- `round` drops few digits of what is below the bound, and keeps the bound itself. Assumes nothing.
 use mathlib.Core.Path.{_≡_, refl, sym, ap, _∙_, subst}
 use mathlib.Core.Logic.{inl, inr}
-use Prim.Native.Nat.{ℕ, zero, suc, _+_, _-_, _*_, _/_, _%_, _^_, _≤_, _<_, compare, Ordering, Ordering·lt, Ordering·eq, Ordering·gt}
-use native.Mathlib.Nat.{le-refl, le-trans, le-of-eq, le-of-lt, lt-of-le-of-lt, eq-or-lt-of-le, suc-mul, mul-assoc, mul-right-comm, mul-pos}
-use native.Mathlib.Nat.{mul-le-mul-left, mul-le-mul-right, div-add-mod', mod-lt, div-lt-iff-lt-mul, div-div-eq-div-mul}
+use Prim.Native.Nat.{
+  ℕ,
+  zero,
+  suc,
+  _+_,
+  _-_,
+  _*_,
+  _/_,
+  _%_,
+  _^_,
+  _≤_,
+  _<_,
+  compare,
+  Ordering,
+  Ordering·lt,
+  Ordering·eq,
+  Ordering·gt,
+}
+use native.Mathlib.Nat.{
+  le-refl,
+  le-trans,
+  le-of-eq,
+  le-of-lt,
+  lt-of-le-of-lt,
+  eq-or-lt-of-le,
+  suc-mul,
+  mul-assoc,
+  mul-right-comm,
+  mul-pos,
+  mul-le-mul-left,
+  mul-le-mul-right,
+  div-add-mod',
+  mod-lt,
+  div-lt-iff-lt-mul,
+  div-div-eq-div-mul,
+}
 use native.Mathlib.Omega.{arith}
 use mathlib.Core.Bool.{Bool, not}
 use lib.Dec.{T, isLe, isEq, eqb, leb→le, nleb→lt, eqb→eq, eqb-refl}
@@ -20,9 +53,10 @@ use Rattle.rounding.specs.Exact.{Near}
 use Rattle.rounding.proofs.Near.{near-weak}
 use Rattle.rounding.proofs.Fractions.{same-fraction}
 
--- In every format, and on whole numbers alone. A unit is the smallest positive value, 2 ^ -low. num / den, which is num * 2 ^ low / den units, is at most
--- 2 ^ (prec + i) units, so 2 ^ b is 2 ^ (prec + i - low); the error is at most half of 2 ^ i units, so 2 ^ (b - prec - 1), and for a double 2 ^ (b - 54).
--- That i is a whole number is the subnormal floor: no bound is below half a unit. The result is also at most double the exact value.
+-- In every format, and on whole numbers alone. A unit is the smallest positive value, 2 ^ -low. num / den, which is num
+-- * 2 ^ low / den units, is at most 2 ^ (prec + i) units, so 2 ^ b is 2 ^ (prec + i - low); the error is at most half
+-- of 2 ^ i units, so 2 ^ (b - prec - 1), and for a double 2 ^ (b - 54). That i is a whole number is the subnormal
+-- floor: no bound is below half a unit. The result is also at most double the exact value.
 pub record RoundedNear (f : Format) (s : Bool) (num den i : ℕ) : Type 0 where
   pub units : ℕ
   pub value : HasValue (round f s num den) s units (2 ^ low f)
@@ -40,7 +74,8 @@ Compared Ordering·gt a b = b < a
 compared : (a b : ℕ) → Compared (compare a b) a b
 compared a b = go (compare a b) (leb→le a b) (nleb→lt a b) (eqb→eq a b) (λ e. subst (λ x. T (eqb a x)) e (eqb-refl a))
   where
-    go : (o : Ordering) → (T (isLe o) → a ≤ b) → (T (not (isLe o)) → b < a) → (T (isEq o) → a ≡ b) → (a ≡ b → T (isEq o)) → Compared o a b
+    go : (o : Ordering) → (T (isLe o) → a ≤ b) → (T (not (isLe o)) → b < a) → (T (isEq o) → a ≡ b)
+        → (a ≡ b → T (isEq o)) → Compared o a b
     go Ordering·lt h k e n = lt-of-le-ne (h tt) n
     go Ordering·eq h k e n = e tt
     go Ordering·gt h k e n = k tt
@@ -73,7 +108,8 @@ nearest-of w a b r Ordering·eq e c l = go (w % 2) refl
 nearest-of w a b r Ordering·gt e c l = moves w a b r e (le-of-lt c) l
 
 closest-nearest : (a b : ℕ) → 0 < b → Nearest (closest a b) a b
-closest-nearest a b B = nearest-of (a / b) a b (a % b) (compare (a % b * 2) b) (div-add-mod' a b) (compared (a % b * 2) b) (mod-lt a B)
+closest-nearest a b B =
+    nearest-of (a / b) a b (a % b) (compare (a % b * 2) b) (div-add-mod' a b) (compared (a % b * 2) b) (mod-lt a B)
 
 -- ---- `round`, where nothing overflows
 
@@ -81,7 +117,8 @@ kept-le : (p n den : ℕ) → kept p n den ≤ 2 ^ p
 kept-le p n den =
     let k = drop p n den in
     let u = den * 2 ^ k in
-    le-trans (nearest-le (n / u) (compare (n % u * 2) u)) (subst (λ x. x < 2 ^ p) (div-div-eq-div-mul n den (2 ^ k)) (kept-lt p (n / den)))
+    le-trans (nearest-le (n / u) (compare (n % u * 2) u))
+    (subst (λ x. x < 2 ^ p) (div-div-eq-div-mul n den (2 ^ k)) (kept-lt p (n / den)))
 
 module _ (f : Format) (s : Bool) (num den i : ℕ) (D : 0 < den) (room : prec f + i < low f + suc (emax f)) where
   below-top : num * 2 ^ low f < 2 ^ (prec f + i) * den → RoundedNear f s num den i
@@ -93,7 +130,8 @@ module _ (f : Format) (s : Bool) (num den i : ℕ) (D : 0 < den) (room : prec f 
       let K : k ≤ i = spare (size (n / den)) p (size-le (n / den) (p + i) (div-lt-iff-lt-mul D .1 h)) in
       let N = closest-nearest n (den * 2 ^ k) (mul-pos D (pow-pos k)) in
       let e : g * (den * 2 ^ k) ≡ g * 2 ^ k * den = sym (mul-assoc g den (2 ^ k)) ∙ mul-right-comm g den (2 ^ k) in
-      let t : g * 2 ^ k ≤ 2 ^ (p + i) = le-trans (mul-le-mul-right (2 ^ k) (kept-le p n den)) (rw (← pow-add 2 p k) (pow-mono (more p k K))) in
+      let t : g * 2 ^ k ≤ 2 ^ (p + i) =
+      le-trans (mul-le-mul-right (2 ^ k) (kept-le p n den)) (rw (← pow-add 2 p k) (pow-mono (more p k K))) in
       record {
         units = g * 2 ^ k;
         value = rw round-is (units-val f s g k (lt-of-le-of-lt t (pow-lt room)));

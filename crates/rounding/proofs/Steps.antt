@@ -1,9 +1,20 @@
--- One rounded operation on doubles that are counted in units of the smallest positive double: the count of the result, a bound on it, and how far it is from the
--- exact result. Each is the law of rounding (proofs/Rounding.antt) at the operation's exact result (proofs/Fractions.antt). Assumes nothing.
+-- One rounded operation on doubles counted in units of the smallest positive one: the count of the result, a bound on
+-- it, and how far it is from the exact result. By the law of Rounding at what Fractions gives. Assumes nothing.
 use mathlib.Core.Path.{_≡_, subst}
 use Prim.Native.Nat.{ℕ, suc, _+_, _-_, _*_, _^_, _≤_, _<_}
-use native.Mathlib.Nat.{mul-comm, mul-assoc, mul-left-comm, mul-right-comm, zero-mul, mul-one, mul-pos, mul-le-mul-right, le-of-mul-le-mul-right}
-use native.Mathlib.Nat.{pow-suc, zero-lt-suc}
+use native.Mathlib.Nat.{
+  mul-comm,
+  mul-assoc,
+  mul-left-comm,
+  mul-right-comm,
+  zero-mul,
+  mul-one,
+  mul-pos,
+  mul-le-mul-right,
+  le-of-mul-le-mul-right,
+  pow-suc,
+  zero-lt-suc,
+}
 use native.Mathlib.Omega.{arith}
 use mathlib.Core.Bool.{Bool, true, false}
 use lib.Arith.{le-zero}
@@ -11,10 +22,19 @@ use lib.Pow.{pow-add, pow-pos}
 use lib.Ieee.{Float, Format, prec, emax, low, add, sub, mul}
 use Rattle.rounding.specs.Exact.{Near}
 use Rattle.rounding.proofs.Near.{near-times, near-cancel}
-use Rattle.rounding.proofs.Fractions.{Signed, Fraction, Rounded, mul-rounded, add-rounded, sub-rounded, sub-rounded-under}
+use Rattle.rounding.proofs.Fractions.{
+  Signed,
+  Fraction,
+  Rounded,
+  mul-rounded,
+  add-rounded,
+  sub-rounded,
+  sub-rounded-under,
+}
 use Rattle.rounding.proofs.Rounding.{RoundedNear, round-near}
 
--- A format of 53 digits, of which u units make 1, and w units a grain, 2 ^ -57. They are variables, so that nothing computes with 2 ^ 1074.
+-- A format of 53 digits, of which u units make 1, and w units a grain, 2 ^ -57. They are variables, so that nothing
+-- computes with 2 ^ 1074.
 pub record Scale (f : Format) (u w : ℕ) : Type 0 where
   pub exponent : ℕ
   pub unit-is : 2 ^ low f ≡ u
@@ -23,8 +43,8 @@ pub record Scale (f : Format) (u w : ℕ) : Type 0 where
   pub digits : prec f ≡ 53
   pub room : 60 + exponent < low f + suc (emax f)
 
--- One operation: x is `count` units, or minus that where m is true, and v / c units is the exact result. A result of at most 2 ^ (j - 3), which is 2 ^ (54 + j)
--- grains, is off by at most 2 ^ j grains.
+-- One operation: x is `count` units, or minus that where m is true, and v / c units is the exact result. A result of at
+-- most 2 ^ (j - 3), which is 2 ^ (54 + j) grains, is off by at most 2 ^ j grains.
 pub record Step (u w : ℕ) (m : Bool) (x : Float) (v c j : ℕ) : Type 0 where
   pub count : ℕ
   pub is : Fraction m x count u
@@ -60,21 +80,29 @@ module _ {f : Format} {u w : ℕ} (S : Scale f u w) where
 
   error-is : (den j : ℕ) → den * 2 ^ index j ≡ 2 ^ j * w * den * 2
   unfolding index
-  error-is den j = rw (pow-add 2 (suc j) (S .exponent), S .grain-is, pow-suc) (simp (mul-assoc, mul-comm, mul-left-comm))
+  error-is den j =
+      rw (pow-add 2 (suc j) (S .exponent), S .grain-is, pow-suc) (simp (mul-assoc, mul-comm, mul-left-comm))
 
   -- of num / den, which is v / c units
-  in-grains : {m : Bool} {x : Float} {num den : ℕ} (v c j : ℕ) (R : Rounded f m x num den) → RoundedNear f (R .sign) num den (index j) → 0 < den
-      → num * u * c ≡ v * den → Step u w m x v c j
+  in-grains : {m : Bool} {x : Float} {num den : ℕ} (v c j : ℕ) (R : Rounded f m x num den)
+      → RoundedNear f (R .sign) num den (index j) → 0 < den → num * u * c ≡ v * den → Step u w m x v c j
   in-grains {m} {x} {num} {den} v c j R N D e =
       let g = N .units in
       let t = 2 ^ j * w in
-      let near : Near (g * den) (num * u) (t * den) = halve (g * den) (num * u) (den * 2 ^ index j) (t * den) (error-is den j) (rw (S .unit-is) at (N .near)) in
+      let near : Near (g * den) (num * u) (t * den) =
+      halve (g * den) (num * u) (den * 2 ^ index j) (t * den) (error-is den j) (rw (S .unit-is) at (N .near)) in
       let double : g * den ≤ num * u * 2 = rw (S .unit-is) at (N .double) in
-      let near-c : Near (g * c * den) (v * den) (t * c * den) = rw (mul-right-comm g c den, ← e, mul-right-comm t c den) (near-times (t * den) c near) in
+      let near-c : Near (g * c * den) (v * den) (t * c * den) =
+      rw (mul-right-comm g c den, ← e, mul-right-comm t c den) (near-times (t * den) c near) in
       let double-c : g * den * c ≤ num * u * c * 2 = rw (mul-right-comm (num * u) 2 c) at (mul-le-mul-right c double) in
       record {
         count = g;
-        is = record { sign = R .sign; signed = signed m (R .signed); value = rw (R .is) (rw (S .unit-is) at (N .value)) };
+        is =
+            record {
+              sign = R .sign;
+              signed = signed m (R .signed);
+              value = rw (R .is) (rw (S .unit-is) at (N .value));
+            };
         top = rw (top-is j) at (N .top);
         near = rw (← mul-assoc (2 ^ j) w c) (near-cancel (g * c) v (t * c) den D near-c);
         double = le-of-mul-le-mul-right (rw (mul-right-comm g c den, mul-right-comm v 2 den, ← e) double-c) D;
@@ -88,17 +116,20 @@ module _ {f : Format} {u w : ℕ} (S : Scale f u w) where
       signed false h = h
       signed true h = λ z. le-zero (le-of-mul-le-mul-right (simp zero-mul (simp (h z, zero-mul) at (N .double))) D)
 
-  step : {m : Bool} {x : Float} {num den : ℕ} (v c j : ℕ) → Rounded f m x num den → 0 < den → 0 < c → j ≤ 6 → num * u * c ≡ v * den → v ≤ 2 ^ (54 + j) * w * c
-      → Step u w m x v c j
+  step : {m : Bool} {x : Float} {num den : ℕ} (v c j : ℕ) → Rounded f m x num den → 0 < den → 0 < c → j ≤ 6
+      → num * u * c ≡ v * den → v ≤ 2 ^ (54 + j) * w * c → Step u w m x v c j
   unfolding index
   step {num = num} {den} v c j R D C k e l =
-      in-grains v c j R (round-near f (R .sign) num den (index j) D (under (prec f) (low f + suc (emax f)) (S .digits) (S .room)) top) D e
+      let room = under (prec f) (low f + suc (emax f)) (S .digits) (S .room) in
+      in-grains v c j R (round-near f (R .sign) num den (index j) D room top) D e
     where
       under : (p z : ℕ) → p ≡ 53 → 60 + S .exponent < z → p + (suc j + S .exponent) < z
       under p z h g = omega arith
 
       top : num * 2 ^ low f ≤ 2 ^ (prec f + index j) * den
-      top = rw (S .unit-is, top-is j) (le-of-mul-le-mul-right (rw (e, mul-right-comm (2 ^ (54 + j) * w) den c) (mul-le-mul-right den l)) C)
+      top =
+          rw (S .unit-is, top-is j)
+          (le-of-mul-le-mul-right (rw (e, mul-right-comm (2 ^ (54 + j) * w) den c) (mul-le-mul-right den l)) C)
 
   -- where the exact result is v units
   whole : {m : Bool} {x : Float} {v : ℕ} (j : ℕ) → Rounded f m x v u → j ≤ 6 → v ≤ 2 ^ (54 + j) * w → Step u w m x v 1 j
@@ -106,22 +137,24 @@ module _ {f : Format} {u w : ℕ} (S : Scale f u w) where
 
   -- ---- the operations: each asks for a bound on its exact result
 
-  pub mul-units : {m : Bool} {x y : Float} {a b : ℕ} (j : ℕ) → Fraction m x a u → Fraction false y b u → j ≤ 6 → a * b ≤ 2 ^ (54 + j) * w * u
-      → Step u w m (mul f x y) (a * b) u j
-  mul-units {a = a} {b} j X Y k l = step (a * b) u j (mul-rounded f unit-pos unit-pos X Y) (mul-pos unit-pos unit-pos) unit-pos k (mul-assoc (a * b) u u) l
+  pub mul-units : {m : Bool} {x y : Float} {a b : ℕ} (j : ℕ) → Fraction m x a u → Fraction false y b u → j ≤ 6
+      → a * b ≤ 2 ^ (54 + j) * w * u → Step u w m (mul f x y) (a * b) u j
+  mul-units {a = a} {b} j X Y k l =
+      let R = mul-rounded f unit-pos unit-pos X Y in
+      step (a * b) u j R (mul-pos unit-pos unit-pos) unit-pos k (mul-assoc (a * b) u u) l
 
-  pub mul-number : {m : Bool} {x y : Float} {a b : ℕ} (j : ℕ) → Fraction m x a u → Fraction false y b 1 → j ≤ 6 → a * b ≤ 2 ^ (54 + j) * w
-      → Step u w m (mul f x y) (a * b) 1 j
+  pub mul-number : {m : Bool} {x y : Float} {a b : ℕ} (j : ℕ) → Fraction m x a u → Fraction false y b 1 → j ≤ 6
+      → a * b ≤ 2 ^ (54 + j) * w → Step u w m (mul f x y) (a * b) 1 j
   mul-number j X Y k l = whole j (rw (mul-one u) at (mul-rounded f unit-pos (zero-lt-suc 0) X Y)) k l
 
-  pub add-units : {x y : Float} {a b : ℕ} (j : ℕ) → Fraction false x a u → Fraction true y b u → b ≤ a → j ≤ 6 → a - b ≤ 2 ^ (54 + j) * w
-      → Step u w false (add f x y) (a - b) 1 j
+  pub add-units : {x y : Float} {a b : ℕ} (j : ℕ) → Fraction false x a u → Fraction true y b u → b ≤ a → j ≤ 6
+      → a - b ≤ 2 ^ (54 + j) * w → Step u w false (add f x y) (a - b) 1 j
   add-units j X Y o k l = whole j (add-rounded f unit-pos o X Y) k l
 
-  pub sub-units : {x y : Float} {a b : ℕ} (j : ℕ) → Fraction false x a u → Fraction false y b u → b ≤ a → j ≤ 6 → a - b ≤ 2 ^ (54 + j) * w
-      → Step u w false (sub f x y) (a - b) 1 j
+  pub sub-units : {x y : Float} {a b : ℕ} (j : ℕ) → Fraction false x a u → Fraction false y b u → b ≤ a → j ≤ 6
+      → a - b ≤ 2 ^ (54 + j) * w → Step u w false (sub f x y) (a - b) 1 j
   sub-units j X Y o k l = whole j (sub-rounded f unit-pos o X Y) k l
 
-  pub sub-units-under : {x y : Float} {a b : ℕ} (j : ℕ) → Fraction false x a u → Fraction false y b u → a ≤ b → j ≤ 6 → b - a ≤ 2 ^ (54 + j) * w
-      → Step u w true (sub f x y) (b - a) 1 j
+  pub sub-units-under : {x y : Float} {a b : ℕ} (j : ℕ) → Fraction false x a u → Fraction false y b u → a ≤ b → j ≤ 6
+      → b - a ≤ 2 ^ (54 + j) * w → Step u w true (sub f x y) (b - a) 1 j
   sub-units-under j X Y o k l = whole j (sub-rounded-under f unit-pos o X Y) k l

@@ -1,4 +1,5 @@
--- Doubles as whole numbers: a finite double is a whole multiple of 2 ^ -1074, so an exact statement about doubles is one about whole numbers. Definitions only.
+-- Doubles as whole numbers: a finite double is a whole multiple of 2 ^ -1074, so an exact statement about doubles is
+-- one about whole numbers. Definitions only.
 use Prim.Native.Nat.{ℕ, _+_, _*_, _/_, _^_, _≤_}
 use lib.Ieee.{Float, nan, inf, fin, up, down}
 

@@ -1,4 +1,4 @@
--- The clock (document 01, module 2; the Rust's `TimestepManager::advance`). Definitions only.
+-- The clock (METHOD 2; the Rust's `TimestepManager::advance`). Definitions only.
 use mathlib.Core.Bool.{cond}
 use lib.Ieee.{Float}
 use Rattle.math.specs.Real.{_⊖_, _⊘_, +0, one, isZero}

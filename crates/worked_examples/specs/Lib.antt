@@ -1,4 +1,6 @@
 pub mod Row
+pub mod Scenes
+pub mod RefusalRows
 pub mod Starred
 pub mod Further
 pub mod Rows

@@ -1,5 +1,5 @@
--- What a worked example is, and what it says of the definitions. Doubles are given by their 64 bits, not-a-number as 7FF8000000000000.
--- Definitions only.
+-- What a worked example is, and what it says of the definitions. A double is given by its 64 bits, every not-a-number
+-- by 7FF8000000000000. Definitions only.
 use Prim.Native.Nat.{ℕ, _+_, _-_}
 use mathlib.Core.Path.{_≡_}
 use mathlib.Core.Bool.{false}
@@ -8,8 +8,10 @@ use lib.ListN.{length, replicate}
 use lib.Ieee.{Float}
 use Rattle.math.specs.Real.{bits}
 use Rattle.cubic_spline.specs.Rows as kernel
-use Rattle.scene.specs.declared.Refusal.{Refusal}
-use Rattle.scene.specs.SceneOf.{sceneOf}
+use Rattle.scene_format.specs.SceneOf.{sceneOf}
+use Rattle.scene_format.specs.declared.Refusal.{Refusal}
+use Rattle.scene_format.specs.declared.Walk.{Walk}
+use Rattle.scene_check.specs.Walk.{checked}
 use Rattle.iisph_rules.specs.Coefficients as rules
 use Rattle.iisph_rules.specs.Coefficients.{Coefficients, boundaryVolume}
 use Rattle.iisph_rules.specs.Answer.{stepAnswer, answersAfter, workAfter}
@@ -23,9 +25,12 @@ use Rattle.iisph_rules.specs.declared.StepAnswer.the-variants.{Done, Refused}
 pub data Row : Type 0 where
   -- a value of the kernel's shapes
   shape : kernel.Row → Row
+  -- a packed scene, and what the check's walk says of it: where it ends, or a refusal
+  checks : List ℕ → Walk → Row
   -- a packed scene that is accepted, its report, its answers, and how many doubles of work it needs
   done : List ℕ → Report → List ℕ → ℕ → Row
-  -- a packed scene that is refused, with an answer and a work list of these lengths, and how many doubles of work are cleared
+  -- a packed scene that is refused, with an answer and a work list of these lengths, and how many doubles of work are
+  -- cleared
   refused : List ℕ → ℕ → ℕ → Refusal → ℕ → Row
   -- the coefficients of a packed scene's fluid particles
   before : List ℕ → List Coefficients → Row
@@ -36,14 +41,21 @@ pub data Row : Type 0 where
 unfoldable pub report : Ending → ℕ → ℕ → ℕ → ℕ → Report
 report ending iterations dt inv remaining =
     record {
-      clock = record { «total_step_size» = bits dt; dt = bits dt; «inv_dt» = bits inv; «remaining_time» = bits remaining };
+      clock =
+          record {
+            «total_step_size» = bits dt;
+            dt = bits dt;
+            «inv_dt» = bits inv;
+            «remaining_time» = bits remaining;
+          };
       iterations = iterations;
       ending = ending;
     }
 
 -- density, predicted density, dii, aii
 unfoldable pub coefficients : ℕ → ℕ → List ℕ → ℕ → Coefficients
-coefficients density predicted dii aii = record { density = bits density; predictedDensity = bits predicted; dii = map bits dii; aii = bits aii }
+coefficients density predicted dii aii =
+    record { density = bits density; predictedDensity = bits predicted; dii = map bits dii; aii = bits aii }
 
 -- ---- what they say
 
@@ -69,13 +81,20 @@ called b answers work =
 -- a row that is done is called with one element more in each list than needed
 abbrev pub Holds : Row → Type 0
 Holds (shape r) = kernel.yielded r ≡ r .value
+Holds (checks b w) = checked b ≡ w
 Holds (done b r answers work) =
     called b (length answers + 1) (work + 1)
     ≡ record { answer = Done r; answers = map bits answers ++ old 1; work = replicate work (bits 0) ++ old 1 }
 Holds (refused b answers work r cleared) =
-    called b answers work ≡ record { answer = Refused r; answers = old answers; work = replicate cleared (bits 0) ++ old (work - cleared) }
+    called b answers work
+    ≡ record {
+      answer = Refused r;
+      answers = old answers;
+      work = replicate cleared (bits 0) ++ old (work - cleared);
+    }
 Holds (before b co) = rules.coefficients (sceneOf b) ≡ co
-Holds (volumeOf weights v) = boundaryVolume (record { velocity = []; keepsForces = false; force = []; weights = map bits weights }) ≡ bits v
+Holds (volumeOf weights v) =
+    boundaryVolume (record { velocity = []; keepsForces = false; force = []; weights = map bits weights }) ≡ bits v
 
 infixr 50 _and_
 -- every row holds

@@ -1,4 +1,5 @@
--- `cubic_spline::and_finite` meets its contract: a magnitude is below infinity exactly where the double is finite. Assumes nothing.
+-- `cubic_spline::and_finite` meets its contract: a magnitude is below infinity exactly where the double is finite.
+-- Assumes nothing.
 use mathlib.Core.Path.{_≡_, refl, ap, _∙_}
 use borrow.Author.Needs.{needs}
 use lib.Ieee.{Float, nan, inf, fin, lt, ofBits, nanBits}
@@ -21,7 +22,9 @@ unfolding nanBits
 float-from-bits-result c = tt
 
 returns : tie.Need-returns
-returns c = simp (c .before .if1 .taken) (ap (λ x. lt x +∞) (c .magnitude .ensures) ∙ below-infinity (c .before .before .args .x))
+returns c =
+    simp (c .before .if1 .taken)
+    (ap (λ x. lt x +∞) (c .magnitude .ensures) ∙ below-infinity (c .before .before .args .x))
 
 returns-2 : tie.Need-returns-2
 returns-2 c = simp (c .if1 .left)

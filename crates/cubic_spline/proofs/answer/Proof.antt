@@ -1,4 +1,5 @@
--- `cubic_spline::answer` meets its contract: each branch is the definition's, by what the two tests ensure. Assumes nothing.
+-- `cubic_spline::answer` meets its contract: each branch is the definition's, by what the two tests ensure.
+-- Assumes nothing.
 use mathlib.Core.Path.{sym, _∙_}
 use borrow.Author.Needs.{needs}
 use Rattle.cubic_spline.specs.Answer.{kernelAnswer}
@@ -16,13 +17,21 @@ returns : tie.Need-returns
 unfolding kernelAnswer
 returns c =
     let d = c .before .before .before in
-    kernel-promise _ _ _ _ (simp (sym (c .before .is-radius .ensures) ∙ c .if2 .taken, sym (d .is-distance .ensures) ∙ c .before .before .if1 .taken))
+    kernel-promise _ _ _ _
+    (simp (
+      sym (c .before .is-radius .ensures) ∙ c .if2 .taken,
+      sym (d .is-distance .ensures) ∙ c .before .before .if1 .taken,
+    ))
 
 returns-2 : tie.Need-returns-2
 unfolding kernelAnswer
 returns-2 c =
     let d = c .before .before .before in
-    kernel-promise _ _ _ _ (simp (sym (c .before .is-radius .ensures) ∙ c .if2 .left, sym (d .is-distance .ensures) ∙ c .before .before .if1 .taken))
+    kernel-promise _ _ _ _
+    (simp (
+      sym (c .before .is-radius .ensures) ∙ c .if2 .left,
+      sym (d .is-distance .ensures) ∙ c .before .before .if1 .taken,
+    ))
 
 returns-3 : tie.Need-returns-3
 unfolding kernelAnswer

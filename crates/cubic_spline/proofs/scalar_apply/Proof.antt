@@ -1,4 +1,5 @@
--- `cubic_spline::scalar_apply` meets its contract: the definition is the code, by what the calls ensure. Assumes nothing.
+-- `cubic_spline::scalar_apply` meets its contract: the definition is the code, by what the calls ensure.
+-- Assumes nothing.
 use borrow.Author.Needs.{needs}
 use Rattle.cubic_spline.proofs.scalar_apply.Statement.{statement}
 use Rattle.cubic_spline.proofs.scalar_apply.Tie as tie
@@ -13,7 +14,8 @@ answer-requires : tie.Need-answer-requires
 answer-requires c κs = search needs
 
 returns : tie.Need-returns
-returns c = rw (← c .before .weight-shape .ensures .value, ← c .before .before .normalizer .ensures) (c .answer .ensures)
+returns c =
+    rw (← c .before .weight-shape .ensures .value, ← c .before .before .normalizer .ensures) (c .answer .ensures)
 
 pub scalar-apply-spec : {M : Type 1} → statement M
 scalar-apply-spec = tie.close (tie.spec normalizer-requires weight-shape-requires answer-requires returns)

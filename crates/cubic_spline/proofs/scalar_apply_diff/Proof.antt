@@ -1,4 +1,5 @@
--- `cubic_spline::scalar_apply_diff` meets its contract: the definition is the code, by what the calls ensure. Assumes nothing.
+-- `cubic_spline::scalar_apply_diff` meets its contract: the definition is the code, by what the calls ensure.
+-- Assumes nothing.
 use borrow.Author.Needs.{needs}
 use Rattle.cubic_spline.proofs.scalar_apply_diff.Statement.{statement}
 use Rattle.cubic_spline.proofs.scalar_apply_diff.Tie as tie

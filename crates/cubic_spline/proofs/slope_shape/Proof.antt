@@ -1,4 +1,5 @@
--- `cubic_spline::slope_shape` meets its contract: each branch is the definition's, and proofs/Bounds.antt has the bound. Assumes nothing.
+-- `cubic_spline::slope_shape` meets its contract: each branch is the definition's, and Bounds has the bound.
+-- Assumes nothing.
 use mathlib.Core.Path.{_≡_, _∙_}
 use mathlib.Core.Logic.{⊎-elim}
 use mathlib.Core.Bool.{_||_}
@@ -15,19 +16,23 @@ first-test c = ⊎-elim (λ w. simp (w .0 .taken, w .1)) (λ w. simp (w .0 .left
 
 returns : tie.Need-returns
 unfolding slopeShape
-returns c = let s = c .before .before in slope-promise (s .args .q) _ (s .good .0 .1) (simp (first-test (c .before) ∙ c .if2 .taken))
+returns c =
+    let s = c .before .before in
+    slope-promise (s .args .q) _ (s .good .0 .1) (simp (first-test (c .before) ∙ c .if2 .taken))
 
 returns-2 : tie.Need-returns-2
 unfolding slopeShape
 returns-2 c =
     let s = c .before .before .before in
-    slope-promise (s .args .q) _ (s .good .0 .1) (simp (first-test (c .before .before) ∙ c .before .if2 .left, c .if3 .taken))
+    slope-promise (s .args .q) _ (s .good .0 .1)
+    (simp (first-test (c .before .before) ∙ c .before .if2 .left, c .if3 .taken))
 
 returns-3 : tie.Need-returns-3
 unfolding slopeShape
 returns-3 c =
     let s = c .before .before .before in
-    slope-promise (s .args .q) _ (s .good .0 .1) (simp (first-test (c .before .before) ∙ c .before .if2 .left, c .if3 .left))
+    slope-promise (s .args .q) _ (s .good .0 .1)
+    (simp (first-test (c .before .before) ∙ c .before .if2 .left, c .if3 .left))
 
 pub slope-shape-spec : {M : Type 1} → statement M
 slope-shape-spec = tie.close (tie.spec returns returns-2 returns-3)

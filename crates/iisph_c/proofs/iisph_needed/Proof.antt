@@ -31,7 +31,8 @@ returns-2 c =
     let w = c .before .before in
     let l = w .before .before .before in
     let n = l .before .before in
-    needs-lists _ _ (omega (arith, n .before .if1 .left)) (n .lengths-needed .ensures) (l .lengths .given .1) (w .write-lengths .ensures .0) (w .write-lengths .ensures .1)
+    needs-lists _ _ (omega (arith, n .before .if1 .left)) (n .lengths-needed .ensures) (l .lengths .given .1)
+    (w .write-lengths .ensures .0) (w .write-lengths .ensures .1)
 
 same-length-2 : tie.Need-same-length-2
 same-length-2 c = search needs
@@ -41,7 +42,8 @@ returns-3 c =
     let w = c .before .before in
     let r = w .before .before .before in
     let n = r .before .before in
-    needs-refused _ _ (omega (arith, n .before .if1 .left)) (n .lengths-needed .ensures) (r .refusal .given .1) (w .write-refusal .ensures .0) (w .write-refusal .ensures .1)
+    needs-refused _ _ (omega (arith, n .before .if1 .left)) (n .lengths-needed .ensures) (r .refusal .given .1)
+    (w .write-refusal .ensures .0) (w .write-refusal .ensures .1)
 
 pub iisph-needed-spec : {M : Type 1} → statement M
 iisph-needed-spec =

@@ -1,4 +1,5 @@
--- `iisph_c::iisph_step` meets its contract: by the lengths of the two small lists, then by the step's answer. Assumes nothing.
+-- `iisph_c::iisph_step` meets its contract: by the lengths of the two small lists, then by the step's answer. Assumes
+-- nothing.
 use native.Mathlib.Omega.{arith}
 use Rattle.iisph_c.proofs.Calls.{numbers-short, counts-short, done-to, refused-to}
 use borrow.Author.Needs.{needs}
@@ -44,7 +45,8 @@ returns-3 c =
     let r = w .before .before .before .before in
     let s = r .before .before .before .before .before .before in
     let e = s .before .before .before in
-    done-to _ _ _ _ _ (omega (arith, e .before .if1 .left)) (omega (arith, e .if2 .left)) (s .step .ensures) (r .report .given .1)
+    done-to _ _ _ _ _ (omega (arith, e .before .if1 .left)) (omega (arith, e .if2 .left)) (s .step .ensures)
+    (r .report .given .1)
     (w .write-report .ensures .0) (w .write-report .ensures .1) (w .write-report .ensures .2)
 
 same-length-5 : tie.Need-same-length-5
@@ -62,7 +64,8 @@ returns-4 c =
     let r = w .before .before .before in
     let s = r .before .before .before .before .before .before in
     let e = s .before .before .before in
-    refused-to _ _ _ _ _ (omega (arith, e .before .if1 .left)) (omega (arith, e .if2 .left)) (s .step .ensures) (r .refusal .given .1)
+    refused-to _ _ _ _ _ (omega (arith, e .before .if1 .left)) (omega (arith, e .if2 .left)) (s .step .ensures)
+    (r .refusal .given .1)
     (w .write-refusal .ensures .0) (w .write-refusal .ensures .1)
 
 pub iisph-step-spec : {M : Type 1} → statement M

@@ -19,7 +19,10 @@ same-length c = search needs
 
 returns-2 : tie.Need-returns-2
 unfolding tooLong
-returns-2 c = too-long (c .before .before .before .before .before .before .if1 .left) (c .before .before .before .before .before .if2 .taken) (c .before .before .put-word .ensures)
+returns-2 c =
+    let w = c .before .before in
+    let i = w .before .before .before in
+    too-long (i .before .if1 .left) (i .if2 .taken) (w .put-word .ensures)
 
 put-scene-requires : tie.Need-put-scene-requires
 put-scene-requires c κs = search needs

@@ -3,6 +3,7 @@ use Prim.Native.Nat.{ℕ, _≤_}
 use native.Mathlib.Omega.{arith}
 use lib.ListN.{length, replicate, length-replicate}
 use Rattle.math.specs.Real.{+0}
+use Rattle.iisph_text.specs.Run.{enoughAnswers, enoughWork}
 use Rattle.iisph_text.proofs.Ran.{text-written}
 use borrow.Author.Needs.{needs}
 use Rattle.iisph_text.proofs.text.Statement.{statement}
@@ -26,7 +27,8 @@ same-length c = search needs
 returns : tie.Need-returns
 returns c =
     let r = c .before .before .before .before in
-    text-written (λ i. omega (arith, r .before .before .before .before .before .shared-slice-known .given i)) (long 4096) (long 8192) (r .run .ensures)
+    text-written (λ i. omega (arith, r .before .before .before .before .before .shared-slice-known .given i))
+    (long enoughAnswers) (long enoughWork) (r .run .ensures)
 
 pub text-spec : {M : Type 1} → statement M
 text-spec =

@@ -1,4 +1,5 @@
--- `math::from_bits` meets its contract: a pattern is a not-a-number's exactly where it lies above infinity's, its sign left away. Assumes nothing.
+-- `math::from_bits` meets its contract: a pattern is a not-a-number's exactly where it lies above infinity's, its sign
+-- left away. Assumes nothing.
 use mathlib.Core.Path.{refl, sym}
 use lib.Ieee.{ofBits, div}
 use Rattle.math.proofs.Doubles.{nan-pattern, number-pattern}

@@ -1,4 +1,5 @@
--- `math::magnitude` meets its contract: a zero, a negative and any other double, by the laws of proofs/Doubles.antt. Assumes nothing.
+-- `math::magnitude` meets its contract: a zero, a negative and any other double, by the laws of proofs/Doubles.antt.
+-- Assumes nothing.
 use mathlib.Core.Path.{sym, subst}
 use lib.Dec.{T}
 use lib.Ieee.{binary64, fits}

@@ -1,4 +1,5 @@
--- `timestep_manager::inverse_of` meets its contract: each branch is the definition's, by what `is_zero` ensures. Assumes nothing.
+-- `timestep_manager::inverse_of` meets its contract: each branch is the definition's, by what `is_zero` ensures.
+-- Assumes nothing.
 use mathlib.Core.Path.{sym, _∙_}
 use borrow.Author.Needs.{needs}
 use Rattle.timestep_manager.specs.Clock.{inverse}

@@ -17,7 +17,9 @@ number-requires : tie.Need-number-requires
 number-requires c κs = search needs
 
 add-result : tie.Need-add-result
-add-result c = let few : c .number .result ≤ 10 = omega (arith, c .number .ensures, number-few (c .before .before .before .args .refusal)) in omega (arith, few)
+add-result c = let few : c .number .result
+    ≤ 10 = omega (arith, c .number .ensures, number-few (c .before .before .before .args .refusal)) in omega
+    (arith, few)
 
 same-length : tie.Need-same-length
 same-length c = search needs

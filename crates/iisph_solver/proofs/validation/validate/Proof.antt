@@ -1,10 +1,15 @@
 -- `iisph_solver::validation::validate` meets its contract: by the verdict of the check. Assumes nothing.
+use native.Mathlib.Omega.{arith}
 use denote.Ref.{now}
 use borrow.Author.Needs.{needs}
-use Rattle.iisph_solver.proofs.Cases.{verdict-refused, verdict-accepted, layout-accepted}
+use Rattle.scene_format.specs.Bytes.{Bytes}
+use Rattle.scene_check.proofs.Checks.{verdict-refused, verdict-accepted}
 use Rattle.iisph_solver.proofs.Validated.{refused-validates}
 use Rattle.iisph_solver.proofs.validation.validate.Statement.{statement}
 use Rattle.iisph_solver.proofs.validation.validate.Tie as tie
+
+bytes : (c : tie.After-check) → Bytes (now (c .before .before .before .args .scene))
+bytes c i = omega (arith, c .before .before .shared-slice-known .given i)
 
 check-requires : tie.Need-check-requires
 check-requires c κs = search needs
@@ -20,14 +25,15 @@ validate-accepted-requires c κs =
     let k = c .before .before .before .before in
     let h = k .check .ensures in
     let a = c .before .enum-told .given .1 in
-    (verdict-accepted _ h a, layout-accepted _ h a)
+    verdict-accepted _ h (bytes k) a
 
 returns : tie.Need-returns
 returns c =
     let v = c .before in
     let k = v .before .before .before in
     let b = k .before .before .before in
-    refused-validates (now (b .args .scene)) (now (b .args .work)) (verdict-refused _ (k .check .ensures) (v .verdict .given .1))
+    refused-validates (now (b .args .scene)) (now (b .args .work))
+    (verdict-refused _ (k .check .ensures) (v .verdict .given .1))
 
 same-length : tie.Need-same-length
 same-length c = search needs

@@ -1,0 +1,205 @@
+#!/usr/bin/env python3
+"""Writes crates/cases_check/data/scenes and crates/cases_check/stdout: packed scenes, and what their check must answer.
+
+The answers come from `verdict`, a reader written from the specification alone: it knows nothing of the code or its definitions.
+"""
+import argparse
+import math
+import pathlib
+import struct
+
+BLOCK = 512
+
+
+class Refused(Exception):
+    pass
+
+
+class Reader:
+    """Goes through the fields in order. Each is first there (1), then tested by its own rule."""
+
+    def __init__(self, data):
+        self.data, self.at = data, 0
+
+    def take(self, size):
+        here = self.at
+        if here + size > len(self.data):
+            raise Refused(1, here)
+        self.at += size
+        return here, int.from_bytes(self.data[here:self.at], "big")
+
+    def doubles(self, n):
+        for _ in range(n):
+            here, value = self.take(8)
+            if not math.isfinite(struct.unpack(">d", value.to_bytes(8, "big"))[0]):
+                raise Refused(6, here)
+
+    def count(self, value, here):
+        if value > 4096:
+            raise Refused(4, here)
+        return value
+
+    def names(self, n, doubles):
+        found = []
+        for _ in range(n):
+            here, name = self.take(2)
+            self.doubles(doubles)
+            found.append((here, name >> 12, name & 0xFFF))
+        return found
+
+
+def verdict(data):
+    r = Reader(data)
+    _, first = r.take(1)
+    if first >> 4 != 1:
+        raise Refused(2, 0)
+    if first & 15 > 8:
+        raise Refused(3, 0)
+    _, second = r.take(1)
+    if second >> 4 > 8:
+        raise Refused(3, 1)
+    if second & 15:
+        raise Refused(2, 1)
+    r.take(1)
+    r.take(1)
+    r.doubles(6)
+    fluids, boundaries, to_fluids, to_boundaries = [], [], [], []
+    for _ in range(first & 15):
+        here, n = r.take(2)
+        fluids.append(r.count(n, here))
+        r.doubles(1)
+        for _ in range(n):
+            r.doubles(11)
+            _, a = r.take(1)
+            _, b = r.take(1)
+            to_fluids += r.names(a, 4)
+            to_boundaries += r.names(b, 4)
+    for _ in range(second >> 4):
+        here, n = r.take(2)
+        boundaries.append(r.count(n & 0x7FFF, here))
+        for _ in range(n & 0x7FFF):
+            r.doubles(6 if n >> 15 else 3)
+            _, a = r.take(1)
+            to_boundaries += r.names(a, 1)
+    if r.at < len(data):
+        raise Refused(5, r.at)
+    lost = [at for at, m, j in to_fluids if m >= len(fluids) or j >= fluids[m]]
+    lost += [at for at, m, j in to_boundaries if m >= len(boundaries) or j >= boundaries[m]]
+    if lost:
+        raise Refused(7, min(lost))
+
+
+def line(data):
+    try:
+        verdict(data)
+    except Refused as e:
+        return "%d %d\n" % e.args
+    return "accepted\n"
+
+
+# ---- scenes
+
+def doubles(*xs):
+    return b"".join(struct.pack(">d", x) for x in xs)
+
+
+def contact(model, particle, *xs):
+    return struct.pack(">H", model << 12 | particle) + doubles(*xs)
+
+
+def header(fluids, boundaries):
+    return bytes([16 + fluids, 16 * boundaries, 1, 3]) + doubles(0.5, 1.0, 0.1, 0.0, -0.0, -9.81)
+
+
+def fluid(records, count=None):
+    return struct.pack(">H", len(records) if count is None else count) + doubles(1000.0) + b"".join(records)
+
+
+def fluid_record(to_fluids, to_boundaries):
+    fields = doubles(*[0.25 * k for k in range(11)])
+    return fields + bytes([len(to_fluids), len(to_boundaries)]) + b"".join(to_fluids + to_boundaries)
+
+
+def boundary(keeps, records, count=None):
+    return struct.pack(">H", keeps << 15 | (len(records) if count is None else count)) + b"".join(records)
+
+
+def boundary_record(keeps, contacts):
+    return doubles(*[0.5] * (6 if keeps else 3)) + bytes([len(contacts)]) + b"".join(contacts)
+
+
+def to(model, particle):
+    return contact(model, particle, 1.0, 0.5, -0.5, 0.0)
+
+
+def near(model, particle):
+    return contact(model, particle, 2.0)
+
+
+# an empty fluid, contacts with itself and repeated ones, an empty boundary, forces kept and not kept
+def rich(fluid_name=(1, 0), boundary_name=(2, 0), own_name=(0, 0)):
+    return (header(2, 3) + fluid([]) + fluid([fluid_record([to(*fluid_name), to(1, 0)], [to(*boundary_name)])])
+            + boundary(1, [boundary_record(1, [near(*own_name), near(0, 0)])]) + boundary(0, []) + boundary(0, [boundary_record(0, [near(2, 0)])]))
+
+
+def changed(data, *bytes_at):
+    data = bytearray(data)
+    for at, value in bytes_at:
+        data[at] = value
+    return bytes(data)
+
+
+def cases():
+    whole = rich()
+    yield whole
+    for n in range(len(whole)):
+        yield whole[:n]
+    for value in (0xFF, 0x00):
+        for at in range(len(whole)):
+            yield changed(whole, (at, value))
+    yield header(0, 0)
+    # counts at and above 4,096, with nothing behind them
+    for n in (4095, 4096, 4097, 0x7FFF, 0x8000, 0xFFFF):
+        yield header(1, 0) + fluid([], n)
+        yield header(0, 1) + struct.pack(">H", n)
+    # eight models of each kind, empty, and nine
+    yield header(8, 8) + fluid([]) * 8 + boundary(0, []) * 4 + boundary(1, []) * 4
+    yield header(9, 0) + fluid([]) * 9
+    yield header(0, 9) + boundary(0, []) * 9
+    # names: the last particle's follower, an empty model, one that is not there
+    for name in ((1, 1), (0, 0), (2, 0), (15, 4095)):
+        yield rich(fluid_name=name)
+    for name in ((2, 1), (1, 0), (3, 0), (15, 0)):
+        yield rich(boundary_name=name)
+    for name in ((0, 1), (1, 0), (3, 0)):
+        yield rich(own_name=name)
+    # several faults at once
+    yield rich((2, 0), (3, 0), (3, 0))
+    yield rich((2, 0)) + b"\0"
+    yield whole + b"\0"
+    yield changed(whole, (0, 0x29), (1, 0x9F))
+    yield changed(whole, (0, 0x19), (1, 0x9F))
+    yield changed(whole, (1, 0x9F))
+    yield changed(whole, (1, 0x8F))
+    yield changed(rich((2, 0)), (4, 0x7F), (5, 0xF0))
+    yield changed(whole, (4, 0x7F), (5, 0xF0), (52, 0xFF))
+    yield changed(whole, (4, 0xFF), (5, 0xF8))[:12]
+    yield changed(whole, (4, 0xFF), (5, 0xF8))[:11]
+
+
+def block(data):
+    assert len(data) <= BLOCK - 2
+    return data.ljust(BLOCK - 2, b"\0") + struct.pack(">H", len(data))
+
+
+def main():
+    argparse.ArgumentParser(description=__doc__, formatter_class=argparse.RawDescriptionHelpFormatter).parse_args()
+    crate = pathlib.Path(__file__).resolve().parent.parent / "crates" / "cases_check"
+    scenes = list(cases())
+    (crate / "data" / "scenes").write_bytes(b"".join(map(block, scenes)))
+    (crate / "stdout").write_text("".join(map(line, scenes)))
+    print(len(scenes), "scenes")
+
+
+if __name__ == "__main__":
+    main()

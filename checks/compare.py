@@ -1,0 +1,351 @@
+#!/usr/bin/env python3
+"""Holds a program that answers packed scenes against the Rust's own step (oracle/), output for output.
+
+  checks/compare.py [--scenes N] [--seed N] [--only CLASS] [--subject COMMAND | --reference] [--stdin] [--oracle FILE] [--out FILE] [--bytes N]
+  checks/compare.py --kernel N [--seed N] [--subject COMMAND]
+
+  --scenes N        so many scenes, shared out over the classes of checks/made_scenes.py (15,000), after the cases of checks/cases_step.py
+  --seed N          another seed gives other scenes (1)
+  --only CLASS      this class alone; `large` is there only so, and its scenes are then never `too long` to the oracle
+  --subject COMMAND the program to compare; it is run in a folder with the file `scenes` and prints the lines of all its scenes (target/bin/cases_step)
+  --reference       compare checks/cases_step.py instead
+  --stdin           run the command once for each scene, which it reads from standard input, as the program iisph does
+  --bytes N         at most so many bytes in one file `scenes` (300,000)
+  --oracle FILE     the built oracle (oracle/target/release/oracle)
+  --out FILE        where the smallest scene with a difference goes (target/difference.bin)
+  --kernel N        instead of scenes, N distances and radii: the command reads a pair of doubles per line, in hex, and prints weight and slope or the
+                    refusal; without a command, METHOD's formulas in Python
+
+Needs Python 3 and its own library only. Ends with 0 if nothing differs, 1 after a difference, 2 if a file is missing or the use is wrong.
+Scenes in which an average was -0 are skipped, as the specification says, and counted.
+"""
+import argparse
+import collections
+import copy
+import itertools
+import math
+import pathlib
+import shlex
+import struct
+import subprocess
+import sys
+import tempfile
+import time
+
+import made_scenes
+from made_scenes import CLASSES, LARGE, Draw, made, pack, unpack
+from reference import Stop, batch, load, text, texts
+
+ROOT = pathlib.Path(__file__).resolve().parent.parent
+NAN = "7FF8000000000000"
+
+
+class Failed(Exception):
+    """A command ended badly. Its argument is a message."""
+
+
+def ran(command, folder, given=None):
+    """What a command prints, which must end well."""
+    try:
+        done = subprocess.run(command, cwd=folder, input=given, capture_output=True)
+    except OSError as e:
+        raise Stop("%s can't be run: %s" % (command[0], e.strerror))
+    if done.returncode != 0:
+        raise Failed("%s ended with status %d\n%s" % (" ".join(command), done.returncode, done.stderr.decode(errors="replace")[-2000:]))
+    return done.stdout.decode("ascii", errors="replace")
+
+
+class Sides:
+    """The oracle and the subject, each asked for the texts of some scenes."""
+
+    def __init__(self, options):
+        self.oracle = [str(options.oracle), "scenes", "scenes"] + ["--any-length"] * (options.only in LARGE)
+        self.subject, self.alone = options.command, options.stdin
+
+    def ask(self, scenes):
+        with tempfile.TemporaryDirectory() as folder:
+            (pathlib.Path(folder) / "scenes").write_bytes(batch(scenes))
+            try:
+                rust = texts(ran(self.oracle, folder))
+            except Failed as e:
+                raise Stop(str(e))
+            ours = [ran(self.subject, folder, data) for data in scenes] if self.alone else texts(ran(self.subject, folder))
+        if len(rust) != len(scenes):
+            raise Stop("the oracle gave %d answers to %d scenes" % (len(rust), len(scenes)))
+        return rust, ours
+
+    def first_wrong(self, scenes, most):
+        """The first of these scenes on which the answers differ, asking for many at a time."""
+        for full in files_full(((None, data) for data in scenes), most):
+            some = [data for _, data in full]
+            try:
+                rust, ours = self.ask(some)
+            except Failed:
+                ours = None
+            if ours is None or len(ours) != len(some):      # one of them has no answer: which?
+                if len(some) == 1:
+                    return some[0]
+                found = self.first_wrong(some, len(some[0]) + 4)
+            else:
+                found = next((data for data, a, b in zip(some, rust, ours) if a != b and a != "skipped\n"), None)
+            if found is not None:
+                return found
+        return None
+
+
+# ---- making a scene with a difference smaller
+
+def without(s, fluid, number):
+    """The scene without a fluid particle and the contacts that name it."""
+    s = copy.deepcopy(s)
+    del s["fluids"][fluid][1][number]
+    for _, particles in s["fluids"]:
+        for p in particles:
+            p[1] = [[c[0], c[1] - (c[0] == fluid and c[1] > number), *c[2:]] for c in p[1] if c[:2] != [fluid, number]]
+    return s
+
+
+def without_wall(s, wall):
+    s = copy.deepcopy(s)
+    del s["walls"][wall]
+    for particles in [f[1] for f in s["fluids"]] + [w[1] for w in s["walls"]]:
+        for p in particles:
+            p[-1] = [[c[0] - (c[0] > wall), *c[1:]] for c in p[-1] if c[0] != wall]
+    return s
+
+
+def smaller(s):
+    """Scenes with one thing less."""
+    for m in range(len(s["walls"])):
+        yield without_wall(s, m)
+    for m, (_, particles) in enumerate(s["fluids"]):
+        for k in range(len(particles)):
+            yield without(s, m, k)
+    if s["fluids"] and not s["fluids"][-1][1]:
+        yield dict(s, fluids=s["fluids"][:-1])
+    for kind in "fluids", "walls":
+        for m, (_, particles) in enumerate(s[kind]):
+            for k, p in enumerate(particles):
+                for place in range(1, len(p)):
+                    for at in range(len(p[place])):
+                        less = copy.deepcopy(s)
+                        del less[kind][m][1][k][place][at]
+                        yield less
+    for name in "most", "least":
+        if s[name] > 0:
+            yield dict(s, **{name: s[name] - 1})
+
+
+def shrunk(data, sides, options):
+    """As long as some smaller scene differs too, and for about a minute."""
+    end = time.monotonic() + 60.0
+    while unpack(data) is not None and time.monotonic() < end:
+        less = sides.first_wrong(map(pack, smaller(unpack(data))), options.bytes)
+        if less is None:
+            break
+        data = less
+    return data
+
+
+# ---- the runs
+
+def stream(options):
+    """Class and scene, in the order of the classes."""
+    if not options.only:
+        for case in load(text())["cases"]():
+            yield "cases_step", case[1]
+    names = [options.only] if options.only else list(CLASSES)
+    for k, name in enumerate(names):
+        source = made(options.seed, name)
+        for _ in range((options.scenes + k) // len(names)):
+            yield name, next(source)
+
+
+def files_full(scenes, most):
+    """The scenes in lists of at most so many bytes."""
+    full, size = [], 0
+    for scene in scenes:
+        if full and size + len(scene[1]) + 4 > most:
+            yield full
+            full, size = [], 0
+        full.append(scene)
+        size += len(scene[1]) + 4
+    if full:
+        yield full
+
+
+def kinds(answer):
+    """What the summary counts of one answer."""
+    words = answer.split("\n")[0].split(" ")
+    if words[0] != "step":
+        return [" ".join(words[:2])]
+    numbers = [line.split(" ")[1:] for line in answer.splitlines()[2:]]
+    pressures = [line.split(" ")[-1] for line in answer.splitlines() if line.startswith("fluid")]
+    found = ["accepted", words[1]]
+    found += ["not-a-number"] if any(NAN in row for row in numbers) else []
+    found += ["infinity"] if any(x[1:] == "FF0000000000000" and x[0] in "7F" for row in numbers for x in row) else []
+    found += ["pressure above 0"] if any(x < "7FF0000000000001" and x.strip("0") for x in pressures) else []
+    return found + (["3 or more iterations"] if words[1] != "unswept" and int(words[2]) > 2 else [])
+
+
+ORDER = ["accepted", "settled", "ranout", "unswept", "3 or more iterations", "pressure above 0", "infinity", "not-a-number", "skipped",
+         "too long"] + ["refused %d" % n for n in range(1, 11)]
+
+
+def summary(counts):
+    for name, count in counts.items():
+        seen = [(kind, count[kind]) for kind in ORDER if count[kind]] + [(k, n) for k, n in count.items() if k not in ORDER and k != "all"]
+        print("%-13s %7d: %s" % (name, count["all"], ", ".join("%s %d" % pair for pair in seen)))
+
+
+def report(data, sides, options):
+    data = shrunk(data, sides, options)
+    options.out.parent.mkdir(parents=True, exist_ok=True)
+    options.out.write_bytes(data)
+    print("%s: %d bytes\n%s" % (options.out, len(data), data.hex() if len(data) < 1500 else ""))
+    try:
+        rust, ours = sides.ask([data])
+        rows = list(itertools.zip_longest("".join(rust).splitlines(), "".join(ours).splitlines(), fillvalue="(nothing)"))
+        different = [row for row in rows if row[0] != row[1]]
+        for row in different[:10]:
+            print("the Rust:    %s\nthe subject: %s" % row)
+        print("%d lines differ" % len(different))
+    except Failed as e:
+        print(e)
+
+
+def scenes_run(options):
+    sides, counts, done, worst, end = Sides(options), {}, 0, None, 0.0
+    for full in files_full(stream(options), options.bytes):
+        if worst is not None and (len(worst) < 600 or time.monotonic() > end):
+            break
+        scenes = [data for _, data in full]
+        try:
+            rust, ours = sides.ask(scenes)
+            failure = "%d answers" % len(ours)
+        except Failed as e:
+            rust, ours, failure = [], [], e
+        if len(ours) != len(scenes) or any(a != b and a != "skipped\n" for a, b in zip(rust, ours)):
+            wrong = sides.first_wrong(sorted(scenes, key=len), options.bytes)
+            if wrong is None:
+                raise Stop("%d scenes together have no answer, but each alone has: %s" % (len(scenes), failure))
+            if worst is None:      # look on for a smaller one, but not for long
+                print("a difference in a scene of %d bytes" % len(wrong), flush=True)
+                end = time.monotonic() + 60.0
+            worst = min(worst or wrong, wrong, key=len)
+            continue
+        for (name, _), answer in zip(full, rust):
+            counts.setdefault(name, collections.Counter()).update(["all", *kinds(answer.strip("\n"))])
+        done += len(scenes)
+        if sys.stderr.isatty():
+            print("\r%d" % done, end="", file=sys.stderr, flush=True)
+    if worst is not None:
+        report(worst, sides, options)
+        return 1
+    summary(dict(counts, total=sum(counts.values(), collections.Counter())))
+    skipped = sum(c["skipped"] for c in counts.values())
+    print("%d scenes, seed %d: no difference (%d skipped: an average of -0)" % (done, options.seed, skipped))
+    return 0
+
+
+# ---- the kernel
+
+def bits(x): return NAN if math.isnan(x) else struct.pack(">d", x).hex().upper()
+
+
+def pairs(seed, n):
+    d = Draw(seed)
+    for _ in range(n):
+        edge = d.of((0.0, 1e-5, 0.5, 1.0)) * d.of((1.0, 1.0 - 2.0**-53, 1.0 + 2.0**-52))
+        odd = d.of((abs(d.extreme()), d.extreme(), abs(d.subnormal()), d.zero()))
+        h = d.weighted(((8, abs(d.random()) or 1.0), (6, abs(d.nice()) or 1.0), (1, odd)))
+        q = d.weighted(((6, 1.25 * d.unit()), (3, edge), (1, 1e-4 * d.unit())))
+        r = d.weighted(((20, q * abs(h)), (1, abs(d.extreme())), (1, d.random()), (1, d.of((math.inf, math.nan, -0.0, -1.0)))))
+        yield r, d.of((math.inf, math.nan, -h)) if d.one_in(40) else h
+
+
+def divided(a, b):
+    return a / b if b != 0.0 else math.nan if a == 0.0 or math.isnan(a) else math.copysign(math.inf, a) * math.copysign(1.0, b)
+
+
+def kernel_line(r, h):
+    if not (math.isfinite(r) and r >= 0.0):
+        return "refused 11"
+    if not (math.isfinite(h) and h > 0.0):
+        return "refused 12"
+    normaliser, (weight, slope) = divided(8.0, ((math.pi * h) * h) * h), made_scenes.shapes(r / h)
+    return "%s %s" % (bits(normaliser * weight), bits((normaliser * slope) / h))
+
+
+def kernel_run(options):
+    cases = list(pairs(options.seed, options.kernel))
+    lines = "".join("%s %s\n" % (bits(r), bits(h)) for r, h in cases)
+    rust = ran([str(options.oracle), "kernel"], None, lines.encode()).splitlines()
+    ours = ran(options.command, None, lines.encode()).splitlines() if options.command else [kernel_line(r, h) for r, h in cases]
+    for (r, h), a, b in zip(cases, rust, ours):
+        if a != b:
+            print("distance %s radius %s\nthe Rust:    %s\nthe subject: %s" % (bits(r), bits(h), a, b))
+            return 1
+    if len(rust) != len(cases) or len(ours) != len(cases):
+        raise Stop("%d pairs, but %d and %d answers" % (len(cases), len(rust), len(ours)))
+    count = collections.Counter(a if a.startswith("refused") else "not-a-number" if NAN in a else "slope 0" if a[17:].strip("08") == "" else "slope not 0"
+                                for a in rust)
+    print(", ".join("%s %d" % pair for pair in sorted(count.items())))
+    print("%d pairs, seed %d: no difference" % (len(cases), options.seed))
+    return 0
+
+
+def whole(word):
+    if not word.isdecimal():
+        raise argparse.ArgumentTypeError("not a whole number: " + word)
+    return int(word)
+
+
+def command_of(words):
+    """The command; a file that is named from here is found from any folder."""
+    command = shlex.split(words)
+    if not command:
+        raise Stop("--subject needs a command")
+    return [str(pathlib.Path(word).resolve()) if "/" in word and pathlib.Path(word).exists() else word for word in command]
+
+
+def main():
+    parser = argparse.ArgumentParser(usage=__doc__, add_help=True)
+    parser.add_argument("--scenes", type=whole, default=15000)
+    parser.add_argument("--seed", type=whole, default=1)
+    parser.add_argument("--only", choices=[*CLASSES, *LARGE])
+    parser.add_argument("--subject")
+    parser.add_argument("--reference", action="store_true")
+    parser.add_argument("--stdin", action="store_true")
+    parser.add_argument("--bytes", type=whole, default=300000)
+    parser.add_argument("--oracle", type=pathlib.Path, default=ROOT / "oracle/target/release/oracle")
+    parser.add_argument("--out", type=pathlib.Path, default=ROOT / "target/difference.bin")
+    parser.add_argument("--kernel", type=whole)
+    options = parser.parse_args()
+    try:
+        options.oracle, options.out = options.oracle.resolve(), options.out.resolve()
+        if not options.oracle.is_file():
+            raise Stop("%s is not there: run oracle/prepare.py, then cargo build --release --offline in oracle/" % options.oracle)
+        default = ROOT / "target/bin/cases_step"
+        options.command = command_of(options.subject) if options.subject is not None else None
+        if options.kernel is not None:
+            return kernel_run(options)
+        if options.reference:
+            options.command = [sys.executable, str(ROOT / "checks/reference.py")] + ["--any-length"] * (options.only in LARGE)
+        elif options.command is None and not default.is_file():
+            raise Stop("%s is not there: build it, or give --subject COMMAND or --reference" % default)
+        options.command = options.command or [str(default)]
+        return scenes_run(options)
+    except (Stop, Failed) as e:
+        print(e, file=sys.stderr)
+    except OSError as e:
+        print("%s: %s" % (e.filename or "output", e.strerror), file=sys.stderr)
+    except ValueError as e:      # a command with an open quote
+        print(e, file=sys.stderr)
+    except KeyboardInterrupt:
+        print("stopped", file=sys.stderr)
+    return 2
+
+
+if __name__ == "__main__":
+    sys.exit(main())

@@ -1,0 +1,56 @@
+#!/usr/bin/env python3
+"""Counts the loads of the solver's inner loops in the built archive: each double of a contact is to be one 8-byte load and one byte swap.
+
+  checks/count_loads.py          builds libiisph_c.a (rt staticlib iisph_c), disassembles it with objdump and compares
+
+Per function: how many byte swaps there are, one for each double that is read from the packed scene, and how many single bytes are loaded at most
+(a contact's name is two; the kind of contact is one). A change that breaks a read up shows as fewer swaps or more bytes.
+"""
+import argparse
+import collections
+import pathlib
+import re
+import subprocess
+import sys
+
+ROOT = pathlib.Path(__file__).resolve().parent.parent
+ARCHIVE = ROOT / "target" / "staticlib" / "libiisph_c.a"
+
+# function: doubles read, single bytes loaded at most
+EXPECTED = {
+    "iisph_coefficients::coefficients::densities": (7, 3),      # weight, gradient, a boundary particle's velocity
+    "iisph_coefficients::coefficients::dii": (3, 3),            # gradient
+    "iisph_coefficients::coefficients::aii": (3, 3),            # gradient
+    "iisph_pressures::iteration::pressure_sum": (3, 3),      # gradient
+    "iisph_motion::changes::pressure_changes": (6, 4),        # gradient, in the branch of each kind
+}
+
+
+def counted(text):
+    swaps, singles, name = collections.Counter(), collections.Counter(), ""
+    for line in text.splitlines():
+        head = re.match(r"[0-9a-f]+ <(.*)>:$", line)
+        if head:
+            name = head.group(1)
+        elif re.search(r"\b(bswap|movbe)\b", line):
+            swaps[name] += 1
+        elif re.search(r"\bmovzb[lwq]\s+\S*\(", line):
+            singles[name] += 1
+    return swaps, singles
+
+
+def main():
+    argparse.ArgumentParser(description=__doc__, formatter_class=argparse.RawDescriptionHelpFormatter).parse_args()
+    subprocess.run(["rt", "staticlib", "iisph_c"], cwd=ROOT, check=True, stdout=subprocess.DEVNULL)
+    text = subprocess.run(["objdump", "-d", str(ARCHIVE)], check=True, capture_output=True, text=True).stdout
+    swaps, singles = counted(text)
+    wrong = 0
+    for name, (doubles, most) in EXPECTED.items():
+        good = swaps[name] == doubles and singles[name] <= most
+        wrong += not good
+        print(f"{'as expected' if good else 'DIFFERS'}: {name}: {swaps[name]} byte swaps (expected {doubles}), {singles[name]} single bytes (at most {most})")
+    sys.exit(1 if wrong else 0)
+
+
+if __name__ == "__main__":
+    main()

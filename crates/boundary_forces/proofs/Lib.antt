@@ -1,5 +1,0 @@
-pub mod Offsets
-pub mod Rows
-pub mod Gathered
-pub mod GivenAnswers
-pub mod Contacts

@@ -1,0 +1,115 @@
+// Runs the kernel and the clock on cases with known bits and prints what they answer, a line for each call. The
+// expected lines were worked out with exact fractions (checks/cases_kernel.py).
+mod cases;
+
+use cubic_spline::KernelAnswer;
+use cubic_spline::KernelRefusal;
+use libc::STDOUT_FILENO;
+use timestep_manager::Clock;
+ghost use mathlib.Core.Path.{_≡_};
+ghost use Rattle.math.specs.Real.{bits, bitsOf};
+ghost use Rattle.cubic_spline.specs.Answer.{number};
+ghost use Rattle.timestep_manager.specs.Clock.{advanced};
+ghost use Rattle.cases_kernel.specs.Printed.{printed};
+
+// Prints a space and a double's bits, and hands them back.
+fn print_bits(x: f64) -> u64
+    ensures { λ r. ⌜ r ≡ bitsOf x ⌝ }
+{
+    let b = math::to_bits(x);
+    io::write_all(STDOUT_FILENO, b" ");
+    io::print_hex(STDOUT_FILENO, b, 16);
+    b
+}
+
+fn number_of(f: KernelRefusal) -> u64
+    ensures { λ r. ⌜ r ≡ number f ⌝ }
+{
+    match f {
+        KernelRefusal::Distance => 11,
+        KernelRefusal::Radius => 12,
+    }
+}
+
+// Prints what a line shows of a kernel's answer, a value's bits or a refusal's number, and hands it back.
+fn print_answer(a: KernelAnswer) -> u64
+    ensures { λ n. ⌜ n ≡ printed a ⌝ }
+{
+    match a {
+        KernelAnswer::Value(x) => print_bits(x),
+        KernelAnswer::Refused(f) => {
+            let n = number_of(f);
+            io::write_all(STDOUT_FILENO, b" refused ");
+            io::print_decimal(STDOUT_FILENO, n);
+            n
+        }
+    }
+}
+
+// Prints a line for a call of the kernel, and hands back what it shows of the answer.
+fn print_kernel(name: &[u8], r: f64, h: f64, a: KernelAnswer) -> u64
+    ensures { λ n. ⌜ n ≡ printed a ⌝ }
+{
+    io::write_all(STDOUT_FILENO, name);
+    print_bits(r);
+    print_bits(h);
+    let n = print_answer(a);
+    io::write_all(STDOUT_FILENO, b"\n");
+    n
+}
+
+// Prints a line for an advance of the clock, and hands back the clock after it.
+fn print_clock(step: f64, remaining: f64) -> Clock
+    ensures { λ c. ⌜
+        c ≡ advanced (record { «total_step_size» = step; dt = bits 0; «inv_dt» = bits 0; «remaining_time» = remaining })
+        ⌝ }
+{
+    let after = timestep_manager::advance(Clock {
+        total_step_size: step,
+        dt: 0.0,
+        inv_dt: 0.0,
+        remaining_time: remaining,
+    });
+    io::write_all(STDOUT_FILENO, b"clock");
+    print_bits(step);
+    print_bits(remaining);
+    print_bits(after.dt);
+    print_bits(after.inv_dt);
+    print_bits(after.remaining_time);
+    io::write_all(STDOUT_FILENO, b"\n");
+    after
+}
+
+// Runs all cases of the kernel, and answers how many.
+fn kernel_cases() -> usize
+    ensures { λ n. ⌜ n ≡ 73 ⌝ }
+{
+    let mut i = 0;
+    while i < 73 {
+        let r = math::from_bits(cases::DISTANCES[i]);
+        let h = math::from_bits(cases::RADII[i]);
+        print_kernel(b"weight", r, h, cubic_spline::scalar_apply(r, h));
+        print_kernel(b"slope", r, h, cubic_spline::scalar_apply_diff(r, h));
+        i += 1;
+    }
+    i
+}
+
+// Runs all cases of the clock, and answers how many.
+fn clock_cases() -> usize
+    ensures { λ n. ⌜ n ≡ 13 ⌝ }
+{
+    let mut i = 0;
+    while i < 13 {
+        let step = math::from_bits(cases::STEPS[i]);
+        let remaining = math::from_bits(cases::REMAINING[i]);
+        print_clock(step, remaining);
+        i += 1;
+    }
+    i
+}
+
+fn main() {
+    kernel_cases();
+    clock_cases();
+}

@@ -1,0 +1,68 @@
+-- `cases_short_lists::count_others` meets its contract: after i turns the count is that of the first i elements, and at
+-- most i. Assumes nothing.
+use Prim.Native.Nat.{_-_, _≤_}
+use mathlib.Core.Path.{_≡_, refl, ap, _∙_}
+use native.Mathlib.Numerals.{add-one}
+use native.Mathlib.Omega.{arith}
+use denote.Ref.{now}
+use lib.ListN.{length}
+use borrow.Author.Needs.{needs}
+use Rattle.cases_short_lists.specs.Marks.{others}
+use Rattle.cases_short_lists.proofs.count_others.Statement.{statement}
+use Rattle.cases_short_lists.proofs.count_others.Tie as tie
+
+abbrev Inv-loop : tie.InvT-loop
+Inv-loop list n₀ i₀ n i = (n ≡ others list i) × (n ≤ i) × (i ≤ length list)
+
+abbrev μ-loop : tie.MeasureT-loop
+μ-loop list n₀ i₀ n i = length list - i
+
+loop-holds : tie.Need-loop-holds Inv-loop μ-loop
+unfolding others
+loop-holds c = (refl, omega arith, omega arith)
+
+mul-is-other : tie.Need-mul-is-other Inv-loop μ-loop
+mul-is-other c = search needs
+
+shared-slice-read-is-other : tie.Need-shared-slice-read-is-other Inv-loop μ-loop
+shared-slice-read-is-other c = search needs
+
+is-other-requires : tie.Need-is-other-requires Inv-loop μ-loop
+is-other-requires c κs = search needs
+
+add-n : tie.Need-add-n Inv-loop μ-loop
+add-n c = search needs
+
+add-i : tie.Need-add-i Inv-loop μ-loop
+add-i c = search needs
+
+loop-less : tie.Need-loop-less Inv-loop μ-loop
+loop-less c = search needs
+
+loop-again : tie.Need-loop-again Inv-loop μ-loop
+unfolding others
+loop-again c =
+    let l = c .before .before .before .loop in
+    (rw (add-one (l .i), ← l .inv .0, c .is-other .ensures .0), search needs, search needs)
+
+returns : tie.Need-returns Inv-loop μ-loop
+returns c =
+    let l = c .before .loop in
+    let e : l .i ≡ length (now (c .before .before .before .args .list)) = search needs in
+    l .inv .0 ∙ ap (others _) e
+
+pub count-others-spec : {M : Type 1} → statement M
+count-others-spec =
+    tie.close
+    (tie.spec
+    Inv-loop
+    μ-loop
+    loop-holds
+    mul-is-other
+    shared-slice-read-is-other
+    is-other-requires
+    add-n
+    add-i
+    loop-less
+    loop-again
+    returns)

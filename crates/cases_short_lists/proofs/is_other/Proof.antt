@@ -1,0 +1,22 @@
+-- `cases_short_lists::is_other` meets its contract: by the test. Assumes nothing.
+use native.Mathlib.Omega.{arith}
+use borrow.Author.Needs.{needs}
+use borrow.Author.Tests.{eq-eqb, ne-eqb}
+use Rattle.lists.specs.Lists.{choose}
+use Rattle.cases_short_lists.specs.Marks.{other}
+use Rattle.cases_short_lists.proofs.is_other.Statement.{statement}
+use Rattle.cases_short_lists.proofs.is_other.Tie as tie
+
+to-bits-requires : tie.Need-to-bits-requires
+to-bits-requires c κs = search needs
+
+returns : tie.Need-returns
+unfolding other choose
+returns c = (rw (← c .before .to-bits .ensures, eq-eqb _ _ (c .if1 .taken)), omega arith)
+
+returns-2 : tie.Need-returns-2
+unfolding other choose
+returns-2 c = (rw (← c .before .to-bits .ensures, ne-eqb _ _ (c .if1 .left)), omega arith)
+
+pub is-other-spec : {M : Type 1} → statement M
+is-other-spec = tie.close (tie.spec to-bits-requires returns returns-2)

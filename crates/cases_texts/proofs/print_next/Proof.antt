@@ -1,0 +1,92 @@
+-- `cases_texts::print_next` meets its contract: no text, or that of the scene that was read; a scene's length is at
+-- most that of the buffer. Assumes nothing.
+use Prim.Native.Nat.{ℕ, _≤_}
+use mathlib.Core.Path.{_≡_, refl, sym}
+use mathlib.Core.List.{[], _∷_}
+use native.Mathlib.Omega.{arith}
+use lib.ListN.{length, take, replicate, length-replicate}
+use lib.Seq.{length-take-le}
+use borrow.Author.Needs.{needs}
+use Rattle.lists.specs.Lists.{choose}
+use Rattle.cases_texts.specs.Written.{writtenFor, FromScene}
+use Rattle.cases_texts.proofs.print_next.Statement.{statement}
+use Rattle.cases_texts.proofs.print_next.Tie as tie
+
+front : (n m : ℕ) → n ≤ m → n ≡ length (take n (replicate {A = ℕ} m 0))
+front n m h = sym (length-take-le n (replicate m 0) (omega (arith, length-replicate {A = ℕ} m 0)))
+
+short : {k : ℕ} (n : ℕ) → n ≤ 32769 → k ≡ length (take n (replicate {A = ℕ} 32769 0)) → k ≤ 32769
+short n h e = omega (arith, e, front n 32769 h)
+
+-- of a scene of one byte that did not come
+no-text : FromScene 0
+unfolding writtenFor choose
+no-text = record { scene = 0 ∷ []; short = omega arith; read = record { came = 0; within = omega arith; is = refl } }
+
+slice-aggregate-read-full : tie.Need-slice-aggregate-read-full
+slice-aggregate-read-full c = search needs
+
+read-full-requires : tie.Need-read-full-requires
+read-full-requires c κs = search needs
+
+returns : tie.Need-returns
+returns c = no-text
+
+slice-aggregate-be16 : tie.Need-slice-aggregate-be16
+slice-aggregate-be16 c = search needs
+
+be16-requires : tie.Need-be16-requires
+be16-requires c κs = search needs
+
+mul-n : tie.Need-mul-n
+mul-n c = search needs
+
+slice-aggregate-be16-2 : tie.Need-slice-aggregate-be16-2
+slice-aggregate-be16-2 c = search needs
+
+be16-requires-2 : tie.Need-be16-requires-2
+be16-requires-2 c κs = search needs
+
+add-n : tie.Need-add-n
+add-n c = search needs
+
+returns-2 : tie.Need-returns-2
+returns-2 c = no-text
+
+array-borrow-prefix-scene : tie.Need-array-borrow-prefix-scene
+array-borrow-prefix-scene c = search needs
+
+slice-aggregate-print-scene : tie.Need-slice-aggregate-print-scene
+slice-aggregate-print-scene c = front _ 32769 (c .before .if2 .left)
+
+print-scene-requires : tie.Need-print-scene-requires
+print-scene-requires c κs = search needs
+
+returns-3 : tie.Need-returns-3
+returns-3 c =
+    let p = c .before .print-scene in
+    record {
+      scene = p .last .1 .0;
+      short = short _ (c .before .before .before .if2 .left)
+          (p .kept .1 .0);
+      read = p .ensures;
+    }
+
+pub print-next-spec : {M : Type 1} → statement M
+print-next-spec =
+    tie.close
+    (tie.spec
+    slice-aggregate-read-full
+    read-full-requires
+    returns
+    slice-aggregate-be16
+    be16-requires
+    mul-n
+    slice-aggregate-be16-2
+    be16-requires-2
+    add-n
+    returns-2
+    array-borrow-prefix-scene
+    slice-aggregate-print-scene
+    print-scene-requires
+    returns-3)

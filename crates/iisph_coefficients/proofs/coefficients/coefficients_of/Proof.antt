@@ -1,0 +1,162 @@
+-- `iisph_coefficients::coefficients::coefficients_of` meets its contract: each sum over the fluid contacts and then the
+-- boundary contacts is the rule's, and the work list holds the particle's own mass and velocity. Assumes nothing.
+use Prim.Native.Nat.{_<_}
+use mathlib.Core.Path.{_∙_}
+use native.Mathlib.Omega.{arith}
+use borrow.Author.Needs.{needs}
+use denote.Ref.{now}
+use Rattle.scene_format.specs.Scene.{fluidSize, particle}
+use Rattle.scene_format.specs.SceneOf.{sceneOf}
+use Rattle.scene_format.specs.declared.Kind.the-variants.{Fluid, Boundary}
+use Rattle.iisph_coefficients.proofs.BothKinds.{coefficients-made}
+use Rattle.scene_index.proofs.ContactLists.{ContactsAre, contacts-are}
+use Rattle.iisph_rules.proofs.Sizes.{length-advected}
+use Rattle.iisph_rows.proofs.Particles.{dt-is}
+use Rattle.iisph_rows.proofs.RowReads.{mass-at, advected-at}
+use Rattle.iisph_coefficients.proofs.coefficients.coefficients_of.Statement.{statement}
+use Rattle.iisph_coefficients.proofs.coefficients.coefficients_of.Tie as tie
+
+abbrev Begin : tie.After-contacts-of2 → tie.Start
+Begin c = c .before .before .before .before .before
+
+below : (c : tie.Start) → c .args .i < fluidSize (sceneOf (now (c .args .scene)))
+below c = omega (arith, c .pre .0 .0 .over .size, c .pre .0 .1)
+
+fluid : (c : tie.After-contacts-of2)
+    → let b = now (Begin c .args .scene) in
+    ContactsAre b Fluid (particle (sceneOf b) (Begin c .args .i)) (c .before .contacts-of .result)
+fluid c = contacts-are (Begin c .pre .0 .0 .over .indexed) _ (below (Begin c)) (c .before .contacts-of .ensures)
+
+boundary : (c : tie.After-contacts-of2)
+    → let b = now (Begin c .args .scene) in
+    ContactsAre b Boundary (particle (sceneOf b) (Begin c .args .i)) (c .contacts-of2 .result)
+boundary c = contacts-are (Begin c .pre .0 .0 .over .indexed) _ (below (Begin c)) (c .contacts-of2 .ensures)
+
+contacts-of-requires : tie.Need-contacts-of-requires
+contacts-of-requires c κs =
+    let s = c .before .before .before in
+    (s .pre .0 .0 .over .indexed, below s)
+
+contacts-of-requires-2 : tie.Need-contacts-of-requires-2
+contacts-of-requires-2 c κs =
+    let s = c .before .before .before .before in
+    (s .pre .0 .0 .over .indexed, below s)
+
+mul-vector-at : tie.Need-mul-vector-at
+mul-vector-at c =
+    let p = Begin c .pre in
+    omega (arith, p .0 .0 .over .indexed .fewFluid, p .0 .0 .over .size, p .0 .1)
+
+add-vector-at : tie.Need-add-vector-at
+add-vector-at c =
+    let p = Begin c .pre in
+    omega (arith, p .0 .0 .over .indexed .fewFluid, p .0 .0 .over .size, p .0 .1)
+
+vector-at-requires : tie.Need-vector-at-requires
+vector-at-requires c κs =
+    let p = Begin c .pre in
+    omega (arith, p .1 .room, p .0 .1)
+
+densities-requires : tie.Need-densities-requires
+densities-requires c κs =
+    let u = c .before in
+    let p = Begin u .pre in
+    (p .0 .0 .over, (fluid u .ready, p .1))
+
+densities-requires-2 : tie.Need-densities-requires-2
+densities-requires-2 c κs =
+    let u = c .before .before in
+    let p = Begin u .pre in
+    (p .0 .0 .over, (boundary u .ready, p .1))
+
+zero-requires : tie.Need-zero-requires
+zero-requires c κs = search needs
+
+dii-requires : tie.Need-dii-requires
+dii-requires c κs =
+    let u = c .before .before .before .before in
+    let p = Begin u .pre in
+    (p .0 .0 .over, (fluid u .ready, p .1))
+
+dii-requires-2 : tie.Need-dii-requires-2
+dii-requires-2 c κs =
+    let u = c .before .before .before .before .before in
+    let p = Begin u .pre in
+    (p .0 .0 .over, (boundary u .ready, p .1))
+
+mul-e : tie.Need-mul-e
+mul-e c =
+    let p = Begin (c .before .before .before .before .before .before) .pre in
+    omega (arith, p .0 .0 .over .indexed .fewFluid, p .0 .0 .over .size, p .0 .1)
+
+add-e : tie.Need-add-e
+add-e c =
+    let p = Begin (c .before .before .before .before .before .before) .pre in
+    omega (arith, p .0 .0 .over .indexed .fewFluid, p .0 .0 .over .size, p .0 .1)
+
+mul-e-2 : tie.Need-mul-e-2
+mul-e-2 c =
+    let p = Begin (c .before .before .before .before .before .before) .pre in
+    omega (arith, p .0 .0 .over .indexed .fewFluid, p .0 .0 .over .size, p .0 .1)
+
+shared-slice-read-e : tie.Need-shared-slice-read-e
+shared-slice-read-e c =
+    let p = Begin (c .before .before .before .before .before .before .before) .pre in
+    omega (arith, p .1 .room, p .0 .1)
+
+aii-requires : tie.Need-aii-requires
+aii-requires c κs =
+    let u = c .before .before .before .before .before .before .before in
+    let p = Begin u .pre in
+    (p .0 .0 .over, (fluid u .ready, p .1))
+
+aii-requires-2 : tie.Need-aii-requires-2
+aii-requires-2 c κs =
+    let u = c .before .before .before .before .before .before .before .before in
+    let p = Begin u .pre in
+    (p .0 .0 .over, (boundary u .ready, p .1))
+
+returns : tie.Need-returns
+returns c =
+    let a = c .before in
+    let d = a .before .before .before in
+    let r = d .before .before .before in
+    let v = r .before .before in
+    let u = v .before in
+    let s = Begin u in
+    let p = s .pre in
+    coefficients-made (fluid u) (boundary u)
+    (dt-is _ (p .0 .0 .clockIs))
+    (v .vector-at .ensures ∙ advected-at (p .1) _ (p .0 .1) (length-advected _ _ (below s)))
+    (r .before .densities .ensures .0)
+    (r .before .densities .ensures .1)
+    (r .densities2 .ensures .0)
+    (r .densities2 .ensures .1)
+    (d .before .before .zero .ensures)
+    (d .before .dii .ensures)
+    (d .dii2 .ensures)
+    (mass-at (p .1) _ (p .0 .1))
+    (a .before .aii .ensures)
+    (a .aii2 .ensures)
+
+pub coefficients-of-spec : {M : Type 1} → statement M
+coefficients-of-spec =
+    tie.close
+    (tie.spec
+    contacts-of-requires
+    contacts-of-requires-2
+    mul-vector-at
+    add-vector-at
+    vector-at-requires
+    densities-requires
+    densities-requires-2
+    zero-requires
+    dii-requires
+    dii-requires-2
+    mul-e
+    add-e
+    mul-e-2
+    shared-slice-read-e
+    aii-requires
+    aii-requires-2
+    returns)

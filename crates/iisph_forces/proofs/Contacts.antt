@@ -1,0 +1,235 @@
+-- A boundary contact of a fluid particle, as the code gathers it: where the force stands that it names, and what a
+-- store there makes of the answer list. A boundary's particles all keep forces or none, so the offset grows evenly from
+-- the boundary's first. Assumes nothing.
+use Prim.Native.Nat.{ℕ, suc, _+_, _*_, _<_, _≤_}
+use mathlib.Core.Path.{_≡_, refl, sym, ap, subst, _∙_}
+use mathlib.Core.Bool.{Bool, true, false}
+use mathlib.Core.List.{List}
+use native.Mathlib.Nat.{zero-add}
+use native.Mathlib.Numerals.{add-one}
+use native.Mathlib.Omega.{arith}
+use lib.Dec.{eqb}
+use lib.Ieee.{Float}
+use lib.ListN.{length, getD}
+use lib.Seq.{sets, length-sets}
+use Rattle.iisph_motion.specs.Changes.{PressureStateIs, accelerationOf}
+use Rattle.iisph_motion.specs.declared.acceleration.PressureState.{PressureState}
+use Rattle.iisph_motion.proofs.Accelerations.{acceleration-is}
+use Rattle.iisph_rows.specs.Rows.{vectorFrom}
+use Rattle.iisph_rules.proofs.Iterations.{chosen}
+use Rattle.lists.specs.Lists.{fold, table, choose}
+use Rattle.lists.proofs.Lists.{length-table, table-at, fold-same, fold-keeps, fold-table}
+use Rattle.lists.proofs.Numbering.{length-starts}
+use Rattle.math.specs.Vector.{Vector, _⊞_, _⊡_}
+use Rattle.scene_check.proofs.Accepted.{RecordNamed, accepted}
+use Rattle.scene_format.specs.Format.{axes, contactWidth, modelNumber, modelAt, numberAt}
+use Rattle.scene_format.specs.Format.{countsOf, startsOf, locationOf}
+use Rattle.scene_format.specs.Scene.{Scene, Contact, fluidSize, boundarySize, sizeOf, particle, boundary}
+use Rattle.scene_format.specs.SceneOf.{targetAt, contactAt, sceneOf}
+use Rattle.scene_format.specs.Within.{NameIs}
+use Rattle.scene_format.specs.declared.ContactName.{ContactName}
+use Rattle.scene_format.specs.declared.Kind.the-variants.{Fluid, Boundary}
+use Rattle.scene_index.specs.Contacts.{ContactReady, contactListAt, overList}
+use Rattle.scene_index.specs.Index.{Indexed}
+use Rattle.scene_index.specs.declared.contacts.ContactList.{ContactList}
+use Rattle.scene_index.proofs.ContactLists.{contactsOf, contacts-are, over-list}
+use Rattle.scene_index.proofs.Runs.{run-keeps}
+use Rattle.scene_layout.specs.Layout.{layoutModels}
+use Rattle.scene_layout.proofs.Locations.{each-location, fluid-size, length-counts}
+use Rattle.scene_lengths.specs.Lengths.{keptAnswerWidth, answersNeeded}
+use Rattle.iisph_forces.specs.Forces.{answerOffset, forceStart, forceStarts}
+use Rattle.iisph_forces.specs.Forces.{ForcesKnown, ForceContact, ForceContacts}
+use Rattle.iisph_forces.specs.Forces.{gathered, stateGain, forceGain, gatheredFrom, gatheredAll}
+use Rattle.iisph_forces.proofs.Offsets.{offset-next, offset-even, offset-needed, width-kept}
+use Rattle.iisph_forces.proofs.Offsets.{layout-count, layout-start, indexed-run}
+
+-- ---- where the force stands that a contact names
+
+-- the boundary particle that the contact at an offset names
+abbrev named : List ℕ → ℕ → ℕ
+named b at = targetAt (startsOf Boundary b) b at
+
+-- k is where the first force of the boundary stands that the contact at an offset names, or 0 where no forces are kept
+pub record ForceAt (b : List ℕ) (at k : ℕ) : Type 0 where
+  pub kept : 0 < k → boundary (sceneOf b) (named b at) .keepsForces ≡ true
+  pub offset : 0 < k → k + keptAnswerWidth axes * numberAt b at ≡ answerOffset (sceneOf b) (named b at) + 1
+  pub none : k ≤ 0 → boundary (sceneOf b) (named b at) .keepsForces ≡ false
+
+module _ {b index : List ℕ} (ix : Indexed b index) {at : ℕ} (c : ForceContact b at) where
+  model-below : modelAt b at < modelNumber Boundary b
+  model-below = omega (arith, c .ready .target .model, length-starts 0 (countsOf Boundary b), length-counts Boundary b)
+
+  pub target-below : named b at < boundarySize (sceneOf b)
+  unfolding sizeOf
+  target-below = c .ready .target .below
+
+  target-is : named b at ≡ getD (layoutModels Boundary b .starts) (modelAt b at) 0 + numberAt b at
+  unfolding targetAt
+  target-is = rw (layout-start b (modelAt b at))
+
+  same : (p : ℕ) → p ≤ numberAt b at
+      → boundary (sceneOf b) (getD (layoutModels Boundary b .starts) (modelAt b at) 0 + p) .keepsForces
+      ≡ eqb (getD (layoutModels Boundary b .keeps) (modelAt b at) 0) 1
+  same p h =
+      run-keeps (indexed-run ix (modelAt b at) model-below) p (omega (arith, c .number, layout-count b (modelAt b at)))
+
+  -- the boundary's entry says whether a force is kept, and where it stands
+  first-go : (t : Bool) → eqb (getD (layoutModels Boundary b .keeps) (modelAt b at) 0) 1 ≡ t
+      → ForceAt b at
+      (choose t (answerOffset (sceneOf b) (getD (layoutModels Boundary b .starts) (modelAt b at) 0) + 1) 0)
+  unfolding choose
+  first-go true e =
+      let s = sceneOf b in
+      let start = getD (layoutModels Boundary b .starts) (modelAt b at) 0 in
+      let p = numberAt b at in
+      record {
+        kept = λ _. ap (λ (j : ℕ). boundary s j .keepsForces) target-is ∙ same p (omega arith) ∙ e;
+        offset = λ _.
+            rw target-is
+            (omega (arith, offset-even s start p _ (λ q l. width-kept s (start + q) (same q (omega arith) ∙ e))));
+        none = λ h. absurd (omega arith);
+      }
+  first-go false e =
+      record {
+        kept = λ h. absurd (omega arith);
+        offset = λ h. absurd (omega arith);
+        none =
+            λ _. ap (λ (j : ℕ). boundary (sceneOf b) j .keepsForces) target-is ∙ same (numberAt b at) (omega arith) ∙ e;
+      }
+
+  first-is : ForceAt b at (forceStart b (modelAt b at))
+  unfolding forceStart
+  first-is = first-go _ refl
+
+  -- as the code finds it
+  module _ {forces : List ℕ} (known : ForcesKnown b forces) {r : ContactName} (name : NameIs b at r) where
+    entry-is : getD forces (r .model .0) 0 ≡ forceStart b (modelAt b at)
+    unfolding forceStarts
+    entry-is =
+        let n = modelNumber Boundary b in
+        ap (λ (w : ℕ). getD forces w 0) (name .model ∙ sym (zero-add (modelAt b at)))
+        ∙ known .starts .holds (modelAt b at) (rw (length-table n) model-below)
+        ∙ table-at n (forceStart b) (modelAt b at) 0 model-below
+
+    pub force-none : getD forces (r .model .0) 0 ≤ 0 → boundary (sceneOf b) (named b at) .keepsForces ≡ false
+    force-none h = first-is .none (rw entry-is at h)
+
+    module _ (h : 0 < getD forces (r .model .0) 0) where
+      pub force-kept : boundary (sceneOf b) (named b at) .keepsForces ≡ true
+      force-kept = first-is .kept (rw entry-is at h)
+
+      pub force-offset : getD forces (r .model .0) 0 + keptAnswerWidth axes * r .particle .0
+          ≡ answerOffset (sceneOf b) (named b at) + 1
+      force-offset = rw (entry-is, name .particle) (first-is .offset (rw entry-is at h))
+
+      pub force-room : getD forces (r .model .0) 0 + keptAnswerWidth axes * r .particle .0 + axes
+          ≤ answersNeeded (sceneOf b)
+      force-room =
+          let t = named b at in
+          omega (
+            arith,
+            force-offset,
+            offset-next (sceneOf b) t,
+            width-kept (sceneOf b) t force-kept,
+            offset-needed b (suc t) target-below,
+          )
+
+-- ---- one contact
+
+module _ (b : List ℕ) (at : ℕ) (state : PressureState) (l : List Float) where
+  -- from the results of the code's calls
+  pub gather-kept : {k : ℕ} {x f e g a : List Float}
+      → boundary (sceneOf b) (named b at) .keepsForces ≡ true
+      → x ≡ sets l k f → k ≡ answerOffset (sceneOf b) (named b at) + 1 → f ≡ e ⊞ g → e ≡ vectorFrom l k
+      → g ≡ a ⊡ state .mass
+      → a ≡ accelerationOf (sceneOf b) state (contactAt (startsOf Boundary b) b at)
+      → x ≡ gathered (sceneOf b) (stateGain (sceneOf b) state) l (contactAt (startsOf Boundary b) b at)
+  unfolding gathered choose contactAt
+  gather-kept kept xe offset fe ee ge ae = xe ∙ rw (fe, ee, ge, ae, offset, kept)
+
+  pub gather-none : boundary (sceneOf b) (named b at) .keepsForces ≡ false
+      → l ≡ gathered (sceneOf b) (stateGain (sceneOf b) state) l (contactAt (startsOf Boundary b) b at)
+  unfolding gathered choose contactAt
+  gather-none kept = rw kept
+
+-- ---- lengths
+
+pub length-gathered : (s : Scene) (gain : Contact → Vector) (l : List Float) (c : Contact)
+    → length (gathered s gain l c) ≡ length l
+unfolding gathered
+length-gathered s gain l c =
+    let k = answerOffset s (c .target) + 1 in
+    chosen (λ (x : List Float). length x ≡ length l) (boundary s (c .target) .keepsForces) _ l
+    (λ _. length-sets l k (vectorFrom l k ⊞ gain c))
+    (λ _. refl)
+
+pub length-gathered-from : (s : Scene) (ps l : List Float) (i : ℕ) → length (gatheredFrom s ps l i) ≡ length l
+unfolding gatheredFrom
+length-gathered-from s ps l i =
+    fold-keeps (λ (x : List Float). length x ≡ length l) (gathered s (forceGain s ps i)) l
+    (particle s i .boundaryContacts) refl
+    (λ c m x e. length-gathered s (forceGain s ps i) x c ∙ e)
+
+-- ---- the contacts of a fluid particle
+
+gain-same : (s : Scene) (gain gain′ : Contact → Vector) (l : List Float) (c : Contact) → gain c ≡ gain′ c
+    → gathered s gain l c ≡ gathered s gain′ l c
+unfolding gathered
+gain-same s gain gain′ l c e = rw e
+
+module _ {b index : List ℕ} (ix : Indexed b index) (i : ℕ) (h : i < fluidSize (sceneOf b)) where
+  names-ok : RecordNamed Fluid b (locationOf Fluid b i)
+  names-ok =
+      each-location Fluid b (RecordNamed Fluid b) (accepted b (ix .accepted) .names Fluid) i (rw (fluid-size b) at h)
+
+  -- each contact of a list names a particle that its boundary has
+  abbrev NumbersIn : ContactList → Type 0
+  NumbersIn list =
+      (k : ℕ) → k < list .count
+      → let at = list .at + contactWidth axes * k in
+      numberAt b at < getD (countsOf Boundary b) (modelAt b at) 0
+
+  module _ {list : ContactList} (e : list ≡ contactListAt Boundary b (locationOf Fluid b i)) where
+    pub force-contacts : ForceContacts b list
+    unfolding contactListAt RecordNamed
+    force-contacts =
+        let are = contacts-are ix i h e in
+        record {
+          kind = are .kind;
+          each = λ k l.
+              record {
+                ready =
+                    subst (λ κ. ContactReady κ b (list .at + contactWidth axes * k)) (are .kind) (are .ready .each k l);
+                number = subst NumbersIn (sym e) (λ k l. names-ok Boundary k l .number) k l;
+              };
+        }
+
+    -- gathering with the particle's pressure state is the rules' gathering
+    pub from-made : {ps : List Float} {state : PressureState} → PressureStateIs (sceneOf b) ps i state
+        → (l : List Float) {x : List Float}
+        → x ≡ overList b list (gathered (sceneOf b) (stateGain (sceneOf b) state)) l
+        → x ≡ gatheredFrom (sceneOf b) ps l i
+    unfolding gatheredFrom contactsOf
+    from-made {ps} {state} is l xe =
+        let s = sceneOf b in
+        xe
+        ∙ over-list (contacts-are ix i h e) (gathered s (stateGain s state)) l
+        ∙ fold-same (particle s i .boundaryContacts)
+        (λ c m x. gain-same s (stateGain s state) (forceGain s ps i) x c (rw (acceleration-is is c, is .mass)))
+        refl
+
+-- ---- one fluid particle after the other: l is the answer list before the first
+
+module _ (s : Scene) (ps l : List Float) where
+  pub no-particles : l ≡ gatheredAll s ps 0 l
+  unfolding gatheredAll table fold
+  no-particles = refl
+
+  pub one-more-particle : (i : ℕ) {x y : List Float} → x ≡ gatheredAll s ps i l → y ≡ gatheredFrom s ps x i
+      → y ≡ gatheredAll s ps (i + 1) l
+  unfolding gatheredAll
+  one-more-particle i xe ye =
+      ye
+      ∙ ap (λ (x : List Float). gatheredFrom s ps x i) xe
+      ∙ sym (fold-table (gatheredFrom s ps) l i (λ k. k))
+      ∙ ap (λ (n : ℕ). fold (gatheredFrom s ps) l (table n (λ k. k))) (sym (add-one i))

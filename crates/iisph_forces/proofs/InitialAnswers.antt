@@ -1,0 +1,265 @@
+-- The answers of the boundary particles with the forces that the scene has, as the code stores them: one particle, the
+-- particles of one boundary, and boundary after boundary. Each is a run of stores behind those done, as long as the
+-- offsets say. Assumes nothing.
+use Prim.Native.Nat.{ℕ, zero, suc, _+_, _*_, _<_, _≤_}
+use mathlib.Core.Path.{_≡_, refl, sym, ap, subst, _∙_}
+use mathlib.Core.Bool.{Bool, true, false}
+use mathlib.Core.List.{List, flatten}
+use native.Mathlib.Nat.{add-zero, zero-add, le-antisymm}
+use native.Mathlib.Numerals.{add-one}
+use native.Mathlib.Omega.{arith}
+use lib.Dec.{eqb}
+use lib.Ieee.{Float}
+use lib.ListN.{length, getD, set}
+use lib.Seq.{sets, length-sets}
+use borrow.Author.Tests.{eqb-true, eq-eqb, ne-eqb}
+use Rattle.iisph_rules.specs.Coefficients.{boundaryVolume}
+use Rattle.iisph_rules.proofs.EndToEnd.{length-rows}
+use Rattle.iisph_rules.proofs.Iterations.{chosen}
+use Rattle.lists.specs.Lists.{table, choose}
+use Rattle.lists.proofs.Fills.{sets-append, Filling, none-stored, one-more-stored, all-stored}
+use Rattle.lists.proofs.Lists.{length-table}
+use Rattle.lists.proofs.Rows.{rows-next, rows-none, rows-add}
+use Rattle.lists.proofs.Stores.{sets-in}
+use Rattle.math.specs.Vector.{Vector}
+use Rattle.scene_check.specs.Check.{Passed}
+use Rattle.scene_check.specs.Walk.{checked}
+use Rattle.scene_check.proofs.Accepted.{accepted-within}
+use Rattle.scene_check.proofs.Records.{boundary-particle-ok}
+use Rattle.scene_format.specs.Bytes.{AllFinite, vectorAt}
+use Rattle.scene_format.specs.Format.{axes, nameableModels, modelNumber, keepsAt, forceOffset, countsOf, locationOf}
+use Rattle.scene_format.specs.Scene.{Scene, fluidSize, boundarySize, boundary}
+use Rattle.scene_format.specs.SceneOf.{forceAt, boundaryParticleAt, sceneOf}
+use Rattle.scene_format.specs.declared.Kind.the-variants.{Boundary}
+use Rattle.scene_format.specs.declared.Walk.the-variants.{At}
+use Rattle.scene_index.specs.Index.{recordsAt, Indexed}
+use Rattle.scene_index.proofs.Indexes.{boundaries-are}
+use Rattle.scene_index.proofs.Runs.{before, keeps-at, none-before, all-before, start-before, count-next, boundary-run}
+use Rattle.scene_index.proofs.Targets.{boundary-record-at}
+use Rattle.scene_layout.specs.declared.Layout.{Layout}
+use Rattle.scene_layout.proofs.Locations.{boundary-at}
+use Rattle.scene_lengths.specs.Lengths.{fluidAnswerWidth, answerWidth, boundaryAnswerWidth, answersNeeded}
+use Rattle.iisph_forces.specs.Forces.{widthAt, answerOffset, forceStart, forceStarts, ForcesKnown}
+use Rattle.iisph_forces.specs.Forces.{boundaryWith, boundaryInitial}
+use Rattle.iisph_forces.proofs.Gathered.{with-length, initial-fits}
+use Rattle.iisph_forces.proofs.Offsets.{offset-next, offset-needed, offset-none, offset-in}
+
+-- ---- one particle
+
+pub kept-here : {t : Bool} {keeps : ℕ} → t ≡ eqb keeps 1 → keeps ≡ 1 → t ≡ true
+kept-here {keeps = keeps} e h = e ∙ eq-eqb keeps 1 h
+
+pub not-kept-here : {t : Bool} {keeps : ℕ} → t ≡ eqb keeps 1 → (keeps ≡ 1 → ⊥) → t ≡ false
+not-kept-here {keeps = keeps} e h = e ∙ ne-eqb keeps 1 h
+
+pub width-some : (s : Scene) (j : ℕ) → 1 ≤ widthAt s j
+unfolding boundaryAnswerWidth answerWidth
+width-some s j =
+    chosen (λ (n : ℕ). 1 ≤ answerWidth axes Boundary n) (boundary s j .keepsForces) 1 0 (λ _. omega arith)
+    (λ _. omega arith)
+
+force-read : (b : List ℕ) (k at : ℕ) → k ≡ 1 → vectorAt axes b at ≡ forceAt k b at
+unfolding forceAt
+force-read b zero at e = absurd (omega arith)
+force-read b (suc k) at e = refl
+
+module _ {b index : List ℕ} (ix : Indexed b index) (j : ℕ) (h : j < boundarySize (sceneOf b))
+    (kept : boundary (sceneOf b) j .keepsForces ≡ true) where
+  keeps-one : keepsAt b (locationOf Boundary b j .head) ≡ 1
+  keeps-one = eqb-true _ 1 (sym (keeps-at b j h) ∙ kept)
+
+  pub force-finite : AllFinite b (getD index (recordsAt Boundary + j) 0 + forceOffset axes) axes
+  force-finite =
+      rw (boundary-record-at ix j h)
+      (subst (λ (k : ℕ). AllFinite b (locationOf Boundary b j .at + forceOffset axes) (axes * k)) keeps-one
+      (boundary-particle-ok b (ix .accepted) j h .own .force))
+
+  pub force-here : vectorAt axes b (getD index (recordsAt Boundary + j) 0 + forceOffset axes)
+      ≡ boundary (sceneOf b) j .force
+  unfolding boundaryParticleAt
+  force-here =
+      ap (λ (at : ℕ). vectorAt axes b (at + forceOffset axes)) (boundary-record-at ix j h)
+      ∙ force-read b _ (locationOf Boundary b j .at + forceOffset axes) keeps-one
+      ∙ sym (ap (λ p. p .force) (boundary-at b j h))
+
+-- both stores, or the one
+module _ (s : Scene) (j : ℕ) (l : List Float) (at : ℕ) {v : Float} (volume : v ≡ boundaryVolume (boundary s j)) where
+  pub initial-kept : boundary s j .keepsForces ≡ true → {f : Vector} → f ≡ boundary s j .force
+      → sets (set l at v) (at + 1) f ≡ sets l at (boundaryInitial s j)
+  unfolding boundaryWith choose
+  initial-kept kept e = rw (volume, e, kept, add-one at)
+
+  pub initial-not-kept : boundary s j .keepsForces ≡ false → set l at v ≡ sets l at (boundaryInitial s j)
+  unfolding boundaryWith choose
+  initial-not-kept kept = rw (volume, kept)
+
+-- ---- the particles of one boundary
+
+-- of `count` particles from number `first` on the first p are stored in l; this gave x, and the next one's element is
+-- `to`
+pub record BoundaryPut (b : List ℕ) (l : List Float) (first count p to : ℕ) (x : List Float) : Type 0 where
+  pub within : p ≤ count
+  pub long : length x ≡ length l
+  pub next : to ≡ answerOffset (sceneOf b) (first + p)
+  pub stored : x
+      ≡ sets l (answerOffset (sceneOf b) first) (flatten (table p (λ k. boundaryInitial (sceneOf b) (first + k))))
+
+module _ (b : List ℕ) (l : List Float) (first count : ℕ) where
+  pub none-put : {at : ℕ} → at ≡ answerOffset (sceneOf b) first → BoundaryPut b l first count 0 at l
+  none-put e =
+      record {
+        within = omega arith;
+        long = refl;
+        next = rw (add-zero first) e;
+        stored = rw (rows-none (λ k. boundaryInitial (sceneOf b) (first + k)));
+      }
+
+  module _ {e : ℕ} (q : checked b ≡ At e) (fits : first + count ≤ boundarySize (sceneOf b)) {p to : ℕ} {x : List Float}
+      (here : BoundaryPut b l first count p to x) where
+    pub particle-room : p < count → answersNeeded (sceneOf b) ≤ length l
+        → to + widthAt (sceneOf b) (first + p) ≤ length x
+    particle-room h room =
+        let j = first + p in
+        omega (arith, here .long, here .next, offset-next (sceneOf b) j, offset-needed b (suc j) (omega arith))
+
+    pub one-more-put : p < count → {r : ℕ} {y : List Float} → r ≡ to + widthAt (sceneOf b) (first + p)
+        → y ≡ sets x to (boundaryInitial (sceneOf b) (first + p)) → BoundaryPut b l first count (p + 1) r y
+    one-more-put h re ye =
+        let s = sceneOf b in
+        let at = answerOffset s first in
+        let initial : ℕ → List Float = λ k. boundaryInitial s (first + k) in
+        let done = flatten (table p initial) in
+        let long = length-rows p initial (λ k. widthAt s (first + k))
+        (λ k m. with-length s (λ j. boundary s j .force) (initial-fits b q) (first + k) (omega arith)) in
+        let start : to ≡ at + length done = omega (arith, here .next, long, offset-in s first p) in
+        let more : first + (p + 1) ≡ suc (first + p) = omega arith in
+        record {
+          within = omega arith;
+          long = ap length ye ∙ length-sets x to (boundaryInitial s (first + p)) ∙ here .long;
+          next = rw more (omega (arith, re, here .next, offset-next s (first + p)));
+          stored =
+              ye ∙ rw (here .stored, start, add-one p, rows-next p initial) (sym (sets-append done (initial p) l at));
+        }
+
+    pub all-put : count ≤ p
+        → (to ≡ answerOffset (sceneOf b) (first + count))
+        × (x
+        ≡ sets l (answerOffset (sceneOf b) first)
+        (flatten (table count (λ k. boundaryInitial (sceneOf b) (first + k)))))
+    all-put h =
+        let e = le-antisymm (here .within) h in
+        (rw (← e) (here .next), rw (← e) (here .stored))
+
+-- ---- boundary after boundary
+
+-- of the boundaries the first w are stored in l, and where their forces begin in fs; this gave x and gs, and the next
+-- boundary's element is `to`
+pub record InitialPut (b fs : List ℕ) (l : List Float) (w to : ℕ) (gs : List ℕ) (x : List Float) : Type 0 where
+  pub long : length x ≡ length l
+  pub next : to ≡ answerOffset (sceneOf b) (before (countsOf Boundary b) w)
+  pub starts : Filling fs 0 (forceStart b) (modelNumber Boundary b) w gs
+  pub stored : x
+      ≡ sets l (fluidAnswerWidth axes * fluidSize (sceneOf b))
+      (flatten (table (before (countsOf Boundary b) w) (boundaryInitial (sceneOf b))))
+
+module _ (b fs : List ℕ) (l : List Float) where
+  pub no-boundaries : {to : ℕ} → to ≡ fluidAnswerWidth axes * fluidSize (sceneOf b) → InitialPut b fs l 0 to fs l
+  no-boundaries e =
+      record {
+        long = refl;
+        next = rw (none-before b) (e ∙ sym (offset-none (sceneOf b)));
+        starts = none-stored fs 0 (forceStart b) (modelNumber Boundary b);
+        stored = rw (none-before b, rows-none (boundaryInitial (sceneOf b)));
+      }
+
+  module _ {w to : ℕ} {gs : List ℕ} {x : List Float} (here : InitialPut b fs l w to gs x) where
+    module _ (h : w < modelNumber Boundary b) {layout : Layout} (passed : Passed b layout) where
+      -- the next boundary begins where the layout says, within what is needed
+      pub boundary-next : to ≡ answerOffset (sceneOf b) (getD (layout .boundaries .starts) w 0)
+      boundary-next = rw (start-before b (boundaries-are passed) w h) (here .next)
+
+      pub boundary-room : to ≤ answersNeeded (sceneOf b)
+      boundary-room =
+          let run = boundary-run b (boundaries-are passed) w h passed in
+          let first = getD (layout .boundaries .starts) w 0 in
+          omega (arith, boundary-next, offset-needed b first (omega (arith, run .within)))
+
+      force-starts : {f : ℕ} → f ≡ choose (eqb (getD (layout .boundaries .keeps) w 0) 1) (to + 1) 0 → f ≡ forceStart b w
+      unfolding forceStart
+      force-starts e = e ∙ rw (boundary-next, boundaries-are passed)
+
+      pub one-more-boundary : {f r : ℕ} {y : List Float}
+          → let models = layout .boundaries in
+          f ≡ choose (eqb (getD (models .keeps) w 0) 1) (to + 1) 0
+          → r ≡ answerOffset (sceneOf b) (getD (models .starts) w 0 + getD (models .counts) w 0)
+          → let initial : ℕ → List Float = λ p. boundaryInitial (sceneOf b) (getD (models .starts) w 0 + p) in
+          y ≡ sets x to (flatten (table (getD (models .counts) w 0) initial))
+          → InitialPut b fs l (w + 1) r (set gs w f) y
+      unfolding answerOffset
+      one-more-boundary {f} {r} {y} fe re ye =
+          let s = sceneOf b in
+          let models = layout .boundaries in
+          let is = boundaries-are passed in
+          let initial = boundaryInitial s in
+          let done = before (countsOf Boundary b) w in
+          let count = getD (models .counts) w 0 in
+          let start : getD (models .starts) w 0 ≡ done = start-before b is w h in
+          let more : before (countsOf Boundary b) (suc w) ≡ done + count = count-next b is w h in
+          let long = length-rows done initial (widthAt s)
+          (λ j m.
+          with-length s (λ j. boundary s j .force) (initial-fits b (passed .walk)) j
+          (omega (arith, start, boundary-run b is w h passed .within))) in
+          let rows = flatten (table done initial) in
+          let at : to ≡ fluidAnswerWidth axes * fluidSize s + length rows = omega (arith, here .next, long) in
+          let stores : y ≡ sets x to (flatten (table count (λ p. initial (done + p)))) =
+          ye ∙ ap (λ (k : ℕ). sets x to (flatten (table count (λ p. initial (k + p))))) start in
+          record {
+            long = ap length stores ∙ length-sets x to (flatten (table count (λ p. initial (done + p)))) ∙ here .long;
+            next = rw (add-one w, more) (re ∙ ap (λ (k : ℕ). answerOffset s (k + count)) start);
+            starts =
+                subst (λ (k : ℕ). Filling fs 0 (forceStart b) (modelNumber Boundary b) (w + 1) (set gs k f))
+                (zero-add w)
+                (one-more-stored fs 0 (forceStart b) (modelNumber Boundary b) (here .starts) h (force-starts fe));
+            stored =
+                stores
+                ∙ rw (add-one w, more, rows-add done count initial, here .stored, at)
+                (sym
+                (sets-append (flatten (table done initial)) (flatten (table count (λ p. initial (done + p)))) l
+                (fluidAnswerWidth axes * fluidSize s)));
+          }
+
+    pub all-boundaries : modelNumber Boundary b ≤ w
+        → (gs ≡ sets fs 0 (forceStarts b))
+        × (x
+        ≡ sets l (fluidAnswerWidth axes * fluidSize (sceneOf b))
+        (flatten (table (boundarySize (sceneOf b)) (boundaryInitial (sceneOf b)))))
+    unfolding forceStarts
+    all-boundaries h =
+        let e = le-antisymm (here .starts .within) h in
+        let starts = all-stored fs 0 (forceStart b) (modelNumber Boundary b) (here .starts) h refl in
+        (starts, rw (← all-before b, ← e) (here .stored))
+
+-- ---- what gathering finds
+
+module _ (b : List ℕ) where
+  pub starts-held : {e : ℕ} → checked b ≡ At e → (fs : List ℕ) → nameableModels ≤ length fs → {gs : List ℕ}
+      → gs ≡ sets fs 0 (forceStarts b) → ForcesKnown b gs
+  unfolding forceStarts
+  starts-held q fs room is =
+      let few = accepted-within b q Boundary .few in
+      let size = length-table (modelNumber Boundary b) (forceStart b) in
+      let long = length-sets fs 0 (table (modelNumber Boundary b) (forceStart b)) in
+      rw is
+      (record {
+        room = omega (arith, long);
+        starts =
+            record { holds = λ i h. sets-in 0 (table (modelNumber Boundary b) (forceStart b)) fs 0 i (omega arith) h };
+      })
+
+  pub still-room : (l : List Float) (k : ℕ) {x : List Float}
+      → x ≡ sets l k (flatten (table (boundarySize (sceneOf b)) (boundaryInitial (sceneOf b))))
+      → answersNeeded (sceneOf b) ≤ length l → answersNeeded (sceneOf b) ≤ length x
+  still-room l k is room =
+      let s = sceneOf b in
+      let long = ap length is ∙ length-sets l k (flatten (table (boundarySize s) (boundaryInitial s))) in
+      omega (arith, long)

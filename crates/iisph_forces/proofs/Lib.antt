@@ -1,0 +1,4 @@
+pub mod Offsets
+pub mod Gathered
+pub mod InitialAnswers
+pub mod Contacts

@@ -1,0 +1,75 @@
+-- `iisph_forces::boundary_answers` meets its contract: from the forces that the scene has, gathering makes the rules'
+-- forces. Assumes nothing.
+use Prim.Native.Nat.{ℕ, _*_, _≤_}
+use mathlib.Core.Path.{ap, _∙_}
+use mathlib.Core.List.{List}
+use native.Mathlib.Omega.{arith}
+use lib.Ieee.{Float}
+use lib.ListN.{length, replicate, length-replicate}
+use borrow.Author.Needs.{needs}
+use denote.Ref.{now}
+use Rattle.scene_format.specs.SceneOf.{sceneOf}
+use Rattle.scene_format.specs.Format.{axes, nameableModels}
+use Rattle.scene_lengths.specs.Lengths.{fluidAnswerWidth}
+use Rattle.iisph_pressures.specs.IterationRows.{pressuresIn}
+use Rattle.iisph_forces.specs.Forces.{gatheredAll}
+use Rattle.iisph_forces.proofs.Gathered.{all-gathered}
+use Rattle.iisph_forces.proofs.InitialAnswers.{starts-held, still-room}
+use Rattle.iisph_forces.proofs.boundary_answers.Statement.{statement}
+use Rattle.iisph_forces.proofs.boundary_answers.Tie as tie
+
+slice-aggregate-put-initial : tie.Need-slice-aggregate-put-initial
+slice-aggregate-put-initial c = search needs
+
+abbrev Begin : tie.After-put-initial-arg → tie.Start
+Begin c = c .before .before .before .before .before .before
+
+room : nameableModels ≤ length (replicate {A = ℕ} nameableModels 0)
+room = omega (arith, length-replicate {A = ℕ} nameableModels 0)
+
+put-initial-requires : tie.Need-put-initial-requires
+put-initial-requires c κs =
+    let p = Begin c .pre in
+    (p .0, (p .1 .0, room, p .1 .1))
+
+slice-aggregate-gather-all : tie.Need-slice-aggregate-gather-all
+slice-aggregate-gather-all c = search needs
+
+gather-all-requires : tie.Need-gather-all-requires
+gather-all-requires c κs =
+    let m = c .before .before .before .before .before in
+    let b = Begin (m .before) in
+    let p = b .pre in
+    let k = fluidAnswerWidth axes * b .args .n in (
+      p .0,
+      (
+        starts-held _ (p .1 .0 .walk) (replicate nameableModels 0) room (m .put-initial .ensures .0),
+        still-room _ (now (b .args .answers)) k (m .put-initial .ensures .1) (p .1 .1),
+      ),
+    )
+
+same-length : tie.Need-same-length
+same-length c = search needs
+
+returns : tie.Need-returns
+returns c =
+    let g = c .before .before in
+    let m = g .before .before .before .before .before .before in
+    let b = Begin (m .before) in
+    let a = b .args in
+    let p = b .pre in
+    let ps = pressuresIn (a .n) (now (a .work)) in
+    g .gather-all .ensures
+    ∙ ap (λ (l : List Float). gatheredAll (sceneOf (now (a .scene))) ps (a .n) l) (m .put-initial .ensures .1)
+    ∙ all-gathered (now (a .scene)) (p .1 .0 .walk) ps (now (a .answers)) (p .0 .0 .size) (p .1 .1)
+
+pub boundary-answers-spec : {M : Type 1} → statement M
+boundary-answers-spec =
+    tie.close
+    (tie.spec
+    slice-aggregate-put-initial
+    put-initial-requires
+    slice-aggregate-gather-all
+    gather-all-requires
+    same-length
+    returns)

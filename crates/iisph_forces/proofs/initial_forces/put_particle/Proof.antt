@@ -1,0 +1,145 @@
+-- `iisph_forces::initial_forces::put_particle` meets its contract: the volume stands behind the rows, and the record
+-- has a force if it is kept. Assumes nothing.
+use Prim.Native.Nat.{_+_}
+use mathlib.Core.Path.{_≡_, ap, _∙_}
+use mathlib.Core.Bool.{true}
+use native.Mathlib.Omega.{arith}
+use lib.ListN.{length, getD, length-set}
+use borrow.Author.Needs.{needs}
+use denote.Ref.{now}
+use Rattle.scene_format.specs.Bytes.{AllFinite}
+use Rattle.scene_format.specs.Scene.{boundary}
+use Rattle.scene_format.specs.SceneOf.{sceneOf}
+use Rattle.scene_format.specs.Format.{axes, forceOffset}
+use Rattle.scene_format.specs.declared.Kind.the-variants.{Boundary}
+use Rattle.scene_index.specs.Index.{recordsAt}
+use Rattle.iisph_rows.proofs.RowReads.{volume-behind}
+use Rattle.iisph_forces.proofs.InitialAnswers.{kept-here, not-kept-here, width-some, force-finite, force-here}
+use Rattle.iisph_forces.proofs.InitialAnswers.{initial-kept, initial-not-kept}
+use Rattle.iisph_forces.proofs.Offsets.{width-kept, width-not-kept}
+use Rattle.iisph_forces.proofs.initial_forces.put_particle.Statement.{statement}
+use Rattle.iisph_forces.proofs.initial_forces.put_particle.Tie as tie
+
+mul-answers : tie.Need-mul-answers
+mul-answers c = search needs
+
+add-answers : tie.Need-add-answers
+add-answers c = search needs
+
+mul-answers-2 : tie.Need-mul-answers-2
+mul-answers-2 c = search needs
+
+shared-slice-read-answers : tie.Need-shared-slice-read-answers
+shared-slice-read-answers c = search needs
+
+mul-answers-3 : tie.Need-mul-answers-3
+mul-answers-3 c = search needs
+
+abbrev Begin : tie.After-shared-slice-known4 → tie.Start
+Begin c = c .before .before .before .before .before
+
+slice-write-answers : tie.Need-slice-write-answers
+slice-write-answers c =
+    let b = Begin c in
+    omega (arith, b .pre .1 .2, width-some (sceneOf (now (b .args .scene))) (b .args .j))
+
+-- a force is kept
+kept : (c : tie.Then1)
+    → let b = Begin (c .before) in
+    boundary (sceneOf (now (b .args .scene))) (b .args .j) .keepsForces ≡ true
+kept c = kept-here (Begin (c .before) .pre .1 .1) (c .if1 .taken)
+
+finite : (c : tie.After-shared-slice-known5)
+    → let b = Begin (c .before .before) in
+    let at = getD (now (b .args .index)) (recordsAt Boundary + b .args .j) 0 in
+    AllFinite (now (b .args .scene)) (at + forceOffset axes) axes
+finite c =
+    let b = Begin (c .before .before) in
+    force-finite (b .pre .0 .0 .indexed) (b .args .j) (b .pre .1 .0) (kept (c .before))
+
+add-record : tie.Need-add-record
+add-record c = search needs
+
+mul-record : tie.Need-mul-record
+mul-record c = search needs
+
+shared-slice-read-record : tie.Need-shared-slice-read-record
+shared-slice-read-record c = search needs
+
+add-vector : tie.Need-add-vector
+add-vector c = omega (arith, finite c .each 0 (omega arith) .present)
+
+vector-requires : tie.Need-vector-requires
+vector-requires c κs = finite c
+
+add-put-vector : tie.Need-add-put-vector
+add-put-vector c = search needs
+
+put-vector-requires : tie.Need-put-vector-requires
+put-vector-requires c κs =
+    let t = c .before .before .before in
+    let b = Begin (t .before) in
+    simp length-set (omega (arith, b .pre .1 .2, width-kept (sceneOf (now (b .args .scene))) (b .args .j) (kept t)))
+
+add-result : tie.Need-add-result
+add-result c = search needs
+
+same-length : tie.Need-same-length
+same-length c = ap length (c .before .before .put-vector .ensures) ∙ simp length-set
+
+returns : tie.Need-returns
+returns c =
+    let v = c .before .before .before .before in
+    let t = v .before .before in
+    let b = Begin (t .before) in
+    let a = b .args in
+    let s = sceneOf (now (a .scene)) in (
+      omega (arith, width-kept s (a .j) (kept t)),
+      c .before .before .put-vector .ensures
+          ∙ initial-kept s (a .j) (now (a .answers)) (a .at)
+          (volume-behind s (a .n) (b .pre .0 .1 .volume) (a .j) (b .pre .1 .0))
+          (kept t)
+          (v .vector .ensures ∙ force-here (b .pre .0 .0 .indexed) (a .j) (b .pre .1 .0) (kept t)),
+    )
+
+add-result-2 : tie.Need-add-result-2
+add-result-2 c = search needs
+
+same-length-2 : tie.Need-same-length-2
+same-length-2 c = search needs
+
+returns-2 : tie.Need-returns-2
+returns-2 c =
+    let b = Begin (c .before) in
+    let a = b .args in
+    let s = sceneOf (now (a .scene)) in
+    let none = not-kept-here (b .pre .1 .1) (c .if1 .left) in (
+      omega (arith, width-not-kept s (a .j) none),
+      initial-not-kept s (a .j) (now (a .answers)) (a .at)
+          (volume-behind s (a .n) (b .pre .0 .1 .volume) (a .j) (b .pre .1 .0))
+          none,
+    )
+
+pub put-particle-spec : {M : Type 1} → statement M
+put-particle-spec =
+    tie.close
+    (tie.spec
+    mul-answers
+    add-answers
+    mul-answers-2
+    shared-slice-read-answers
+    mul-answers-3
+    slice-write-answers
+    add-record
+    mul-record
+    shared-slice-read-record
+    add-vector
+    vector-requires
+    add-put-vector
+    put-vector-requires
+    add-result
+    same-length
+    returns
+    add-result-2
+    same-length-2
+    returns-2)

@@ -1,0 +1,151 @@
+// The answers of the boundary particles with the forces that the scene has (METHOD 7.4), boundary by boundary, and
+// where the forces of each boundary begin.
+use iisph_rows::rows::ROW;
+use iisph_rows::rows::put_vector;
+use scene_format::format::KEPT_FORCE;
+use scene_format::read;
+use scene_index::index::BOUNDARY_RECORDS;
+use scene_layout::Layout;
+use scene_lengths::ANSWER_WIDTH;
+use scene_lengths::KEPT_ANSWER_WIDTH;
+ghost use mathlib.Core.Path.{_≡_};
+ghost use mathlib.Core.List.{flatten};
+ghost use Prim.Native.Nat.{_+_, _*_, _<_, _≤_};
+ghost use lib.Dec.{eqb};
+ghost use lib.ListN.{length};
+ghost use lib.Seq.{sets};
+ghost use Rattle.iisph_pressures.specs.IterationRows.{Iterating};
+ghost use Rattle.iisph_rows.specs.Passes.{PassOver};
+ghost use Rattle.lists.specs.Lists.{choose, table};
+ghost use Rattle.scene_check.specs.Check.{Passed};
+ghost use Rattle.scene_format.specs.Format.{axes, nameableModels};
+ghost use Rattle.scene_format.specs.Scene.{boundarySize, boundary};
+ghost use Rattle.scene_format.specs.SceneOf.{sceneOf};
+ghost use Rattle.scene_index.specs.Runs.{BoundaryRun};
+ghost use Rattle.scene_lengths.specs.Lengths.{fluidAnswerWidth, answersNeeded};
+ghost use Rattle.iisph_forces.specs.Forces.{widthAt, answerOffset, forceStarts, boundaryInitial};
+
+// Volume and any force of boundary particle j, from element `at` on; where the next particle's answers begin. `keeps`
+// is 1 if its boundary keeps forces.
+fn put_particle(
+    scene: &[u8],
+    index: &[usize],
+    work: &[f64],
+    n: usize,
+    j: usize,
+    keeps: usize,
+    at: usize,
+    answers: &mut [f64],
+) -> usize
+    requires { ⌜ PassOver (now scene) (now index) n × Iterating (sceneOf (now scene)) n (now work) ⌝ }
+    requires { ⌜
+        (let s = sceneOf (now scene) in
+        (j < boundarySize s) × (boundary s j .keepsForces ≡ eqb keeps 1) × (at + widthAt s j ≤ length (now answers)))
+        ⌝ }
+    ensures { λ r. ⌜
+        (let s = sceneOf (now (scene .entry)) in
+        (r ≡ at + widthAt s j) × (now (answers .exit) ≡ sets (now (answers .entry)) at (boundaryInitial s j)))
+        ⌝ }
+{
+    answers[at] = work[ROW * n + j];
+    if keeps == 1 {
+        let record = index[BOUNDARY_RECORDS + j];
+        let force = read::vector(scene, record + KEPT_FORCE);
+        put_vector(answers, at + 1, force);
+        return at + KEPT_ANSWER_WIDTH;
+    }
+    at + 1
+}
+
+// Volumes and forces of one boundary, whose `count` particles have the numbers from `first` on; where the next
+// boundary's answers begin.
+fn put_boundary(
+    scene: &[u8],
+    index: &[usize],
+    work: &[f64],
+    n: usize,
+    first: usize,
+    count: usize,
+    keeps: usize,
+    at: usize,
+    answers: &mut [f64],
+) -> usize
+    requires { ⌜ PassOver (now scene) (now index) n × Iterating (sceneOf (now scene)) n (now work) ⌝ }
+    requires { ⌜
+        (let s = sceneOf (now scene) in
+        BoundaryRun (now scene) first count keeps
+        × (at ≡ answerOffset s first)
+        × (answersNeeded s ≤ length (now answers)))
+        ⌝ }
+    ensures { λ r. ⌜
+        (let s = sceneOf (now (scene .entry)) in
+        let initial = flatten (table count (λ p. boundaryInitial s (first + p))) in
+        (r ≡ answerOffset s (first + count)) × (now (answers .exit) ≡ sets (now (answers .entry)) at initial))
+        ⌝ }
+{
+    let mut to = at;
+    let mut p = 0usize;
+    while p < count {
+        to = put_particle(scene, index, work, n, first + p, keeps, to, answers);
+        p += 1;
+    }
+    to
+}
+
+// Where the first force of a boundary stands whose answers begin at an element, or 0.
+fn force_start(keeps: usize, at: usize) -> usize
+    requires { ⌜ at < 0x8000_0000_0000_0000 ⌝ }
+    ensures { λ r. ⌜ r ≡ choose (eqb keeps 1) (at + 1) 0 ⌝ }
+{
+    if keeps == 1 { at + 1 } else { 0 }
+}
+
+// Volumes and forces of all boundaries, behind the answers of n fluid particles; `forces` takes where the forces of
+// each boundary begin.
+pub fn put_initial(
+    scene: &[u8],
+    layout: Layout,
+    index: &[usize],
+    work: &[f64],
+    n: usize,
+    forces: &mut [usize],
+    answers: &mut [f64],
+)
+    requires { ⌜ PassOver (now scene) (now index) n × Iterating (sceneOf (now scene)) n (now work) ⌝ }
+    requires { ⌜
+        Passed (now scene) layout
+        × (nameableModels ≤ length (now forces))
+        × (answersNeeded (sceneOf (now scene)) ≤ length (now answers))
+        ⌝ }
+    ensures { λ _. ⌜
+        (let b = now (scene .entry) in
+        let s = sceneOf b in
+        let initial = flatten (table (boundarySize s) (boundaryInitial s)) in
+        (now (forces .exit) ≡ sets (now (forces .entry)) 0 (forceStarts b))
+        × (now (answers .exit) ≡ sets (now (answers .entry)) (fluidAnswerWidth axes * n) initial))
+        ⌝ }
+{
+    let boundaries = layout.boundaries;
+    let starts = boundaries.starts;
+    let counts = boundaries.counts;
+    let keeps = boundaries.keeps;
+    let number = boundaries.number;
+    let mut to = ANSWER_WIDTH * n;
+    let mut m = 0usize;
+    while m < number {
+        let kept = keeps[m];
+        forces[m] = force_start(kept, to);
+        to = put_boundary(
+            scene,
+            index,
+            work,
+            n,
+            starts[m],
+            counts[m],
+            kept,
+            to,
+            answers,
+        );
+        m += 1;
+    }
+}

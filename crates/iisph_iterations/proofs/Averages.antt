@@ -1,0 +1,88 @@
+-- The greatest average, fluid by fluid: taking in one fluid more leaves the same for the fluids that remain, so a loop
+-- that ends with none has the whole. By cases on the fluid's count. Assumes nothing.
+use Prim.Native.Nat.{ℕ, zero, suc, _+_, _<_, _≤_}
+use mathlib.Core.Path.{_≡_, refl, sym, ap, _∙_}
+use mathlib.Core.List.{List, [], _∷_}
+use native.Mathlib.Nat.{not-suc-le-zero, le-of-suc-le-suc, zero-add}
+use native.Mathlib.Numerals.{add-one}
+use native.Mathlib.Omega.{arith}
+use lib.IntN.{pos}
+use lib.Ieee
+use lib.Ieee.{Float, binary64}
+use lib.ListN.{length, getD, take, drop}
+use lib.Seq.{drop-drop, drop-cons}
+use Rattle.math.specs.Real.{_⊘_, larger, +0, total}
+use Rattle.lists.specs.Lists.{fold, sum}
+use Rattle.lists.proofs.Lists.{part-table}
+use Rattle.iisph_rules.specs.Iteration.{average, averages, errorOf}
+use Rattle.iisph_iterations.specs.Errors.{termsFrom, termsIn, withAverage}
+
+-- ---- one fluid more
+
+average-next : (count : ℕ) (counts : List ℕ) (terms : List Float) (error : Float)
+    → fold larger error (averages (count ∷ counts) terms)
+    ≡ fold larger (withAverage error count (take count terms)) (averages counts (drop count terms))
+unfolding averages withAverage fold
+average-next zero counts terms error = refl
+average-next (suc n) counts terms error = refl
+
+-- a fluid with no particles, and one with some
+pub with-none : (count : ℕ) (error : Float) (terms : List Float) → count ≡ 0 → error ≡ withAverage error count terms
+unfolding withAverage
+with-none zero error terms e = refl
+with-none (suc n) error terms e = absurd (omega arith)
+
+pub with-some : (count : ℕ) (error : Float) (terms : List Float) → 0 < count → {sum size x : Float}
+    → sum ≡ total +0 terms → size ≡ Ieee.ofInt binary64 (pos count)
+    → x ≡ larger error (sum ⊘ size) → x ≡ withAverage error count terms
+unfolding withAverage average
+with-some zero error terms h e q r = absurd (not-suc-le-zero h)
+with-some (suc n) error terms h e q r = rw (r, e, q)
+
+-- after m fluids, whose rows end at `from`; `error` is what they came to
+pub record Averaged (counts : List ℕ) (n : ℕ) (work : List Float) (m from : ℕ) (error : Float) : Type 0 where
+  pub within : m ≤ length counts
+  pub rows : from + sum (drop m counts) ≡ n
+  pub rest : fold larger error (averages (drop m counts) (drop from (termsIn n work)))
+      ≡ errorOf (averages counts (termsIn n work))
+
+module _ (counts : List ℕ) (n : ℕ) (work : List Float) where
+  pub none-averaged : sum counts ≡ n → Averaged counts n work 0 0 +0
+  unfolding errorOf
+  none-averaged e = record { within = omega arith; rows = omega (arith, e); rest = refl }
+
+  module _ {m from : ℕ} {error : Float} (here : Averaged counts n work m from error) where
+    -- the rows of the next fluid
+    pub next-rows : m < length counts → from + getD counts m 0 + sum (drop (suc m) counts) ≡ n
+    unfolding sum
+    next-rows h = omega (arith, rw (drop-cons counts m 0 h) at (here .rows))
+
+    pub next-averaged : m < length counts → {count : ℕ} {x : Float} → count ≡ getD counts m 0
+        → x ≡ withAverage error count (termsFrom work from count)
+        → Averaged counts n work (m + 1) (from + count) x
+    next-averaged h {count} {x} e q =
+        let rows = next-rows h in
+        let col = termsIn n work in
+        let part : take count (drop from col) ≡ termsFrom work from count = part-table from count n _ (omega arith) in
+        record {
+          within = omega arith;
+          rows = rw add-one (omega arith);
+          rest =
+              rw (add-one m, q, ← part, ← drop-drop count from col)
+              (sym (average-next count (drop (suc m) counts) (drop from col) error)
+              ∙ ap (λ (cs : List ℕ). fold larger error (averages cs (drop from col)))
+              (ap (λ (k : ℕ). k ∷ drop (suc m) counts) e ∙ sym (drop-cons counts m 0 h))
+              ∙ here .rest);
+        }
+
+    pub all-averaged : length counts ≤ m → error ≡ errorOf (averages counts (termsIn n work))
+    unfolding averages fold
+    all-averaged h =
+        let none : drop m counts ≡ [] = drop-all counts m h in
+        rw none at (here .rest)
+      where
+        drop-all : (xs : List ℕ) (k : ℕ) → length xs ≤ k → drop k xs ≡ []
+        drop-all [] zero l = refl
+        drop-all [] (suc k) l = refl
+        drop-all (x ∷ xs) zero l = absurd (not-suc-le-zero l)
+        drop-all (x ∷ xs) (suc k) l = drop-all xs k (le-of-suc-le-suc l)

@@ -1,0 +1,258 @@
+-- One iteration's passes yield the rules' iteration: quotients, dij_pjl, next pressures with their error terms, then
+-- the exchange. Each pass finds what it needs where an earlier one stored it, and keeps what later ones need. Assumes
+-- nothing.
+use Prim.Native.Nat.{ℕ, zero, suc, _+_, _*_, _<_, _≤_}
+use mathlib.Core.Path.{_≡_, refl, sym, ap, _∙_}
+use mathlib.Core.Logic.{inl, inr}
+use mathlib.Core.List.{List, [], _∷_, map}
+use native.Mathlib.Omega.{arith}
+use lib.Ieee.{Float}
+use lib.ListN.{length, take, drop}
+use lib.Seq.{take-at}
+use Rattle.math.specs.Real.{+0}
+use Rattle.math.specs.Vector.{Vector}
+use Rattle.lists.specs.Lists.{table, sum}
+use Rattle.lists.proofs.Lists.{length-table, table-at, map-table}
+use Rattle.scene_format.specs.Format.{axes, nameableModels, modelNumber, countsOf}
+use Rattle.scene_layout.specs.Layout.{padded, layoutModels, layoutOf}
+use Rattle.scene_format.specs.Scene.{fluidSize, boundarySize, particle}
+use Rattle.scene_format.specs.SceneOf.{sceneOf}
+use Rattle.scene_check.specs.Check.{Passed}
+use Rattle.scene_layout.specs.declared.Layout.{Layout}
+use Rattle.scene_format.specs.declared.Kind.the-variants.{Fluid}
+use Rattle.scene_check.proofs.Accepted.{accepted}
+use Rattle.scene_layout.proofs.Locations.{length-counts, scene-counts, fluid-size-sum}
+use Rattle.iisph_rules.specs.Coefficients.{coefficients}
+use Rattle.iisph_rules.specs.Iteration.{pressure, dijPjl, dijPjls, NextPressure, nextPressure, nextPressures, averages}
+use Rattle.iisph_rules.specs.Iteration.{errorOf, iteration}
+use Rattle.iisph_pressures.specs.IterationRows.{pressuresIn, dijsIn, quotientRow, IterationReady, DijReady}
+use Rattle.iisph_rows.specs.Rows.{rowAt, stored, Rows, pressureSlot, quotientSlot}
+use Rattle.iisph_iterations.specs.Errors.{termsIn}
+use Rattle.iisph_pressures.proofs.IterationReads.{quotient-made, pressures-are, dijs-are}
+use Rattle.iisph_rows.proofs.RowReads.{row-value}
+use Rattle.iisph_iterations.specs.PressureSolve.{iterated, iteratedTimes, Iterates}
+use Rattle.iisph_passes.specs.Traverse.{slotOf, rowOf, nextList}
+use Rattle.iisph_passes.specs.declared.traverse.Pass.{Pass}
+use Rattle.iisph_passes.specs.declared.traverse.Pass.the-variants.{Quotients, DijPjl, NextPressures, Exchange}
+use Rattle.iisph_passes.proofs.RowsFilled.{pass-rows, pass-drop}
+use Rattle.lists.proofs.RowParts.{rows-one, rows-column, rows-same}
+use Rattle.iisph_passes.proofs.Traversal.{pass-kept, length-kept, pressures-kept, iteration-kept, iteration-same}
+
+-- the list after a pass over n rows
+abbrev After : List ℕ → ℕ → Pass → List Float → List Float
+After b n p l = stored n (slotOf p) (rowOf (sceneOf b) l p) l
+
+module _ (b : List ℕ) {n : ℕ} (size : n ≡ fluidSize (sceneOf b)) (l : List Float)
+    (ready : IterationReady (sceneOf b) (pressuresIn n l) n l) where
+  rows-fit : rowAt n ≤ length l
+  rows-fit = omega (arith, ready .room)
+
+  -- what the rules make of the pressures that stand there
+  abbrev next : ℕ → NextPressure
+  next i =
+      nextPressure (sceneOf b) (coefficients (sceneOf b)) (pressuresIn n l)
+      (dijPjls (sceneOf b) (coefficients (sceneOf b)) (pressuresIn n l)) i
+
+  abbrev pressures : List Float
+  pressures = iteration (sceneOf b) (coefficients (sceneOf b)) (pressuresIn n l) .pressures
+
+  pressures-table : pressures ≡ table n (λ i. next i .pressure)
+  unfolding iteration nextPressures
+  pressures-table = map-table (λ k. k .pressure) (fluidSize (sceneOf b)) next
+      ∙ ap (λ (j : ℕ). table j (λ i. next i .pressure)) (sym size)
+
+  pressure-next : (i : ℕ) → i < n → pressure pressures i ≡ next i .pressure
+  pressure-next i h = ap (λ (ps : List Float). pressure ps i) pressures-table
+      ∙ table-at n (λ i. next i .pressure) i +0 h
+
+  length-pressures : length pressures ≡ n
+  length-pressures = ap length pressures-table ∙ length-table n (λ i. next i .pressure)
+
+  -- ---- quotients
+
+  module _ {x : List Float} (e : x ≡ After b n Quotients l) where
+    pub quotients-pressures : pressuresIn n x ≡ pressuresIn n l
+    unfolding slotOf
+    quotients-pressures = rw e (pressures-kept b size Quotients n (omega arith) l (inl (omega arith)))
+
+    quotients-iteration : IterationReady (sceneOf b) (pressuresIn n l) n x
+    unfolding slotOf
+    quotients-iteration =
+        rw e (iteration-same b size n (omega arith) l Quotients (pressuresIn n l) (omega arith)
+        (inl (omega arith)) ready)
+
+    quotients-rows : Rows n (quotientSlot axes) (quotientRow (sceneOf b) (pressuresIn n x)) x
+    unfolding slotOf rowOf
+    quotients-rows =
+        rw quotients-pressures
+        (rows-same (λ i h. ap (λ (q : Float). q ∷ []) (quotient-made ready size i h))
+        (rw e (pass-rows b size Quotients l rows-fit)))
+
+    pub quotients-there : DijReady (sceneOf b) n x
+    quotients-there = record { room = quotients-iteration .room; quotients = quotients-rows }
+
+    -- ---- dij_pjl
+
+    module _ {y : List Float} (f : y ≡ After b n DijPjl x) where
+      dij-pressures : pressuresIn n y ≡ pressuresIn n l
+      unfolding slotOf
+      dij-pressures = rw f (pressures-kept b size DijPjl n (omega arith) x (inl (omega arith)) ∙ quotients-pressures)
+
+      dij-iteration : IterationReady (sceneOf b) (pressuresIn n l) n y
+      unfolding slotOf
+      dij-iteration =
+          rw f (iteration-same b size n (omega arith) x DijPjl (pressuresIn n l) (omega arith)
+          (inr (omega arith)) quotients-iteration)
+
+      pub dij-there : IterationReady (sceneOf b) (pressuresIn n y) n y
+      dij-there = rw dij-pressures dij-iteration
+
+      dijs-there : dijsIn n y ≡ dijPjls (sceneOf b) (coefficients (sceneOf b)) (pressuresIn n l)
+      unfolding slotOf rowOf
+      dijs-there =
+          let q : pressuresIn (fluidSize (sceneOf b)) x ≡ pressuresIn n l = rw (← size) quotients-pressures in
+          dijs-are b (pressuresIn n l) size
+          (rows-same
+          (λ i h. ap (λ (ps : List Float). dijPjl (sceneOf b) (coefficients (sceneOf b)) ps (particle (sceneOf b) i)) q)
+          (rw f (pass-rows b size DijPjl x (omega (arith, quotients-iteration .room)))))
+
+      -- ---- next pressures
+
+      module _ {z : List Float} (g : z ≡ After b n NextPressures y) where
+        next-iteration : IterationReady (sceneOf b) (pressuresIn n l) n z
+        unfolding slotOf
+        next-iteration =
+            rw g (iteration-same b size n (omega arith) y NextPressures (pressuresIn n l) (omega arith)
+            (inl (omega arith)) dij-iteration)
+
+        pub next-room : rowAt n + boundarySize (sceneOf b) ≤ length z
+        next-room = next-iteration .room
+
+        next-rows : Rows n (quotientSlot axes) (λ i. nextList (next i)) z
+        unfolding slotOf rowOf
+        next-rows =
+            let s = sceneOf b in
+            let p : pressuresIn (fluidSize s) y ≡ pressuresIn n l = rw (← size) dij-pressures in
+            let d : dijsIn (fluidSize s) y ≡ dijPjls s (coefficients s) (pressuresIn n l) = rw (← size) dijs-there in
+            rows-same
+            (λ i h.
+            ap (λ (ps : List Float). nextList (nextPressure s (coefficients s) ps (dijsIn (fluidSize s) y) i)) p
+            ∙ ap (λ (ds : List Vector). nextList (nextPressure s (coefficients s) (pressuresIn n l) ds i)) d)
+            (rw g (pass-rows b size NextPressures y (omega (arith, dij-iteration .room))))
+
+        -- ---- the exchange
+
+        module _ {w : List Float} (k : w ≡ After b n Exchange z) where
+          after-rows : Rows n (quotientSlot axes) (λ i. nextList (next i)) w
+          unfolding slotOf
+          after-rows =
+              rw k (pass-kept b size Exchange n (omega arith) z (quotientSlot axes) 2 (λ j m. refl) (omega arith)
+              (inr (omega arith)) next-rows)
+
+          exchanged : Rows n (pressureSlot axes) (λ i. pressure pressures i ∷ []) w
+          unfolding slotOf rowOf
+          exchanged =
+              rows-same
+              (λ i h. ap (λ (p : Float). p ∷ [])
+              (row-value (λ i. next i .pressure)
+              (rows-one next-rows 1 (λ i. next i .pressure) (λ i m. (omega arith, refl))) i h
+              ∙ sym (pressure-next i h)))
+              (rw k (pass-rows b size Exchange z (omega (arith, next-iteration .room))))
+
+          iterated-iteration : IterationReady (sceneOf b) pressures n w
+          unfolding slotOf
+          iterated-iteration =
+              rw k (iteration-kept b size n (omega arith) z Exchange (pressuresIn n l) pressures (omega arith)
+              (inr (omega arith)) (rw k at exchanged) next-iteration)
+
+          pub iterated-pressures : pressuresIn n w ≡ pressures
+          iterated-pressures = pressures-are iterated-iteration length-pressures
+
+          pub iterated-ready : IterationReady (sceneOf b) (pressuresIn n w) n w
+          iterated-ready = rw iterated-pressures iterated-iteration
+
+          pub iterated-terms : termsIn n w
+              ≡ map (λ k. k .term) (nextPressures (sceneOf b) (coefficients (sceneOf b)) (pressuresIn n l))
+          unfolding nextPressures
+          iterated-terms =
+              rows-column 0 (λ i. next i .term) after-rows (λ i m. (omega arith, refl))
+              ∙ ap (λ (j : ℕ). table j (λ i. next i .term)) size
+              ∙ sym (map-table (λ k. k .term) (fluidSize (sceneOf b)) next)
+
+          pub iterated-made : w ≡ iterated (sceneOf b) l
+          unfolding iterated
+          iterated-made = rw (k, g, f, e, size)
+
+-- ---- the list after an iteration
+
+module _ (b : List ℕ) {n : ℕ} (size : n ≡ fluidSize (sceneOf b)) (l : List Float) where
+  module _ (ready : IterationReady (sceneOf b) (pressuresIn n l) n l) where
+    pub again-pressures : pressuresIn n (iterated (sceneOf b) l)
+        ≡ iteration (sceneOf b) (coefficients (sceneOf b)) (pressuresIn n l) .pressures
+    again-pressures =
+        rw (← iterated-made b size l ready refl refl refl refl) (iterated-pressures b size l ready refl refl refl refl)
+
+    pub again-ready : IterationReady (sceneOf b) (pressuresIn n (iterated (sceneOf b) l)) n (iterated (sceneOf b) l)
+    again-ready =
+        rw (← iterated-made b size l ready refl refl refl refl) (iterated-ready b size l ready refl refl refl refl)
+
+  pub length-iterated : length (iterated (sceneOf b) l) ≡ length l
+  unfolding iterated
+  length-iterated =
+      length-kept b refl Exchange (fluidSize (sceneOf b)) (omega arith) _
+      ∙ length-kept b refl NextPressures (fluidSize (sceneOf b)) (omega arith) _
+      ∙ length-kept b refl DijPjl (fluidSize (sceneOf b)) (omega arith) _
+      ∙ length-kept b refl Quotients (fluidSize (sceneOf b)) (omega arith) l
+
+  -- beyond the rows
+  pub drop-iterated : (k : ℕ) → rowAt (fluidSize (sceneOf b)) ≤ k → drop k (iterated (sceneOf b) l) ≡ drop k l
+  unfolding iterated
+  drop-iterated k h =
+      pass-drop b refl Exchange _ k h ∙ pass-drop b refl NextPressures _ k h ∙ pass-drop b refl DijPjl _ k h
+      ∙ pass-drop b refl Quotients l k h
+
+pub drop-times : (b : List ℕ) (i : ℕ) (l : List Float) (k : ℕ) → rowAt (fluidSize (sceneOf b)) ≤ k
+    → drop k (iteratedTimes i (sceneOf b) l) ≡ drop k l
+unfolding iteratedTimes
+drop-times b zero l k h = refl
+drop-times b (suc i) l k h = drop-iterated b refl (iteratedTimes i (sceneOf b) l) k h ∙ drop-times b i l k h
+
+pub length-times : (b : List ℕ) (i : ℕ) (l : List Float) → length (iteratedTimes i (sceneOf b) l) ≡ length l
+unfolding iteratedTimes
+length-times b zero l = refl
+length-times b (suc i) l = length-iterated b refl (iteratedTimes i (sceneOf b) l) ∙ length-times b i l
+
+-- ---- the error
+
+module _ {b : List ℕ} {layout : Layout} (passed : Passed b layout) where
+  -- the layout's counts are the scene's
+  pub counts-taken : take (layout .fluids .number) (layout .fluids .counts) ≡ sceneOf b .fluidCounts
+  unfolding layoutOf layoutModels padded sceneOf
+  counts-taken = rw (passed .layoutIs) (take-at (countsOf Fluid b) _ (modelNumber Fluid b) (length-counts Fluid b))
+
+  pub few-fluids : layout .fluids .number ≤ nameableModels
+  unfolding layoutOf layoutModels
+  few-fluids = rw (passed .layoutIs) (omega (arith, accepted b (passed .walk) .fields .header .few Fluid))
+
+  pub counts-sum : {n : ℕ} → n ≡ fluidSize (sceneOf b) → sum (take (layout .fluids .number) (layout .fluids .counts))
+      ≡ n
+  counts-sum size = ap sum (counts-taken ∙ scene-counts b) ∙ sym (size ∙ fluid-size-sum b)
+
+  -- from the results of the four passes' calls and the error's
+  pub iterates-made : {n : ℕ} (size : n ≡ fluidSize (sceneOf b)) (l : List Float)
+      → IterationReady (sceneOf b) (pressuresIn n l) n l
+      → {x y z w : List Float} {r : Float} → x ≡ After b n Quotients l → y ≡ After b n DijPjl x
+      → z ≡ After b n NextPressures y → w ≡ After b n Exchange z
+      → r ≡ errorOf (averages (take (layout .fluids .number) (layout .fluids .counts)) (termsIn n w))
+      → Iterates (sceneOf b) l r w
+  unfolding iteration
+  iterates-made {n} size l ready {w = w} e f g k q =
+      record {
+        error =
+            q
+            ∙ ap (λ (cs : List ℕ). errorOf (averages cs (termsIn n w))) counts-taken
+            ∙ ap (λ (ts : List Float). errorOf (averages (sceneOf b .fluidCounts) ts))
+            (iterated-terms b size l ready e f g k)
+            ∙ ap (λ (j : ℕ). iteration (sceneOf b) (coefficients (sceneOf b)) (pressuresIn j l) .error) size;
+        list = iterated-made b size l ready e f g k;
+      }

@@ -1,0 +1,4 @@
+pub mod Averages
+pub mod IterationStart
+pub mod Iterated
+pub mod Solving

@@ -1,0 +1,69 @@
+-- `iisph_iterations::errors::term_sum` meets its contract: term by term. Assumes nothing.
+use Prim.Native.Nat.{_-_, _≤_}
+use native.Mathlib.Omega.{arith}
+use mathlib.Core.Path.{_≡_, refl}
+use Rattle.math.specs.Real.{+0, total}
+use Rattle.lists.specs.Lists.{fold, table}
+use Rattle.iisph_rows.proofs.Volumes.{sum-next, sum-all}
+use Rattle.iisph_iterations.specs.Errors.{termsFrom}
+use borrow.Author.Needs.{needs}
+use Rattle.iisph_iterations.proofs.errors.term_sum.Statement.{statement}
+use Rattle.iisph_iterations.proofs.errors.term_sum.Tie as tie
+
+abbrev Inv-loop : tie.InvT-loop
+Inv-loop work from count sum₀ k₀ sum k = (k ≤ count) × (sum ≡ total +0 (termsFrom work from k))
+
+abbrev μ-loop : tie.MeasureT-loop
+μ-loop work from count sum₀ k₀ sum k = count - k
+
+loop-holds : tie.Need-loop-holds Inv-loop μ-loop
+unfolding table fold
+loop-holds c = (omega arith, refl)
+
+add-sum : tie.Need-add-sum Inv-loop μ-loop
+add-sum c = search needs
+
+mul-sum : tie.Need-mul-sum Inv-loop μ-loop
+mul-sum c = search needs
+
+add-sum-2 : tie.Need-add-sum-2 Inv-loop μ-loop
+add-sum-2 c = search needs
+
+mul-sum-2 : tie.Need-mul-sum-2 Inv-loop μ-loop
+mul-sum-2 c = search needs
+
+shared-slice-read-sum : tie.Need-shared-slice-read-sum Inv-loop μ-loop
+shared-slice-read-sum c = search needs
+
+add-k : tie.Need-add-k Inv-loop μ-loop
+add-k c = search needs
+
+loop-less : tie.Need-loop-less Inv-loop μ-loop
+loop-less c = search needs
+
+loop-again : tie.Need-loop-again Inv-loop μ-loop
+loop-again c =
+    let l = c .before .before .loop in
+    (omega arith, sum-next _ (l .k) (l .inv .1) refl)
+
+returns : tie.Need-returns Inv-loop μ-loop
+returns c =
+    let l = c .before .loop in
+    sum-all _ (l .inv .1) (l .inv .0) (c .loop-test .left)
+
+pub term-sum-spec : {M : Type 1} → statement M
+term-sum-spec =
+    tie.close
+    (tie.spec
+    Inv-loop
+    μ-loop
+    loop-holds
+    add-sum
+    mul-sum
+    add-sum-2
+    mul-sum-2
+    shared-slice-read-sum
+    add-k
+    loop-less
+    loop-again
+    returns)

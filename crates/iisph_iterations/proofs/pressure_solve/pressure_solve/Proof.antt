@@ -1,0 +1,129 @@
+-- `iisph_iterations::pressure_solve::pressure_solve` meets its contract. The invariant: what remains from this
+-- iteration on is the whole; the measure is the number of iterations left. Assumes nothing.
+use Prim.Native.Nat.{_-_, _<_, _≤_}
+use mathlib.Core.Path.{_≡_, refl, sym, ap, _∙_}
+use native.Mathlib.Omega.{arith}
+use denote.Ref.{now}
+use lib.Ieee
+use Rattle.scene_format.specs.SceneOf.{sceneOf}
+use Rattle.iisph_iterations.proofs.Solving.{Solving, none-solved, next-solved, solved-early, solved, is-last}
+use Rattle.iisph_iterations.proofs.Solving.{not-least, not-small}
+use borrow.Author.Needs.{needs}
+use Rattle.iisph_iterations.proofs.«pressure_solve».pressure_solve.Statement.{statement}
+use Rattle.iisph_iterations.proofs.«pressure_solve».pressure_solve.Tie as tie
+
+abbrev Inv-loop : tie.InvT-loop
+Inv-loop scene layout index n clock gravity work₀ least most limit error₀ i₀ work error i =
+    Solving scene n work₀ i error work
+
+abbrev μ-loop : tie.MeasureT-loop
+μ-loop scene layout index n clock gravity work₀ least most limit error₀ i₀ work error i = most - i
+
+abbrev Begin : tie.At-loop Inv-loop μ-loop → tie.Start Inv-loop μ-loop
+Begin c = c .before .before .before .before
+
+loop-holds : tie.Need-loop-holds Inv-loop μ-loop
+loop-holds c =
+    let p = c .before .before .before .pre in
+    none-solved _ (p .0 .0 .timed .over .size) _ (p .1 .1) (p .1 .0 .1) _
+
+iterate-requires : tie.Need-iterate-requires Inv-loop μ-loop
+iterate-requires c κs =
+    let l = c .before .before in
+    let p = Begin l .pre in
+    (p .0 .0, (p .1 .0 .0, l .loop .inv .ready))
+
+below : (c : tie.In-loop Inv-loop μ-loop)
+    → c .before .loop .i < sceneOf (now (Begin (c .before) .args .scene)) .header .maxPressureIter
+below c = omega (arith, c .loop-test .taken, Begin (c .before) .pre .0 .1 .most)
+
+few : (c : tie.At-loop Inv-loop μ-loop) → c .loop .i < 256
+few c =
+    let stopping = Begin c .pre .0 .1 in
+    omega (arith, c .loop .inv .within, stopping .most, stopping .few)
+
+add-i : tie.Need-add-i Inv-loop μ-loop
+add-i c = omega (arith, few (c .before .before .before .before .before))
+
+cast-t20 : tie.Need-cast-t20 Inv-loop μ-loop
+cast-t20 c = omega (arith, few (c .before .before .before .before .before .before .before))
+
+same-length : tie.Need-same-length Inv-loop μ-loop
+same-length c = search needs
+
+returns : tie.Need-returns Inv-loop μ-loop
+returns c =
+    let k = c .before .before .before .before in
+    let n = k .before .before in
+    let s = Begin (n .before) in
+    let p = s .pre in
+    solved-early _ (p .0 .0 .timed .over .size) _ (n .before .loop .inv) (below n) (k .iterate .ensures)
+    (is-last (sceneOf (now (s .args .scene))) (n .before .loop .i) (k .iterate .result)
+    (sym (ap (λ x. Ieee.le (k .iterate .result) x) (p .0 .1 .limit)) ∙ c .before .if1 .taken)
+    (omega (arith, p .0 .1 .least, c .if2 .taken)))
+    refl
+    refl
+
+loop-less : tie.Need-loop-less Inv-loop μ-loop
+loop-less c = search needs
+
+loop-again : tie.Need-loop-again Inv-loop μ-loop
+loop-again c =
+    let k = c .before .before .before .before in
+    let n = k .before .before in
+    let s = Begin (n .before) in
+    let p = s .pre in
+    next-solved _ (p .0 .0 .timed .over .size) _ (n .before .loop .inv) (below n) (k .iterate .ensures)
+    (not-least (sceneOf (now (s .args .scene))) (n .before .loop .i) (k .iterate .result)
+    (omega (arith, p .0 .1 .least, c .if2 .left)))
+
+loop-less-2 : tie.Need-loop-less-2 Inv-loop μ-loop
+loop-less-2 c = search needs
+
+loop-again-2 : tie.Need-loop-again-2 Inv-loop μ-loop
+loop-again-2 c =
+    let k = c .before .before .before in
+    let n = k .before .before in
+    let s = Begin (n .before) in
+    let p = s .pre in
+    next-solved _ (p .0 .0 .timed .over .size) _ (n .before .loop .inv) (below n) (k .iterate .ensures)
+    (not-small (sceneOf (now (s .args .scene))) (n .before .loop .i) (k .iterate .result)
+    (sym (ap (λ x. Ieee.le (k .iterate .result) x) (p .0 .1 .limit)) ∙ c .if1 .left))
+
+ending-after-requires : tie.Need-ending-after-requires Inv-loop μ-loop
+ending-after-requires c κs = search needs
+
+cast-t22 : tie.Need-cast-t22 Inv-loop μ-loop
+cast-t22 c = omega (arith, few (c .before .before))
+
+same-length-2 : tie.Need-same-length-2 Inv-loop μ-loop
+same-length-2 c = search needs
+
+returns-2 : tie.Need-returns-2 Inv-loop μ-loop
+returns-2 c =
+    let e = c .before in
+    let l = e .before in
+    let p = Begin l .pre in
+    solved _ (p .0 .0 .timed .over .size) _ (l .loop .inv) (omega (arith, e .loop-test .left, p .0 .1 .most)) refl
+    (c .ending-after .ensures)
+
+pub pressure-solve-spec : {M : Type 1} → statement M
+pressure-solve-spec =
+    tie.close
+    (tie.spec
+    Inv-loop
+    μ-loop
+    loop-holds
+    iterate-requires
+    add-i
+    cast-t20
+    same-length
+    returns
+    loop-less
+    loop-again
+    loop-less-2
+    loop-again-2
+    ending-after-requires
+    cast-t22
+    same-length-2
+    returns-2)

@@ -1,0 +1,49 @@
+-- What the iterations make of the work list and report: one iteration's passes, some of them after each other, and how
+-- they end. Scaffolding: no promise rests on it. Definitions only.
+use Prim.Native.Nat.{ℕ, zero, suc, _<_}
+use mathlib.Core.Path.{_≡_}
+use mathlib.Core.List.{List}
+use lib.Ieee.{Float}
+use Rattle.iisph_passes.specs.Prepare.{afterPass}
+use Rattle.iisph_passes.specs.declared.traverse.Pass.the-variants.{Quotients, DijPjl, NextPressures, Exchange}
+use Rattle.iisph_pressures.specs.IterationRows.{pressuresIn}
+use Rattle.iisph_rules.specs.Coefficients.{coefficients}
+use Rattle.iisph_rules.specs.Iteration.{iteration}
+use Rattle.iisph_rules.specs.Step.{solution}
+use Rattle.iisph_rules.specs.declared.Ending.{Ending}
+use Rattle.iisph_rules.specs.declared.Ending.the-variants.{Unswept, RanOut}
+use Rattle.scene_format.specs.Scene.{Scene, fluidSize}
+use Rattle.iisph_iterations.specs.declared.«pressure_solve».Solved.{Solved}
+use Rattle.iisph_iterations.specs.declared.«pressure_solve».Stopping.{Stopping}
+
+-- the code's stopping numbers are the header's, of which the counts are bytes
+pub record StoppingIs (s : Scene) (stopping : Stopping) : Type 0 where
+  pub least : stopping .«min_pressure_iter» ≡ s .header .minPressureIter
+  pub most : stopping .«max_pressure_iter» ≡ s .header .maxPressureIter
+  pub limit : stopping .«max_density_error» ≡ s .header .maxDensityError
+  pub few : stopping .«max_pressure_iter» < 256
+
+-- the passes of one iteration
+unfoldable pub iterated : Scene → List Float → List Float
+iterated s work = afterPass s Exchange (afterPass s NextPressures (afterPass s DijPjl (afterPass s Quotients work)))
+
+-- k iterations
+unfoldable pub iteratedTimes : ℕ → Scene → List Float → List Float
+iteratedTimes zero s work = work
+iteratedTimes (suc k) s work = iterated s (iteratedTimes k s work)
+
+-- an iteration from the pressures that stand in the rows: its error and the list afterwards
+pub record Iterates (s : Scene) (work : List Float) (r : Float) (after : List Float) : Type 0 where
+  pub error : r ≡ iteration s (coefficients s) (pressuresIn (fluidSize s) work) .error
+  pub list : after ≡ iterated s work
+
+-- the ending after i iterations of which none met the stopping test, the last with this error
+unfoldable pub endingAfter : ℕ → Float → Ending
+endingAfter zero error = Unswept
+endingAfter (suc i) error = RanOut error
+
+-- `pressure_solve` on a list that is ready for it
+pub record Solves (s : Scene) (work : List Float) (r : Solved) (after : List Float) : Type 0 where
+  pub iterations : r .iterations ≡ solution s .iterations
+  pub ending : r .ending ≡ solution s .ending
+  pub list : after ≡ iteratedTimes (solution s .iterations) s work

@@ -1,0 +1,104 @@
+// The iterations over the pressures (the Rust's `pressure_solve`): the passes of one, its error, and the loop with its
+// early end.
+use crate::errors::max_error;
+use iisph_passes::traverse::Pass;
+use iisph_passes::traverse::traverse;
+use iisph_rules::Ending;
+use math::Vec3;
+use scene_layout::Layout;
+use timestep_manager::Clock;
+ghost use mathlib.Core.Path.{_≡_};
+ghost use Rattle.iisph_pressures.specs.IterationRows.{pressuresIn, Iterating};
+ghost use Rattle.iisph_rows.specs.Passes.{DrivenPass};
+ghost use Rattle.iisph_rules.specs.Step.{firstPressures};
+ghost use Rattle.scene_check.specs.Check.{Passed};
+ghost use Rattle.scene_format.specs.SceneOf.{sceneOf};
+ghost use Rattle.iisph_iterations.specs.PressureSolve.{StoppingIs, Iterates, endingAfter, Solves};
+
+// When the iterations stop, as the header says it.
+pub struct Stopping {
+    pub min_pressure_iter: usize,
+    pub max_pressure_iter: usize,
+    pub max_density_error: f64,
+}
+
+// How many iterations were carried out, and how they ended.
+pub struct Solved {
+    pub iterations: u32,
+    pub ending: Ending,
+}
+
+// One iteration; its error is handed back.
+fn iterate(
+    scene: &[u8],
+    layout: Layout,
+    index: &[usize],
+    n: usize,
+    clock: Clock,
+    gravity: Vec3,
+    work: &mut [f64],
+) -> f64
+    requires { ⌜ DrivenPass (now scene) (now index) n clock gravity ⌝ }
+    requires { ⌜ Passed (now scene) layout × Iterating (sceneOf (now scene)) n (now work) ⌝ }
+    ensures { λ r. ⌜ Iterates (sceneOf (now (scene .entry))) (now (work .entry)) r (now (work .exit)) ⌝ }
+{
+    let fluids = layout.fluids;
+    let counts = fluids.counts;
+    traverse(Pass::Quotients, scene, index, n, clock, gravity, work);
+    traverse(Pass::DijPjl, scene, index, n, clock, gravity, work);
+    traverse(Pass::NextPressures, scene, index, n, clock, gravity, work);
+    traverse(Pass::Exchange, scene, index, n, clock, gravity, work);
+    max_error(counts, fluids.number, work, n)
+}
+
+// The ending after i iterations, the last with this error, if none met the stopping test.
+fn ending_after(i: usize, error: f64) -> Ending
+    ensures { λ r. ⌜ r ≡ endingAfter i error ⌝ }
+{
+    if i == 0 {
+        Ending::Unswept
+    } else {
+        Ending::RanOut(error)
+    }
+}
+
+// The iterations from the first pressures, which stand in the rows.
+pub fn pressure_solve(
+    scene: &[u8],
+    layout: Layout,
+    index: &[usize],
+    n: usize,
+    clock: Clock,
+    gravity: Vec3,
+    stopping: Stopping,
+    work: &mut [f64],
+) -> Solved
+    requires { ⌜ DrivenPass (now scene) (now index) n clock gravity × StoppingIs (sceneOf (now scene)) stopping ⌝ }
+    requires { ⌜ Passed (now scene) layout × Iterating (sceneOf (now scene)) n (now work) ⌝ }
+    requires { ⌜ pressuresIn n (now work) ≡ firstPressures (sceneOf (now scene)) ⌝ }
+    ensures { λ r. ⌜ Solves (sceneOf (now (scene .entry))) (now (work .entry)) r (now (work .exit)) ⌝ }
+{
+    let least = stopping.min_pressure_iter;
+    let most = stopping.max_pressure_iter;
+    let limit = stopping.max_density_error;
+    let mut error = 0.0;
+    let mut i = 0usize;
+    while i < most {
+        let number = i;
+        error = iterate(scene, layout, index, n, clock, gravity, work);
+        i += 1;
+        if error <= limit {
+            if number >= least {
+                return Solved {
+                    iterations: i as u32,
+                    ending: Ending::Settled(error),
+                };
+            }
+        }
+    }
+    let ending = ending_after(i, error);
+    Solved {
+        iterations: i as u32,
+        ending,
+    }
+}

@@ -1,0 +1,86 @@
+-- The lines of the text that the program writes, byte by byte in ASCII (FORMAT 4.2). Every line ends with a newline.
+-- Definitions only.
+use Prim.Native.Nat.{ℕ, _+_, _*_}
+use mathlib.Core.List.{List, [], _∷_, _++_, flatten}
+use lib.ListN.{getD}
+use lib.Ieee.{Float, nan}
+use Rattle.lists.specs.Lists.{table}
+use Rattle.timestep_manager.specs.declared.Clock.{Clock}
+use Rattle.scene_format.specs.Format.{axes}
+use Rattle.scene_format.specs.Refusals.{numberOf, placeOf}
+use Rattle.scene_format.specs.declared.Kind.{Kind}
+use Rattle.scene_format.specs.declared.Kind.the-variants.{Fluid, Boundary}
+use Rattle.scene_format.specs.declared.Refusal.{Refusal}
+use Rattle.scene_layout.specs.declared.Layout.{Layout}
+use Rattle.scene_layout.specs.declared.Models.{Models}
+use Rattle.scene_lengths.specs.Lengths.{fluidAnswerWidth, widthIn, answersBefore}
+use Rattle.iisph_rules.specs.declared.Ending.{Ending}
+use Rattle.iisph_rules.specs.declared.Ending.the-variants.{Unswept, Settled, RanOut}
+use Rattle.iisph_rules.specs.declared.Report.{Report}
+use Rattle.iisph_words.specs.Digits.{decimalOf, mostDigits}
+use Rattle.iisph_words.specs.Words.{newline, pairText, doubleText, doublesText, kindWord}
+
+-- ---- the first two lines of a step that is done
+
+-- how the iterations ended, how many there were, and the last one's error
+unfoldable pub sweptText : List ℕ → ℕ → Float → List ℕ
+sweptText word n error = word ++ decimalOf n ++ doubleText error
+
+-- "unswept ", which has no error, "settled ", "ranout "
+unfoldable pub endingText : ℕ → Ending → List ℕ
+endingText n Unswept = (117 ∷ 110 ∷ 115 ∷ 119 ∷ 101 ∷ 112 ∷ 116 ∷ 32 ∷ []) ++ decimalOf n
+endingText n (Settled error) = sweptText (115 ∷ 101 ∷ 116 ∷ 116 ∷ 108 ∷ 101 ∷ 100 ∷ 32 ∷ []) n error
+endingText n (RanOut error) = sweptText (114 ∷ 97 ∷ 110 ∷ 111 ∷ 117 ∷ 116 ∷ 32 ∷ []) n error
+
+-- "step ", then the ending
+unfoldable pub stepLine : Report → List ℕ
+stepLine r = (115 ∷ 116 ∷ 101 ∷ 112 ∷ 32 ∷ []) ++ endingText (r .iterations) (r .ending) ++ newline
+
+-- "clock", then dt, inv_dt and remaining time
+unfoldable pub clockLine : Clock → List ℕ
+clockLine c =
+    (99 ∷ 108 ∷ 111 ∷ 99 ∷ 107 ∷ [])
+    ++ doubleText (c .dt)
+    ++ doubleText (c .«inv_dt»)
+    ++ doubleText (c .«remaining_time»)
+    ++ newline
+
+-- ---- a line for each particle
+
+-- the model's number, the particle's number in it, and its answers as text
+unfoldable pub particleLine : Kind → ℕ → ℕ → List ℕ → List ℕ
+particleLine κ m i answers = kindWord κ ++ pairText m i ++ answers ++ newline
+
+-- the n particles of model m, with w answers each; the model's answers begin at the k-th element of a list
+unfoldable pub modelText : Kind → ℕ → ℕ → ℕ → ℕ → List Float → List ℕ
+modelText κ m n w k xs = flatten (table n (λ i. particleLine κ m i (doublesText xs (k + w * i) w)))
+
+-- the first n models of a kind, one after the other, by whether each keeps forces and how many particles each has; the
+-- answers begin at the k-th element of a list
+unfoldable pub modelsUpto : ℕ → Kind → List ℕ → List ℕ → ℕ → List Float → List ℕ
+modelsUpto n κ keeps counts k xs =
+    flatten
+    (table n (λ m. modelText κ m (getD counts m 0) (widthIn κ keeps m) (k + answersBefore κ keeps counts m) xs))
+
+-- all models of a kind
+abbrev pub modelsText : Kind → Models → ℕ → List Float → List ℕ
+modelsText κ models k xs = modelsUpto (models .number) κ (models .keeps) (models .counts) k xs
+
+-- of a scene with this layout, whose answers are xs: the fluids, then the boundaries
+unfoldable pub particlesText : Layout → List Float → List ℕ
+particlesText layout xs =
+    modelsText Fluid (layout .fluids) 0 xs
+    ++ modelsText Boundary (layout .boundaries) (fluidAnswerWidth axes * layout .fluids .total) xs
+
+-- ---- the only line of a step that is refused
+
+-- "refused ", the number and the place
+unfoldable pub refusedLine : Refusal → List ℕ
+refusedLine r =
+    (114 ∷ 101 ∷ 102 ∷ 117 ∷ 115 ∷ 101 ∷ 100 ∷ 32 ∷ [])
+    ++ pairText (numberOf r) (placeOf r)
+    ++ newline
+
+-- the line is never longer: the word, two numbers of 64 bits, a space and a newline
+abbrev pub refusedRoom : ℕ
+refusedRoom = 8 + mostDigits + 1 + mostDigits + 1

@@ -1,0 +1,3 @@
+pub mod Accelerations
+pub mod PressureChanges
+pub mod Motions

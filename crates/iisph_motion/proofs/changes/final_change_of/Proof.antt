@@ -1,0 +1,83 @@
+-- `iisph_motion::changes::final_change_of` meets its contract: the folds over both lists of contacts, one from the
+-- other on, are the rule's. Assumes nothing.
+use Prim.Native.Nat.{_<_}
+use native.Mathlib.Omega.{arith}
+use denote.Ref.{now}
+use Rattle.scene_format.specs.Scene.{fluidSize, particle}
+use Rattle.scene_format.specs.SceneOf.{sceneOf}
+use Rattle.scene_format.specs.declared.Kind.the-variants.{Fluid, Boundary}
+use Rattle.scene_index.proofs.ContactLists.{ContactsAre, contacts-are}
+use Rattle.iisph_rows.proofs.Particles.{dt-is}
+use Rattle.iisph_motion.proofs.PressureChanges.{change-made}
+use Rattle.iisph_motion.proofs.changes.final_change_of.Statement.{statement}
+use Rattle.iisph_motion.proofs.changes.final_change_of.Tie as tie
+
+abbrev Begin : tie.After-contacts-of2 → tie.Start
+Begin c = c .before .before .before .before .before
+
+below : (c : tie.Start) → c .args .i < fluidSize (sceneOf (now (c .args .scene)))
+below c = omega (arith, c .pre .0 .0 .timed .over .size, c .pre .0 .1)
+
+fluid : (c : tie.After-contacts-of2)
+    → let b = now (Begin c .args .scene) in
+    ContactsAre b Fluid (particle (sceneOf b) (Begin c .args .i)) (c .before .contacts-of .result)
+fluid c = contacts-are (Begin c .pre .0 .0 .timed .over .indexed) _ (below (Begin c)) (c .before .contacts-of .ensures)
+
+boundary : (c : tie.After-contacts-of2)
+    → let b = now (Begin c .args .scene) in
+    ContactsAre b Boundary (particle (sceneOf b) (Begin c .args .i)) (c .contacts-of2 .result)
+boundary c = contacts-are (Begin c .pre .0 .0 .timed .over .indexed) _ (below (Begin c)) (c .contacts-of2 .ensures)
+
+contacts-of-requires : tie.Need-contacts-of-requires
+contacts-of-requires c κs =
+    let s = c .before .before .before in
+    (s .pre .0 .0 .timed .over .indexed, below s)
+
+contacts-of-requires-2 : tie.Need-contacts-of-requires-2
+contacts-of-requires-2 c κs =
+    let s = c .before .before .before .before in
+    (s .pre .0 .0 .timed .over .indexed, below s)
+
+pressure-state-of-requires : tie.Need-pressure-state-of-requires
+pressure-state-of-requires c κs =
+    let p = Begin c .pre in
+    ((p .0 .0 .timed .over, p .0 .1), p .1 .iteration)
+
+velocity-change-of-requires : tie.Need-velocity-change-of-requires
+velocity-change-of-requires c κs =
+    Begin (c .before) .pre .0
+
+pressure-changes-requires : tie.Need-pressure-changes-requires
+pressure-changes-requires c κs =
+    let l = c .before .before in
+    let p = Begin l .pre in
+    ((p .0 .0 .timed .over, p .1), fluid l .ready)
+
+pressure-changes-requires-2 : tie.Need-pressure-changes-requires-2
+pressure-changes-requires-2 c κs =
+    let l = c .before .before .before in
+    let p = Begin l .pre in
+    ((p .0 .0 .timed .over, p .1), boundary l .ready)
+
+returns : tie.Need-returns
+returns c =
+    let v = c .before .before in
+    let o = v .before in
+    let l = o .before in
+    change-made _ (fluid l) (boundary l) _ _ (dt-is _ (Begin l .pre .0 .0 .timed .clockIs)) _
+    (o .pressure-state-of .ensures)
+    (v .velocity-change-of .ensures)
+    (c .before .pressure-changes .ensures)
+    (c .pressure-changes2 .ensures)
+
+pub final-change-of-spec : {M : Type 1} → statement M
+final-change-of-spec =
+    tie.close
+    (tie.spec
+    contacts-of-requires
+    contacts-of-requires-2
+    pressure-state-of-requires
+    velocity-change-of-requires
+    pressure-changes-requires
+    pressure-changes-requires-2
+    returns)

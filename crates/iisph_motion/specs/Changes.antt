@@ -1,0 +1,56 @@
+-- What the last part of a step takes of a fluid particle and of its contacts, by the rules: the particle's pressure
+-- state, a of METHOD 7.2 from it, and what a contact of each kind takes off the velocity change. Scaffolding: no
+-- promise rests on it. Definitions only.
+use Prim.Native.Nat.{ℕ}
+use mathlib.Core.Path.{_≡_}
+use mathlib.Core.List.{List, [], _∷_}
+use lib.Ieee.{Float}
+use Rattle.iisph_pressures.specs.IterationRows.{pressuresIn, Iterating}
+use Rattle.iisph_rows.specs.Rows.{quotientSlot, Rows}
+use Rattle.iisph_rules.specs.Coefficients.{particleMass, fluidMass, boundaryMass, coefficients, coefficient}
+use Rattle.iisph_rules.specs.Iteration.{pressure}
+use Rattle.iisph_rules.specs.Step.{pressureShare}
+use Rattle.math.specs.Real.{_⊕_, _⊗_, _⊘_}
+use Rattle.math.specs.Vector.{Vector, _⊟_, _⊡_}
+use Rattle.scene_format.specs.Format.{axes}
+use Rattle.scene_format.specs.Scene.{Scene, Contact, particle}
+use Rattle.scene_format.specs.declared.Kind.{Kind}
+use Rattle.scene_format.specs.declared.Kind.the-variants.{Fluid, Boundary}
+use Rattle.iisph_motion.specs.declared.acceleration.PressureState.{PressureState}
+
+-- ---- the share p / (rho × rho) of a particle, as it stands in a row
+
+abbrev pub shareRow : Scene → List Float → ℕ → List Float
+shareRow s ps i = pressureShare (coefficients s) ps i ∷ []
+
+-- ---- the particle itself
+
+-- the code's state is that of fluid particle i, where ps are the pressures
+pub record PressureStateIs (s : Scene) (ps : List Float) (i : ℕ) (state : PressureState) : Type 0 where
+  pub density0 : state .density0 ≡ particle s i .density0
+  pub pressure : state .pressure ≡ pressure ps i
+  pub square : state .square ≡ coefficient (coefficients s) i .density ⊗ coefficient (coefficients s) i .density
+  pub share : state .share ≡ pressureShare (coefficients s) ps i
+  pub mass : state .mass ≡ particleMass (particle s i)
+
+-- ---- boundary contacts
+
+-- `boundaryAcceleration` from what it takes of the particle
+unfoldable pub accelerationOf : Scene → PressureState → Contact → Vector
+accelerationOf s state c = c .gradient ⊡ (boundaryMass s (state .density0) c ⊗ state .pressure ⊘ state .square)
+
+-- ---- what a contact takes off the velocity change of its owner; t is the step length
+
+unfoldable pub changeBy : Kind → Scene → List Float → Float → PressureState → Contact → Vector
+changeBy Fluid s ps t state c =
+    c .gradient ⊡ (t ⊗ fluidMass s c ⊗ (state .share ⊕ pressureShare (coefficients s) ps (c .target)))
+changeBy Boundary s ps t state c = accelerationOf s state c ⊡ t
+
+abbrev pub withChange : Kind → Scene → List Float → Float → PressureState → Vector → Contact → Vector
+withChange κ s ps t state change c = change ⊟ changeBy κ s ps t state c
+
+-- ---- what the pass finds: the iterations' rows with the last pressures, and the share of each
+
+pub record ChangesReady (s : Scene) (n : ℕ) (work : List Float) : Type 0 where
+  pub iteration : Iterating s n work
+  pub share : Rows n (quotientSlot axes) (shareRow s (pressuresIn n work)) work

@@ -1,0 +1,2 @@
+pub mod Traverse
+pub mod Prepare

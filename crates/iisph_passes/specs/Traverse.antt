@@ -1,0 +1,65 @@
+-- What each pass over the fluid particles stores, in which slots, and what it needs of the work list. Scaffolding: no
+-- promise rests on it. Definitions only.
+use Prim.Native.Nat.{ℕ, _+_}
+use mathlib.Core.List.{List, [], _∷_, _++_}
+use lib.Ieee.{Float}
+use Rattle.iisph_coefficients.specs.Neighbours.{coefficientRow}
+use Rattle.iisph_coefficients.specs.declared.coefficients.CoefficientsOf.{CoefficientsOf}
+use Rattle.iisph_pressures.specs.IterationRows.{pressuresIn, dijsIn, rowQuotient, rowShare, DijReady, Iterating}
+use Rattle.iisph_rows.specs.Passes.{massRow, advectedRow, CoefficientsReady}
+use Rattle.iisph_rows.specs.Rows.{rowAt, elementAt}
+use Rattle.iisph_rows.specs.Rows.{densitySlot, pressureSlot, dijSlot, massSlot, quotientSlot, nextPressureSlot}
+use Rattle.iisph_rules.specs.Coefficients.{coefficients}
+use Rattle.iisph_rules.specs.Iteration.{NextPressure, dijPjl, nextPressure}
+use Rattle.math.specs.Vector.{coordinates}
+use Rattle.scene_format.specs.Format.{axes}
+use Rattle.scene_format.specs.Scene.{Scene, fluidSize, particle}
+use Rattle.iisph_passes.specs.declared.traverse.Pass.{Pass}
+use Rattle.iisph_passes.specs.declared.traverse.Pass.the-variants.{Masses, Advected, Coefficients}
+use Rattle.iisph_passes.specs.declared.traverse.Pass.the-variants.{Quotients, DijPjl, NextPressures, Exchange}
+use Rattle.iisph_passes.specs.declared.traverse.Pass.the-variants.{Shares}
+
+-- the coefficients of the code with a pressure, as `coefficientRow` has them
+abbrev pub coefficientList : CoefficientsOf → Float → List Float
+coefficientList c pressure = c .density ∷ c .«predicted_density» ∷ c .aii ∷ (coordinates (c .dii) ++ (pressure ∷ []))
+
+-- the error term in the slot before that of the next pressure
+abbrev pub nextList : NextPressure → List Float
+nextList k = k .term ∷ k .pressure ∷ []
+
+-- the next pressure that stands in row i
+abbrev pub rowNext : List Float → ℕ → Float
+rowNext work i = elementAt work (rowAt i + nextPressureSlot axes)
+
+unfoldable pub slotOf : Pass → ℕ
+slotOf Masses = massSlot axes
+slotOf Advected = dijSlot axes
+slotOf Coefficients = densitySlot
+slotOf Quotients = quotientSlot axes
+slotOf DijPjl = dijSlot axes
+slotOf NextPressures = quotientSlot axes
+slotOf Exchange = pressureSlot axes
+slotOf Shares = quotientSlot axes
+
+-- from the list before the pass
+unfoldable pub rowOf : Scene → List Float → Pass → ℕ → List Float
+rowOf s work Masses i = massRow s i
+rowOf s work Advected i = advectedRow s i
+rowOf s work Coefficients i = coefficientRow s i
+rowOf s work Quotients i = rowQuotient work i ∷ []
+rowOf s work DijPjl i = dijPjl s (coefficients s) (pressuresIn (fluidSize s) work) (particle s i)
+rowOf s work NextPressures i =
+    nextList (nextPressure s (coefficients s) (pressuresIn (fluidSize s) work) (dijsIn (fluidSize s) work) i)
+rowOf s work Exchange i = rowNext work i ∷ []
+rowOf s work Shares i = rowShare work i ∷ []
+
+-- of the list before the pass, of n rows
+unfoldable pub Ready : Scene → ℕ → List Float → Pass → Type 0
+Ready s n work Masses = Unit
+Ready s n work Advected = Unit
+Ready s n work Coefficients = CoefficientsReady s n work
+Ready s n work Quotients = Unit
+Ready s n work DijPjl = DijReady s n work
+Ready s n work NextPressures = Iterating s n work
+Ready s n work Exchange = Unit
+Ready s n work Shares = Unit

@@ -1,0 +1,255 @@
+-- What an iteration computes of a particle is the rules': a term is that of the row which the contact names, and a sum
+-- over a list of contacts is one over the particle's. Each law is over variables for the results of the code's calls.
+-- Assumes nothing.
+use Prim.Native.Nat.{ℕ, _+_, _*_, _<_}
+use mathlib.Core.Path.{_≡_, refl, sym, ap, _∙_, subst}
+use mathlib.Core.Bool.{Bool, true, false, cond}
+use mathlib.Core.List.{List}
+use native.Mathlib.Omega.{arith}
+use lib.Ieee
+use lib.Ieee.{Float, nan}
+use lib.ListN.{length, getD}
+use Rattle.math.specs.Real.{_⊕_, _⊖_, _⊗_, _⊘_, ⊝, +0, half, magnitude}
+use Rattle.math.specs.Vector.{Vector, coordinates, origin, _⊞_, _⊟_, _⊡_, _·_}
+use Rattle.lists.specs.Lists.{fold, choose}
+use Rattle.math.specs.declared.Vec3.{Vec3}
+use Rattle.scene_format.specs.Bytes.{vectorAt}
+use Rattle.scene_format.specs.Scene.{Scene, FluidParticle, Contact, fluidSize, particle}
+use Rattle.scene_format.specs.SceneOf.{targetAt, contactAt, contactList, sceneOf}
+use Rattle.scene_format.specs.declared.Kind.{Kind}
+use Rattle.scene_format.specs.declared.Kind.the-variants.{Fluid, Boundary}
+use Rattle.iisph_rules.specs.Coefficients.{dt, overContacts, particleMass, fluidMass, boundaryMass, density, djiFactor}
+use Rattle.iisph_rules.specs.Coefficients.{coefficientsOf, coefficients, coefficient}
+use Rattle.iisph_rules.specs.Iteration.{pressure, dijSum, dijPjl, dij, pressureSum, relaxed, errorTerm, noPressure}
+use Rattle.iisph_rules.specs.Iteration.{clamped, aiiLimit, nextPressure}
+use Rattle.iisph_pressures.specs.IterationRows.{IterationReady, pressuresIn, dijsIn, quotient, withDij, rowTerm}
+use Rattle.iisph_pressures.specs.IterationRows.{termOf, withTerm, nextFrom, NextIs}
+use Rattle.scene_index.specs.Contacts.{ContactReady, overList}
+use Rattle.iisph_rows.specs.Rows.{rowAt, elementAt, vectorFrom, massSlot, pressureSlot, dijSlot, predictedSlot, aiiSlot}
+use Rattle.scene_format.specs.Format.{axes, gradientOffset, startsOf}
+use Rattle.scene_index.specs.declared.contacts.ContactList.{ContactList}
+use Rattle.iisph_pressures.specs.declared.iteration.Next.{Next}
+use Rattle.iisph_pressures.specs.declared.iteration.Owner.{Owner}
+use Rattle.iisph_rows.proofs.Particles.{zero-is}
+use Rattle.scene_index.proofs.ContactLists.{contactsOf, ContactsAre, over-list}
+use Rattle.iisph_pressures.proofs.IterationReads.{coefficient-at, pressure-in, dij-in, density-in, predicted-in}
+use Rattle.iisph_pressures.proofs.IterationReads.{aii-in, mass-in}
+use Rattle.iisph_rules.proofs.Sizes.{length-dii}
+use Rattle.scene_index.proofs.Targets.{fluid-named, boundary-named}
+use Rattle.iisph_rows.proofs.RowReads.{row-vector, volume-behind}
+
+-- ---- dij_pjl
+
+pub dij-step : (s : Scene) (ps : List Float) (c : Contact) (x : Vector) {y v g : Vector} {w : Float}
+    → y ≡ x ⊞ v → v ≡ g ⊡ w → g ≡ c .gradient → w ≡ quotient s ps (c .target) → y ≡ withDij s ps x c
+dij-step s ps c x ye ve ge we = rw (ye, ve, ge, we)
+
+pub dij-made : {b : List ℕ} {p : FluidParticle} {list : ContactList} → ContactsAre b Fluid p list
+    → (ps : List Float) {t : Float} {x y : Vector}
+    → t ≡ dt (sceneOf b) → x ≡ overList b list (withDij (sceneOf b) ps) (origin axes) → y ≡ x ⊡ (t ⊗ t)
+    → y ≡ dijPjl (sceneOf b) (coefficients (sceneOf b)) ps p
+unfolding dijPjl dijSum quotient fluidMass contactsOf
+dij-made {b} {p} h ps {t} te xe ye =
+    ye
+    ∙ ap (λ (x : Vector). x ⊡ (t ⊗ t))
+    (xe ∙ over-list h (withDij (sceneOf b) ps) (origin axes)
+    ∙ ap (λ (z : Vector). fold (withDij (sceneOf b) ps) z (p .fluidContacts)) (zero-is b))
+    ∙ ap (λ (t : Float). dijSum (sceneOf b) (coefficients (sceneOf b)) ps p ⊡ (t ⊗ t)) te
+
+-- ---- terms of the pressure sum
+
+term-same : {m m′ q q′ : Float} {d d′ x x′ : Vector} (own g : Vector) (e p : Float) → m ≡ m′ → q ≡ q′ → d ≡ d′ → x ≡ x′
+    → m ⊗ (((own ⊟ d ⊡ q) ⊟ (x ⊟ (g ⊡ e) ⊡ p)) · g) ≡ m′ ⊗ (((own ⊟ d′ ⊡ q′) ⊟ (x′ ⊟ (g ⊡ e) ⊡ p)) · g)
+term-same own g e p me qe de xe = rw (me, qe, de, xe)
+
+module _ (b : List ℕ) {n : ℕ} {work : List Float} (size : n ≡ fluidSize (sceneOf b))
+    (q : IterationReady (sceneOf b) (pressuresIn n work) n work) where
+  length-row : (j : ℕ) → j < fluidSize (sceneOf b) → length (coefficientsOf (sceneOf b) (particle (sceneOf b) j) .dii)
+      ≡ axes
+  unfolding coefficientsOf
+  length-row j h = length-dii b j h (density (sceneOf b) (particle (sceneOf b) j))
+
+  row-term-is : (j : ℕ) → j < n → (owner : Owner) (g : Vector)
+      → rowTerm work j owner g
+      ≡ particleMass (particle (sceneOf b) j)
+      ⊗ (((coordinates (owner .dij) ⊟ coefficient (coefficients (sceneOf b)) j .dii ⊡ pressure (pressuresIn n work) j)
+      ⊟ (dij (dijsIn n work) j ⊟ (g ⊡ owner .factor) ⊡ owner .pressure))
+      · g)
+  row-term-is j h owner g =
+      term-same (coordinates (owner .dij)) g (owner .factor) (owner .pressure)
+      (mass-in q size j h)
+      (pressure-in work j h)
+      (row-vector (λ i. coefficientsOf (sceneOf b) (particle (sceneOf b) i) .dii) (q .dii) j h
+      (length-row j (omega arith))
+      ∙ sym (ap (λ k. k .dii) (coefficient-at (sceneOf b) j (omega arith))))
+      (dij-in work j h)
+
+  module _ {κ : Kind} {at j : ℕ} (ready : ContactReady κ b at) (named : j ≡ targetAt (startsOf κ b) b at) {g : Vector}
+      (ge : g ≡ vectorAt axes b (at + gradientOffset))
+      (density0 : Float) (owner : Owner) where
+    pub fluid-term : κ ≡ Fluid
+        → rowTerm work j owner g
+        ≡ termOf κ (sceneOf b) (pressuresIn n work) (dijsIn n work) density0 owner (contactAt (startsOf κ b) b at)
+    unfolding termOf fluidMass contactAt
+    fluid-term e =
+        let h = fluid-named ready named e in
+        row-term-is j (omega arith) owner g ∙ rw (ge, named, e)
+
+    pub boundary-term : {r : Float} → r ≡ coordinates (owner .dij) · g → κ ≡ Boundary
+        → elementAt work (rowAt n + j) ⊗ density0 ⊗ r
+        ≡ termOf κ (sceneOf b) (pressuresIn n work) (dijsIn n work) density0 owner (contactAt (startsOf κ b) b at)
+    unfolding termOf boundaryMass contactAt
+    boundary-term {r} re e =
+        ap (λ v. v ⊗ density0 ⊗ r) (volume-behind (sceneOf b) n (q .volume) j (boundary-named ready named e))
+        ∙ rw (re, ge, named, e)
+
+-- ---- the pressure sum
+
+over-terms : {b : List ℕ} {κ : Kind} {p : FluidParticle} {list : ContactList} → ContactsAre b κ p list
+    → (s : Scene) (ps : List Float) (ds : List Vector) (owner : Owner) (a : Float)
+    → overList b list (withTerm (list .kind) s ps ds (list .density0) owner) a
+    ≡ fold (withTerm κ s ps ds (p .density0) owner) a (contactsOf κ p)
+over-terms {b} {κ} {p} {list} h s ps ds owner a =
+    over-list h (withTerm (list .kind) s ps ds (list .density0) owner) a
+    ∙ ap (λ k. fold (withTerm k s ps ds (list .density0) owner) a (contactsOf κ p)) (h .kind)
+    ∙ ap (λ d. fold (withTerm κ s ps ds d owner) a (contactsOf κ p)) (h .density0)
+
+-- the rule's sum, of what it takes of particle i itself
+abbrev sumWith : Scene → List Float → List Vector → FluidParticle → Vector → Float → Float → Float
+sumWith s ps ds p d e q =
+    overContacts
+    (λ sum c.
+    let j = c .target in
+    sum ⊕ fluidMass s c
+    ⊗ (((d ⊟ coefficient (coefficients s) j .dii ⊡ pressure ps j)
+    ⊟ (dij ds j ⊟ (c .gradient ⊡ e) ⊡ q)) · c .gradient))
+    (λ sum c. sum ⊕ boundaryMass s (p .density0) c ⊗ (d · c .gradient))
+    +0
+    p
+
+module _ {b : List ℕ} (i : ℕ) {fluid boundary : ContactList}
+    (fs : ContactsAre b Fluid (particle (sceneOf b) i) fluid)
+    (bs : ContactsAre b Boundary (particle (sceneOf b) i) boundary)
+    (ps : List Float) (ds : List Vector) (owner : Owner) where
+  sum-both : {x y : Float}
+      → x ≡ overList b fluid (withTerm (fluid .kind) (sceneOf b) ps ds (fluid .density0) owner) +0
+      → y ≡ overList b boundary (withTerm (boundary .kind) (sceneOf b) ps ds (boundary .density0) owner) x
+      → y ≡ sumWith (sceneOf b) ps ds (particle (sceneOf b) i) (coordinates (owner .dij)) (owner .factor)
+      (owner .pressure)
+  unfolding overContacts termOf contactsOf
+  sum-both {x} xe ye =
+      let p = particle (sceneOf b) i in
+      ye
+      ∙ over-terms bs (sceneOf b) ps ds owner x
+      ∙ ap (λ (x : Float). fold (withTerm Boundary (sceneOf b) ps ds (p .density0) owner) x (p .boundaryContacts))
+      (xe ∙ over-terms fs (sceneOf b) ps ds owner +0)
+
+  sum-made : {x y : Float}
+      → coordinates (owner .dij) ≡ dij ds i
+      → owner .factor
+      ≡ djiFactor (sceneOf b) (particle (sceneOf b) i) (coefficient (coefficients (sceneOf b)) i .density)
+      → owner .pressure ≡ pressure ps i
+      → x ≡ overList b fluid (withTerm (fluid .kind) (sceneOf b) ps ds (fluid .density0) owner) +0
+      → y ≡ overList b boundary (withTerm (boundary .kind) (sceneOf b) ps ds (boundary .density0) owner) x
+      → y ≡ pressureSum (sceneOf b) (coefficients (sceneOf b)) ps ds i
+  unfolding pressureSum
+  sum-made de ee qe xe ye =
+      let p = particle (sceneOf b) i in
+      sum-both xe ye
+      ∙ ap (λ (d : Vector). sumWith (sceneOf b) ps ds p d (owner .factor) (owner .pressure)) de
+      ∙ ap (λ (e : Float). sumWith (sceneOf b) ps ds p (dij ds i) e (owner .pressure)) ee
+      ∙ ap (λ (q : Float). sumWith (sceneOf b) ps ds p (dij ds i)
+      (djiFactor (sceneOf b) p (coefficient (coefficients (sceneOf b)) i .density)) q) qe
+
+-- ---- the next pressure
+
+module _ (density0 aii predicted sum p : Float) where
+  next-is : {t u : Bool} → t ≡ Ieee.lt aiiLimit (magnitude aii)
+      → u ≡ Ieee.lt +0 (relaxed p aii (density0 ⊖ predicted) sum)
+      → let next = relaxed p aii (density0 ⊖ predicted) sum in
+      choose t (cond u (record { pressure = next; term = errorTerm density0 aii sum next }) noPressure) noPressure
+      ≡ nextFrom density0 aii predicted sum p
+  unfolding nextFrom clamped
+  next-is e q = rw (e, q)
+
+  module _ {m : Float} (me : m ≡ magnitude aii) where
+    pub next-kept : let next = half ⊗ p ⊕ half ⊗ (density0 ⊖ predicted ⊖ sum) ⊘ aii in
+        Ieee.lt aiiLimit m ≡ true → Ieee.lt +0 next ≡ true
+        → NextIs (record { pressure = next; term = (⊝ sum ⊖ aii ⊗ next) ⊘ density0 })
+        (nextFrom density0 aii predicted sum p)
+    unfolding relaxed errorTerm choose
+    next-kept e q =
+        let k = next-is (sym e ∙ ap (Ieee.lt aiiLimit) me) (sym q) in
+        record { pressure = ap (λ k. k .pressure) k; term = ap (λ k. k .term) k }
+
+    pub next-clamped : let next = half ⊗ p ⊕ half ⊗ (density0 ⊖ predicted ⊖ sum) ⊘ aii in
+        Ieee.lt aiiLimit m ≡ true → Ieee.lt +0 next ≡ false
+        → NextIs (record { pressure = +0; term = +0 }) (nextFrom density0 aii predicted sum p)
+    unfolding relaxed choose
+    next-clamped e q =
+        let k = next-is (sym e ∙ ap (Ieee.lt aiiLimit) me) (sym q) in
+        record { pressure = ap (λ k. k .pressure) k; term = ap (λ k. k .term) k }
+
+    pub next-none : Ieee.lt aiiLimit m ≡ false
+        → NextIs (record { pressure = +0; term = +0 }) (nextFrom density0 aii predicted sum p)
+    unfolding choose
+    next-none e =
+        let k = next-is (sym e ∙ ap (Ieee.lt aiiLimit) me) refl in
+        record { pressure = ap (λ k. k .pressure) k; term = ap (λ k. k .term) k }
+
+next-same : {d d′ a a′ q q′ s s′ p p′ : Float} → d ≡ d′ → a ≡ a′ → q ≡ q′ → s ≡ s′ → p ≡ p′
+    → nextFrom d a q s p ≡ nextFrom d′ a′ q′ s′ p′
+next-same de ae qe se pe = rw (de, ae, qe, se, pe)
+
+next-whole : (s : Scene) (ps : List Float) (ds : List Vector) (i : ℕ)
+    → let k = coefficient (coefficients s) i in
+    nextFrom (particle s i .density0) (k .aii) (k .predictedDensity) (pressureSum s (coefficients s) ps ds i)
+    (pressure ps i)
+    ≡ nextPressure s (coefficients s) ps ds i
+unfolding nextFrom nextPressure
+next-whole s ps ds i = refl
+
+factor-same : {t t′ m m′ r r′ : Float} → t ≡ t′ → m ≡ m′ → r ≡ r′ → t ⊗ t ⊗ m ⊘ (r ⊗ r) ≡ t′ ⊗ t′ ⊗ m′ ⊘ (r′ ⊗ r′)
+factor-same te me re = rw (te, me, re)
+
+factor-made : (b : List ℕ) (p : FluidParticle) {t m r rho : Float} → t ≡ dt (sceneOf b) → m ≡ particleMass p → r ≡ rho
+    → t ⊗ t ⊗ m ⊘ (r ⊗ r) ≡ djiFactor (sceneOf b) p rho
+unfolding djiFactor
+factor-made b p te me re = factor-same te me re
+
+-- the owner as the code makes it, from row i
+abbrev ownerOf : List Float → ℕ → Float → Vec3 → Owner
+ownerOf work i t d =
+    record {
+      dij = d;
+      factor = t ⊗ t ⊗ elementAt work (rowAt i + massSlot axes) ⊘ (elementAt work (rowAt i) ⊗ elementAt work (rowAt i));
+      pressure = elementAt work (rowAt i + pressureSlot axes);
+    }
+
+-- from the results of the code's calls, in their order
+pub next-made : (b : List ℕ) {n : ℕ} {work : List Float} → n ≡ fluidSize (sceneOf b)
+    → IterationReady (sceneOf b) (pressuresIn n work) n work
+    → (i : ℕ) → i < n → {fluid boundary : ContactList}
+    → ContactsAre b Fluid (particle (sceneOf b) i) fluid → ContactsAre b Boundary (particle (sceneOf b) i) boundary
+    → (t : Float) → t ≡ dt (sceneOf b) → (d : Vec3) → coordinates d ≡ vectorFrom work (rowAt i + dijSlot axes)
+    → {x y : Float} {r : Next}
+    → x ≡ overList b fluid
+    (withTerm (fluid .kind) (sceneOf b) (pressuresIn n work) (dijsIn n work) (fluid .density0) (ownerOf work i t d)) +0
+    → y ≡ overList b boundary
+    (withTerm (boundary .kind) (sceneOf b) (pressuresIn n work) (dijsIn n work) (boundary .density0)
+    (ownerOf work i t d)) x
+    → NextIs r
+    (nextFrom (fluid .density0) (elementAt work (rowAt i + aiiSlot)) (elementAt work (rowAt i + predictedSlot)) y
+    (elementAt work (rowAt i + pressureSlot axes)))
+    → NextIs r (nextPressure (sceneOf b) (coefficients (sceneOf b)) (pressuresIn n work) (dijsIn n work) i)
+next-made b {n} {work} size q i h fs bs t te d de {r = r} xe ye re =
+    let sum =
+    sum-made i fs bs (pressuresIn n work) (dijsIn n work) (ownerOf work i t d) (de ∙ dij-in work i h)
+    (factor-made b (particle (sceneOf b) i) te (mass-in q size i h) (density-in q size i h))
+    (pressure-in work i h)
+    xe
+    ye in
+    subst (NextIs r)
+    (next-same (fs .density0) (aii-in q size i h) (predicted-in q size i h) sum (pressure-in work i h)
+    ∙ next-whole (sceneOf b) (pressuresIn n work) (dijsIn n work) i)
+    re

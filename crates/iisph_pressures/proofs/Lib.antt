@@ -1,0 +1,2 @@
+pub mod IterationReads
+pub mod IterationTerms

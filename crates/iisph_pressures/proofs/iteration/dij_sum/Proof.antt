@@ -1,0 +1,147 @@
+-- `iisph_pressures::iteration::dij_sum` meets its contract. The invariant: the sum is the rule's over the contacts
+-- passed; a turn takes in one more. The measure is the number of contacts left. Assumes nothing.
+use Prim.Native.Nat.{_+_, _*_, _-_, _<_, _≤_}
+use mathlib.Core.Path.{_≡_, ap, _∙_}
+use native.Mathlib.Nat.{le-antisymm}
+use native.Mathlib.Omega.{arith}
+use borrow.Author.Needs.{needs}
+use denote.Ref.{now}
+use Rattle.lists.specs.Lists.{fold, table}
+use Rattle.math.specs.Vector.{coordinates, origin}
+use Rattle.scene_format.specs.SceneOf.{contactAt, contactList, sceneOf}
+use Rattle.iisph_pressures.specs.IterationRows.{pressuresIn, quotient, withDij}
+use Rattle.scene_format.specs.Format.{axes, contactWidth, startsOf}
+use Rattle.scene_index.specs.Contacts.{ContactReady}
+use Rattle.iisph_pressures.proofs.IterationTerms.{dij-step}
+use Rattle.scene_index.proofs.ContactLists.{fold-next, contact-room}
+use Rattle.scene_index.proofs.Targets.{fluid-named}
+use Rattle.iisph_rows.proofs.RowReads.{row-value}
+use Rattle.iisph_pressures.proofs.iteration.dij_sum.Statement.{statement}
+use Rattle.iisph_pressures.proofs.iteration.dij_sum.Tie as tie
+
+abbrev Inv-loop : tie.InvT-loop
+Inv-loop scene index work n kind count at sum₀ k₀ sum k =
+    (k ≤ count)
+    × (coordinates sum
+    ≡ fold (withDij (sceneOf scene) (pressuresIn n work)) (origin axes) (contactList (startsOf kind scene) scene k at))
+
+abbrev μ-loop : tie.MeasureT-loop
+μ-loop scene index work n kind count at sum₀ k₀ sum k = count - k
+
+zero-requires : tie.Need-zero-requires Inv-loop μ-loop
+zero-requires c κs = search needs
+
+loop-holds : tie.Need-loop-holds Inv-loop μ-loop
+unfolding contactList table fold
+loop-holds c = (omega arith, c .zero .ensures)
+
+abbrev Begin : tie.In-loop Inv-loop μ-loop → tie.Start Inv-loop μ-loop
+Begin c = c .before .before .before .before .before .before
+
+-- the contact of a turn
+here : (c : tie.In-loop Inv-loop μ-loop)
+    → ContactReady (Begin c .args .list .kind) (now (Begin c .args .scene))
+    (Begin c .args .list .at + contactWidth axes * c .before .loop .k)
+here c = Begin c .pre .1 .1 .each (c .before .loop .k) (c .loop-test .taken)
+
+mul-c : tie.Need-mul-c Inv-loop μ-loop
+mul-c c = omega (arith, contact-room (here c))
+
+add-c : tie.Need-add-c Inv-loop μ-loop
+add-c c = omega (arith, contact-room (here c))
+
+target-of-requires : tie.Need-target-of-requires Inv-loop μ-loop
+target-of-requires c κs = (Begin c .pre .0 .0 .indexed, here c)
+
+-- the row that it names
+below : (c : tie.After-target-of Inv-loop μ-loop) → c .target-of .result < Begin (c .before) .args .n
+below c =
+    let p = Begin (c .before) .pre in
+    omega (arith, p .0 .0 .size, fluid-named (here (c .before)) (c .target-of .ensures) (p .1 .0))
+
+add-vector : tie.Need-add-vector Inv-loop μ-loop
+add-vector c = omega (arith, contact-room (here (c .before)))
+
+vector-requires : tie.Need-vector-requires Inv-loop μ-loop
+vector-requires c κs = here (c .before) .doubles .gradient
+
+mul-scale : tie.Need-mul-scale Inv-loop μ-loop
+mul-scale c =
+    let p = Begin (c .before .before) .pre in
+    omega (arith, below (c .before), p .0 .0 .indexed .fewFluid, p .0 .0 .size)
+
+add-scale : tie.Need-add-scale Inv-loop μ-loop
+add-scale c =
+    let p = Begin (c .before .before) .pre in
+    omega (arith, below (c .before), p .0 .0 .indexed .fewFluid, p .0 .0 .size)
+
+mul-scale-2 : tie.Need-mul-scale-2 Inv-loop μ-loop
+mul-scale-2 c =
+    let p = Begin (c .before .before) .pre in
+    omega (arith, below (c .before), p .0 .0 .indexed .fewFluid, p .0 .0 .size)
+
+shared-slice-read-scale : tie.Need-shared-slice-read-scale Inv-loop μ-loop
+shared-slice-read-scale c =
+    let t = c .before .before in
+    omega (arith, below t, Begin (t .before) .pre .0 .1 .room)
+
+scale-requires : tie.Need-scale-requires Inv-loop μ-loop
+scale-requires c κs = search needs
+
+add-requires : tie.Need-add-requires Inv-loop μ-loop
+add-requires c κs = search needs
+
+add-k : tie.Need-add-k Inv-loop μ-loop
+add-k c = omega (arith, contact-room (here (c .before .before .before .before .before)))
+
+loop-less : tie.Need-loop-less Inv-loop μ-loop
+loop-less c = search needs
+
+loop-again : tie.Need-loop-again Inv-loop μ-loop
+unfolding contactAt
+loop-again c =
+    let v = c .before .before .before in
+    let t = v .before in
+    let l = t .before .before .loop in
+    let s = Begin (t .before) in
+    let a = s .args in
+    let scene = sceneOf (now (a .scene)) in
+    let ps = pressuresIn (a .n) (now (a .work)) in (
+      omega arith,
+      fold-next (withDij scene ps) (origin axes) (a .list .kind) (now (a .scene)) (a .list .at) (l .k) (l .inv .1)
+          (dij-step scene ps
+          (contactAt (startsOf (a .list .kind) (now (a .scene))) (now (a .scene))
+          (a .list .at + contactWidth axes * l .k)) (coordinates (l .sum)) (c .add .ensures) (c .before .scale .ensures)
+          (v .vector .ensures)
+          (row-value (quotient scene ps) (s .pre .0 .1 .quotients) (t .target-of .result) (below t)
+          ∙ ap (quotient scene ps) (t .target-of .ensures))),
+    )
+
+returns : tie.Need-returns Inv-loop μ-loop
+returns c =
+    let l = c .before .loop in
+    rw (le-antisymm (c .loop-test .left) (l .inv .0)) (l .inv .1)
+
+pub dij-sum-spec : {M : Type 1} → statement M
+dij-sum-spec =
+    tie.close
+    (tie.spec
+    Inv-loop
+    μ-loop
+    zero-requires
+    loop-holds
+    mul-c
+    add-c
+    target-of-requires
+    add-vector
+    vector-requires
+    mul-scale
+    add-scale
+    mul-scale-2
+    shared-slice-read-scale
+    scale-requires
+    add-requires
+    add-k
+    loop-less
+    loop-again
+    returns)

@@ -1,0 +1,114 @@
+-- What an iteration reads of the rows of the work list and stores in them: the pressures and dij_pjl that stand there,
+-- a quotient for each particle, and the terms of the pressure sum by the kind of contact. Scaffolding: no promise rests
+-- on it. Definitions only.
+use Prim.Native.Nat.{ℕ, _+_}
+use mathlib.Core.Path.{_≡_}
+use mathlib.Core.List.{List, [], _∷_}
+use lib.Ieee
+use lib.Ieee.{Float}
+use Rattle.iisph_rows.specs.Passes.{Room, massRow, volumes}
+use Rattle.iisph_rows.specs.Rows.{densitySlot, predictedSlot, aiiSlot, diiSlot, pressureSlot, dijSlot, massSlot}
+use Rattle.iisph_rows.specs.Rows.{quotientSlot}
+use Rattle.iisph_rows.specs.Rows.{rowAt, elementAt, vectorFrom, column, Rows, Behind}
+use Rattle.iisph_rules.specs.Coefficients.{particleMass, fluidMass, boundaryMass, coefficientsOf, coefficients}
+use Rattle.iisph_rules.specs.Coefficients.{coefficient}
+use Rattle.iisph_rules.specs.Iteration.{pressure, dij, relaxed, NextPressure, noPressure, clamped, aiiLimit}
+use Rattle.lists.specs.Lists.{choose, table}
+use Rattle.math.specs.Real.{_⊕_, _⊖_, _⊗_, _⊘_, ⊝, magnitude}
+use Rattle.math.specs.Vector.{Vector, coordinates, _⊞_, _⊟_, _⊡_, _·_}
+use Rattle.scene_format.specs.Format.{axes}
+use Rattle.scene_format.specs.Scene.{Scene, Contact, particle}
+use Rattle.scene_format.specs.declared.Kind.{Kind}
+use Rattle.scene_format.specs.declared.Kind.the-variants.{Fluid, Boundary}
+use Rattle.iisph_pressures.specs.declared.iteration.Next.{Next}
+use Rattle.iisph_pressures.specs.declared.iteration.Owner.{Owner}
+
+-- ---- what stands in n rows
+
+unfoldable pub pressuresIn : ℕ → List Float → List Float
+pressuresIn n work = column n (pressureSlot axes) work
+
+unfoldable pub dijsIn : ℕ → List Float → List Vector
+dijsIn n work = table n (λ i. vectorFrom work (rowAt i + dijSlot axes))
+
+-- ---- what the iterations find: the coefficients of the scene s, the pressures ps, masses and volumes, in n rows
+
+pub record IterationReady (s : Scene) (ps : List Float) (n : ℕ) (work : List Float) : Type 0 where
+  pub room : Room s n work
+  pub density : Rows n densitySlot (λ i. coefficientsOf s (particle s i) .density ∷ []) work
+  pub predictedDensity : Rows n predictedSlot (λ i. coefficientsOf s (particle s i) .predictedDensity ∷ []) work
+  pub aii : Rows n aiiSlot (λ i. coefficientsOf s (particle s i) .aii ∷ []) work
+  pub dii : Rows n diiSlot (λ i. coefficientsOf s (particle s i) .dii) work
+  pub pressure : Rows n (pressureSlot axes) (λ i. pressure ps i ∷ []) work
+  pub mass : Rows n (massSlot axes) (massRow s) work
+  pub volume : Behind n (volumes s) work
+
+-- with the pressures that stand in the rows
+abbrev pub Iterating : Scene → ℕ → List Float → Type 0
+Iterating s n work = IterationReady s (pressuresIn n work) n work
+
+-- ---- dij_pjl: ((-m) × p) / (rho × rho), which no contact changes
+
+-- of row i
+abbrev pub rowQuotient : List Float → ℕ → Float
+rowQuotient work i =
+    let rho = elementAt work (rowAt i) in
+    ⊝ (elementAt work (rowAt i + massSlot axes)) ⊗ elementAt work (rowAt i + pressureSlot axes) ⊘ (rho ⊗ rho)
+
+-- of fluid particle i
+unfoldable pub quotient : Scene → List Float → ℕ → Float
+quotient s ps i =
+    let rho = coefficient (coefficients s) i .density in
+    ⊝ (particleMass (particle s i)) ⊗ pressure ps i ⊘ (rho ⊗ rho)
+
+-- g × the quotient of what the contact names
+abbrev pub withDij : Scene → List Float → Vector → Contact → Vector
+withDij s ps sum c = sum ⊞ c .gradient ⊡ quotient s ps (c .target)
+
+abbrev pub quotientRow : Scene → List Float → ℕ → List Float
+quotientRow s ps i = quotient s ps i ∷ []
+
+-- what dij_pjl finds: room for n rows, and the quotients of the pressures that stand there
+pub record DijReady (s : Scene) (n : ℕ) (work : List Float) : Type 0 where
+  pub room : Room s n work
+  pub quotients : Rows n (quotientSlot axes) (quotientRow s (pressuresIn n work)) work
+
+-- ---- next pressures
+
+-- m_j × (((dij_i - dii_j × p_j) - (dij_j - (g × e) × p_i)) · g), where the contact names row j and has the gradient g
+abbrev pub rowTerm : List Float → ℕ → Owner → Vector → Float
+rowTerm work j owner g =
+    let own = coordinates (owner .dij)
+    ⊟ vectorFrom work (rowAt j + diiSlot) ⊡ elementAt work (rowAt j + pressureSlot axes) in
+    let other = vectorFrom work (rowAt j + dijSlot axes) ⊟ (g ⊡ owner .factor) ⊡ owner .pressure in
+    elementAt work (rowAt j + massSlot axes) ⊗ ((own ⊟ other) · g)
+
+-- what a contact of each kind adds to the pressure sum of its owner, whose fluid has the rest density `density0`
+unfoldable pub termOf : Kind → Scene → List Float → List Vector → Float → Owner → Contact → Float
+termOf Fluid s ps ds density0 owner c =
+    let j = c .target in
+    let own = coordinates (owner .dij) ⊟ coefficient (coefficients s) j .dii ⊡ pressure ps j in
+    let other = dij ds j ⊟ (c .gradient ⊡ owner .factor) ⊡ owner .pressure in
+    fluidMass s c ⊗ ((own ⊟ other) · c .gradient)
+termOf Boundary s ps ds density0 owner c = boundaryMass s density0 c ⊗ (coordinates (owner .dij) · c .gradient)
+
+abbrev pub withTerm : Kind → Scene → List Float → List Vector → Float → Owner → Float → Contact → Float
+withTerm κ s ps ds density0 owner sum c = sum ⊕ termOf κ s ps ds density0 owner c
+
+-- `nextPressure` from what it takes of the particle
+unfoldable pub nextFrom : Float → Float → Float → Float → Float → NextPressure
+nextFrom density0 aii predictedDensity sum p =
+    choose (Ieee.lt aiiLimit (magnitude aii))
+    (clamped density0 aii sum (relaxed p aii (density0 ⊖ predictedDensity) sum)) noPressure
+
+-- the code's next pressure is this one
+pub record NextIs (r : Next) (k : NextPressure) : Type 0 where
+  pub pressure : r .pressure ≡ k .pressure
+  pub term : r .term ≡ k .term
+
+-- ---- p / (rho × rho) of row i, which the velocity changes take
+
+abbrev pub rowShare : List Float → ℕ → Float
+rowShare work i =
+    let rho = elementAt work (rowAt i) in
+    elementAt work (rowAt i + pressureSlot axes) ⊘ (rho ⊗ rho)

@@ -1,0 +1,4 @@
+pub mod Particles
+pub mod RowReads
+pub mod FirstZero
+pub mod Volumes

@@ -1,0 +1,69 @@
+-- A fluid particle through the index of an accepted scene: what the rules say of it follows from the doubles read in
+-- its record, from the clock and from gravity. By what an accepted scene gives. Assumes nothing.
+use Prim.Native.Nat.{ℕ, _+_, _<_}
+use mathlib.Core.Path.{_≡_, refl, ap, _∙_}
+use mathlib.Core.List.{List}
+use native.Mathlib.Omega.{arith}
+use lib.Ieee.{Float}
+use Rattle.iisph_rules.specs.Coefficients.{clockOf, dt, zeroVector, particleMass, velocityChange, advectedVelocity}
+use Rattle.math.specs.Real.{_⊗_, half}
+use Rattle.math.specs.Vector.{Vector, origin, _⊞_, _⊡_}
+use Rattle.scene_check.specs.Accepted.{FluidParticleOk}
+use Rattle.scene_format.specs.Bytes.{doubleAt, vectorAt}
+use Rattle.scene_format.specs.Format.{axes, density0Offset, velocityOffset, accelerationOffset, volumeOffset}
+use Rattle.scene_format.specs.Format.{warmPressureOffset}
+use Rattle.scene_format.specs.Format.{Location}
+use Rattle.scene_format.specs.Scene.{Scene, particle}
+use Rattle.scene_format.specs.SceneOf.{headerOf, fluidParticleAt, sceneOf}
+use Rattle.scene_index.proofs.ContactLists.{indexedLocation, particle-here}
+use Rattle.timestep_manager.specs.Clock.{advanced}
+use Rattle.timestep_manager.specs.declared.Clock.{Clock}
+use Rattle.iisph_rows.specs.Passes.{PassOver, firstPressure}
+
+-- ---- the clock and the number of axes
+
+clock-dt : (s : Scene) → clockOf s .dt ≡ dt s
+unfolding clockOf advanced
+clock-dt s = refl
+
+pub dt-is : (s : Scene) {clock : Clock} → clock ≡ clockOf s → clock .dt ≡ dt s
+dt-is s e = ap (λ (c : Clock). c .dt) e ∙ clock-dt s
+
+pub zero-is : (b : List ℕ) → origin axes ≡ zeroVector (sceneOf b)
+unfolding sceneOf headerOf
+zero-is b = refl
+
+-- ---- the particle's record, where the index says
+
+pub over-here : {b index : List ℕ} {n : ℕ} → PassOver b index n → (i : ℕ) → i < n
+    → FluidParticleOk b (indexedLocation index i) i
+over-here pass i h = particle-here (pass .indexed) i (omega (arith, pass .size))
+
+-- ---- the rules' values from the doubles of a record
+
+module _ {b : List ℕ} {p : Location} {i : ℕ} (h : FluidParticleOk b p i) where
+  pub mass-made : {x y : Float} → x ≡ doubleAt b (p .at + volumeOffset axes) → y ≡ doubleAt b (p .head + density0Offset)
+      → x ⊗ y ≡ particleMass (particle (sceneOf b) i)
+  unfolding particleMass fluidParticleAt
+  mass-made e q = rw (h .particle, e, q)
+
+  pub pressure-made : {x : Float} → x ≡ doubleAt b (p .at + warmPressureOffset axes)
+      → x ⊗ half ≡ firstPressure (sceneOf b) i
+  unfolding fluidParticleAt
+  pressure-made e = rw (h .particle, e)
+
+  pub change-made : {a g zero : Vector} {t : Float} → a ≡ vectorAt axes b (p .at + accelerationOffset axes)
+      → g ≡ sceneOf b .header .gravity → t ≡ dt (sceneOf b) → zero ≡ origin axes
+      → zero ⊞ (a ⊞ g) ⊡ t ≡ velocityChange (sceneOf b) (particle (sceneOf b) i)
+  unfolding velocityChange fluidParticleAt
+  change-made e₁ e₂ e₃ e₄ = rw (h .particle, e₁, e₂, e₃, e₄ ∙ zero-is b)
+
+  velocity-at : vectorAt axes b (p .at + velocityOffset axes) ≡ particle (sceneOf b) i .velocity
+  unfolding fluidParticleAt
+  velocity-at = rw (h .particle)
+
+  pub advected-made : {v x : Vector} → v ≡ vectorAt axes b (p .at + velocityOffset axes)
+      → x ≡ velocityChange (sceneOf b) (particle (sceneOf b) i)
+      → v ⊞ x ≡ advectedVelocity (sceneOf b) (particle (sceneOf b) i)
+  unfolding advectedVelocity
+  advected-made e q = rw (e, q, velocity-at)

@@ -1,0 +1,124 @@
+-- Boundary volumes as the code finds them: a sum of weights taken one by one, the volume of one record, and one
+-- boundary's run of volumes behind those done. By what the scene says of a record. Assumes nothing.
+use Prim.Native.Nat.{ℕ, suc, _+_, _<_, _≤_}
+use mathlib.Core.Path.{_≡_, refl, sym, ap, _∙_}
+use mathlib.Core.Bool.{Bool, true, false, cond}
+use mathlib.Core.List.{List, _++_}
+use native.Mathlib.Nat.{add-zero, le-antisymm}
+use native.Mathlib.Numerals.{add-one}
+use native.Mathlib.Omega.{arith}
+use lib.Ieee.{Float}
+use lib.ListN.{length, getD}
+use lib.Seq.{sets, length-sets}
+use Rattle.iisph_rules.specs.Coefficients.{volumeFrom, boundaryVolume}
+use Rattle.lists.specs.Lists.{table}
+use Rattle.lists.proofs.Fills.{sets-append}
+use Rattle.lists.proofs.Lists.{fold-table, length-table, table-add}
+use Rattle.math.specs.Real.{_⊕_, _⊘_, +0, one, isZero, total}
+use Rattle.scene_check.specs.Check.{Passed}
+use Rattle.scene_check.proofs.Records.{boundary-particle-ok}
+use Rattle.scene_format.specs.Format.{axes, modelNumber, boundaryRecordWidth, boundaryContactCount, countsOf}
+use Rattle.scene_format.specs.Format.{locationOf}
+use Rattle.scene_format.specs.Scene.{Scene, boundarySize, boundary}
+use Rattle.scene_format.specs.SceneOf.{boundaryWeights, boundaryParticleAt, sceneOf}
+use Rattle.scene_format.specs.declared.Kind.the-variants.{Boundary}
+use Rattle.scene_index.specs.Index.{recordsAt, Indexed}
+use Rattle.scene_index.specs.Runs.{BoundaryRun}
+use Rattle.scene_index.proofs.Runs.{before, none-before, all-before, start-before, count-next}
+use Rattle.scene_index.proofs.Targets.{boundary-record-at}
+use Rattle.scene_layout.specs.Layout.{layoutModels}
+use Rattle.scene_layout.specs.declared.Models.{Models}
+use Rattle.scene_walk.specs.Accepted.{BoundaryRecordOk}
+use Rattle.iisph_rows.specs.Passes.{volumes, volumeAt}
+
+-- ---- one record
+
+-- one weight more
+pub sum-next : (w : ℕ → Float) (j : ℕ) {sum x : Float} → sum ≡ total +0 (table j w) → x ≡ w j
+    → sum ⊕ x ≡ total +0 (table (j + 1) w)
+sum-next w j e q = rw (e, q, add-one j) (sym (fold-table _⊕_ +0 j w))
+
+pub sum-all : (w : ℕ → Float) {n j : ℕ} {sum : Float} → sum ≡ total +0 (table j w) → j ≤ n → n ≤ j
+    → sum ≡ total +0 (table n w)
+sum-all w e h l = e ∙ ap (λ (i : ℕ). total +0 (table i w)) (le-antisymm h l)
+
+-- 1 / the sum, or 0
+module _ (b : List ℕ) (k at : ℕ) {n : ℕ} {sum : Float} (contacts : n ≡ boundaryContactCount b k at)
+    (e : sum ≡ total +0 (boundaryWeights b n (at + boundaryRecordWidth axes k))) where
+  volume-is : cond (isZero sum) +0 (one ⊘ sum) ≡ volumeAt b k at
+  unfolding volumeAt volumeFrom
+  volume-is = rw (e, contacts)
+
+  pub volume-zero : true ≡ isZero sum → +0 ≡ volumeAt b k at
+  volume-zero z = ap (λ (t : Bool). cond t +0 (one ⊘ sum)) z ∙ volume-is
+
+  pub volume-inverse : false ≡ isZero sum → one ⊘ sum ≡ volumeAt b k at
+  volume-inverse z = ap (λ (t : Bool). cond t +0 (one ⊘ sum)) z ∙ volume-is
+
+-- ---- one boundary
+
+module _ {b index : List ℕ} (ix : Indexed b index) {first count keeps : ℕ} (run : BoundaryRun b first count keeps)
+    (p : ℕ) (h : p < count) where
+  record-here : getD index (recordsAt Boundary + (first + p)) 0 ≡ locationOf Boundary b (first + p) .at
+  record-here = boundary-record-at ix (first + p) (omega (arith, run .within))
+
+  pub record-ok : BoundaryRecordOk b keeps (getD index (recordsAt Boundary + (first + p)) 0)
+  record-ok =
+      rw (record-here, ← run .same p h)
+      (boundary-particle-ok b (ix .accepted) (first + p) (omega (arith, run .within)) .own)
+
+  pub volume-here : volumeAt b keeps (getD index (recordsAt Boundary + (first + p)) 0)
+      ≡ boundaryVolume (boundary (sceneOf b) (first + p))
+  unfolding volumeAt boundaryVolume boundaryParticleAt
+  volume-here =
+      rw (
+        record-here,
+        ← run .same p h,
+        boundary-particle-ok b (ix .accepted) (first + p)
+            (omega (arith, run .within)) .boundary,
+      )
+
+-- ---- boundary after boundary
+
+abbrev volumesFrom : Scene → ℕ → ℕ → List Float
+volumesFrom s first count = table count (λ p. boundaryVolume (boundary s (first + p)))
+
+-- of the boundaries the first w are stored in l, from element k on; this gave x
+pub record Stored (b : List ℕ) (l : List Float) (k w : ℕ) (x : List Float) : Type 0 where
+  pub within : w ≤ modelNumber Boundary b
+  pub long : length x ≡ length l
+  pub stored : x ≡ sets l k (table (before (countsOf Boundary b) w) (λ j. boundaryVolume (boundary (sceneOf b) j)))
+
+module _ (b : List ℕ) (l : List Float) (k : ℕ) where
+  pub none-stored : Stored b l k 0 l
+  unfolding table
+  none-stored = record { within = omega arith; long = refl; stored = rw (none-before b) }
+
+  module _ {w : ℕ} {x : List Float} (here : Stored b l k w x) where
+    pub one-more-stored : w < modelNumber Boundary b → {models : Models} → models ≡ layoutModels Boundary b
+        → {first : ℕ} {y : List Float}
+        → first ≡ getD (models .starts) w 0
+        → y ≡ sets x (k + first) (volumesFrom (sceneOf b) first (getD (models .counts) w 0))
+        → Stored b l k (w + 1) y
+    one-more-stored h {models} is {first} {y} fe ye =
+        let done = before (countsOf Boundary b) w in
+        let count = getD (models .counts) w 0 in
+        let f : ℕ → Float = λ j. boundaryVolume (boundary (sceneOf b) j) in
+        let start : first ≡ done = fe ∙ start-before b is w h in
+        let more : before (countsOf Boundary b) (suc w) ≡ done + count = count-next b is w h in
+        record {
+          within = omega arith;
+          long = ap length ye ∙ length-sets x (k + first) (volumesFrom (sceneOf b) first count) ∙ here .long;
+          stored =
+              ye
+              ∙ rw (start, here .stored, add-one w, more, table-add done count f)
+              (sym
+              (sets-append (table done f) (table count (λ p. f (done + p))) l k
+              ∙ ap (λ (j : ℕ). sets (sets l k (table done f)) (k + j) (table count (λ p. f (done + p))))
+              (length-table done f)));
+        }
+
+    pub all-stored : modelNumber Boundary b ≤ w → x ≡ sets l k (volumes (sceneOf b))
+    all-stored h =
+        let e = le-antisymm (here .within) h in
+        rw (← all-before b, ← e) (here .stored)

@@ -1,0 +1,89 @@
+-- `iisph_rows::boundary_volumes::put_volumes` meets its contract: particle by particle. Assumes nothing.
+use Prim.Native.Nat.{_+_, _-_}
+use mathlib.Core.Path.{refl, _∙_}
+use native.Mathlib.Omega.{arith}
+use borrow.Author.Needs.{needs}
+use Rattle.iisph_rules.specs.Coefficients.{boundaryVolume}
+use Rattle.lists.proofs.Fills.{Filling, none-stored, one-more-stored, all-stored}
+use Rattle.scene_format.specs.Scene.{boundary}
+use Rattle.scene_format.specs.SceneOf.{sceneOf}
+use Rattle.iisph_rows.proofs.Volumes.{record-ok, volume-here}
+use Rattle.iisph_rows.proofs.boundary_volumes.put_volumes.Statement.{statement}
+use Rattle.iisph_rows.proofs.boundary_volumes.put_volumes.Tie as tie
+
+abbrev Inv-loop : tie.InvT-loop
+Inv-loop scene index first count keeps k work₀ p₀ work p =
+    Filling work₀ k (λ q. boundaryVolume (boundary (sceneOf scene) (first + q))) count p work
+
+abbrev μ-loop : tie.MeasureT-loop
+μ-loop scene index first count keeps k work₀ p₀ work p = count - p
+
+loop-holds : tie.Need-loop-holds Inv-loop μ-loop
+loop-holds c = none-stored _ _ _ _
+
+add-at : tie.Need-add-at Inv-loop μ-loop
+add-at c = search needs
+
+add-at-2 : tie.Need-add-at-2 Inv-loop μ-loop
+add-at-2 c = search needs
+
+mul-at : tie.Need-mul-at Inv-loop μ-loop
+mul-at c = search needs
+
+shared-slice-read-at : tie.Need-shared-slice-read-at Inv-loop μ-loop
+shared-slice-read-at c = search needs
+
+volume-requires : tie.Need-volume-requires Inv-loop μ-loop
+volume-requires c κs =
+    let i = c .before in
+    let p = i .before .before .before .before .before .pre in
+    (p .1 .0 .bit, record-ok (p .0) (p .1 .0) _ (i .loop-test .taken))
+
+add-work : tie.Need-add-work Inv-loop μ-loop
+add-work c = search needs
+
+mul-work : tie.Need-mul-work Inv-loop μ-loop
+mul-work c = search needs
+
+slice-write-work : tie.Need-slice-write-work Inv-loop μ-loop
+slice-write-work c = search needs
+
+add-p : tie.Need-add-p Inv-loop μ-loop
+add-p c = search needs
+
+loop-less : tie.Need-loop-less Inv-loop μ-loop
+loop-less c = search needs
+
+loop-again : tie.Need-loop-again Inv-loop μ-loop
+loop-again c =
+    let i = c .before .before in
+    let p = i .before .before .before .before .before .pre in
+    one-more-stored _ _ _ _ (i .before .loop .inv) (i .loop-test .taken)
+    (c .volume .ensures ∙ volume-here (p .0) (p .1 .0) _ (i .loop-test .taken))
+
+same-length : tie.Need-same-length Inv-loop μ-loop
+same-length c = search needs
+
+returns : tie.Need-returns Inv-loop μ-loop
+returns c = all-stored _ _ _ _ (c .before .loop .inv) (c .loop-test .left) refl
+
+pub put-volumes-spec : {M : Type 1} → statement M
+put-volumes-spec =
+    tie.close
+    (tie.spec
+    Inv-loop
+    μ-loop
+    loop-holds
+    add-at
+    add-at-2
+    mul-at
+    shared-slice-read-at
+    volume-requires
+    add-work
+    mul-work
+    slice-write-work
+    add-p
+    loop-less
+    loop-again
+    same-length
+    returns)

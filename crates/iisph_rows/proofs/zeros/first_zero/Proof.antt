@@ -1,0 +1,82 @@
+-- `iisph_rows::zeros::first_zero` meets its contract. The loop's invariant: no row before i has a zero in the slot.
+-- Assumes nothing.
+use Prim.Native.Nat.{_+_, _*_, _≤_, _-_}
+use mathlib.Core.Path.{sym, _∙_}
+use native.Mathlib.Nat.{not-suc-le-zero}
+use native.Mathlib.Omega.{arith}
+use borrow.Author.Count.{below-more}
+use denote.Ref.{now}
+use lib.Ieee.{nan}
+use lib.ListN.{getD}
+use Rattle.iisph_rows.proofs.FirstZero.{NoZero, found-at, found-none}
+use borrow.Author.Needs.{needs}
+use Rattle.iisph_rows.proofs.zeros.first_zero.Statement.{statement}
+use Rattle.iisph_rows.proofs.zeros.first_zero.Tie as tie
+
+abbrev Inv-loop : tie.InvT-loop
+Inv-loop work n slot i₀ i = (i ≤ n) × NoZero (λ j. getD work (14 * j + slot) nan) i
+
+abbrev μ-loop : tie.MeasureT-loop
+μ-loop work n slot i₀ i = n - i
+
+loop-holds : tie.Need-loop-holds Inv-loop μ-loop
+loop-holds c = (omega arith, λ j h. absurd (not-suc-le-zero h))
+
+mul-is-zero : tie.Need-mul-is-zero Inv-loop μ-loop
+mul-is-zero c = search needs
+
+add-is-zero : tie.Need-add-is-zero Inv-loop μ-loop
+add-is-zero c = search needs
+
+mul-is-zero-2 : tie.Need-mul-is-zero-2 Inv-loop μ-loop
+mul-is-zero-2 c = search needs
+
+shared-slice-read-is-zero : tie.Need-shared-slice-read-is-zero Inv-loop μ-loop
+shared-slice-read-is-zero c = search needs
+
+is-zero-requires : tie.Need-is-zero-requires Inv-loop μ-loop
+is-zero-requires c κs = search needs
+
+returns : tie.Need-returns Inv-loop μ-loop
+returns c =
+    let l = c .before .before .before .before in
+    let a = l .before .before .args in
+    found-at (a .n) (λ j. getD (now (a .work)) (14 * j + a .slot) nan) (l .loop .i)
+    (c .before .before .before .loop-test .taken) (l .loop .inv .1)
+    (sym (c .before .is-zero .ensures) ∙ c .if1 .taken)
+
+add-i : tie.Need-add-i Inv-loop μ-loop
+add-i c = search needs
+
+loop-less : tie.Need-loop-less Inv-loop μ-loop
+loop-less c = search needs
+
+loop-again : tie.Need-loop-again Inv-loop μ-loop
+loop-again c =
+    let l = c .before .before .before .before in
+    (omega arith, below-more _ _ (l .loop .inv .1) (sym (c .before .is-zero .ensures) ∙ c .if1 .left))
+
+returns-2 : tie.Need-returns-2 Inv-loop μ-loop
+returns-2 c =
+    let l = c .before .loop in
+    let a = c .before .before .before .args in
+    found-none (a .n) (λ j. getD (now (a .work)) (14 * j + a .slot) nan)
+    (λ j h. l .inv .1 j (omega (arith, c .loop-test .left)))
+
+pub first-zero-spec : {M : Type 1} → statement M
+first-zero-spec =
+    tie.close
+    (tie.spec
+    Inv-loop
+    μ-loop
+    loop-holds
+    mul-is-zero
+    add-is-zero
+    mul-is-zero-2
+    shared-slice-read-is-zero
+    is-zero-requires
+    returns
+    add-i
+    loop-less
+    loop-again
+    returns-2)

@@ -1,0 +1,74 @@
+-- What a pass may rely on and what the first passes store in the rows, by the rules. Scaffolding: no promise rests on
+-- it. Definitions only.
+use Prim.Native.Nat.{ℕ, _+_, _≤_}
+use mathlib.Core.Path.{_≡_}
+use mathlib.Core.List.{List, [], _∷_}
+use lib.Dec.{ltb}
+use lib.Ieee.{Float}
+use lib.ListN.{length}
+use Rattle.iisph_rules.specs.Coefficients.{clockOf, volumeFrom, boundaryVolume, particleMass, advectedVelocity}
+use Rattle.lists.specs.Lists.{choose, table}
+use Rattle.math.specs.Real.{_⊗_, half}
+use Rattle.math.specs.Vector.{coordinates}
+use Rattle.math.specs.declared.Vec3.{Vec3}
+use Rattle.scene_format.specs.Format.{axes, boundaryRecordWidth, boundaryContactCount}
+use Rattle.scene_format.specs.Scene.{Scene, fluidSize, boundarySize, particle, boundary}
+use Rattle.scene_format.specs.SceneOf.{boundaryWeights, sceneOf}
+use Rattle.scene_index.specs.Index.{Indexed}
+use Rattle.timestep_manager.specs.declared.Clock.{Clock}
+use Rattle.iisph_rows.specs.Rows.{rowAt, dijSlot, massSlot, Rows, Behind}
+use Rattle.iisph_rows.specs.declared.zeros.Found.{Found}
+use Rattle.iisph_rows.specs.declared.zeros.Found.the-variants.{At, Nothing}
+
+-- ---- what a pass may rely on
+
+-- an accepted packed scene b with its index, and the number n of its fluid particles
+pub record PassOver (b index : List ℕ) (n : ℕ) : Type 0 where
+  pub indexed : Indexed b index
+  pub size : n ≡ fluidSize (sceneOf b)
+
+-- and the clock that the step has advanced
+pub record TimedPass (b index : List ℕ) (n : ℕ) (clock : Clock) : Type 0 where
+  pub over : PassOver b index n
+  pub clockIs : clock ≡ clockOf (sceneOf b)
+
+-- and gravity
+pub record DrivenPass (b index : List ℕ) (n : ℕ) (clock : Clock) (gravity : Vec3) : Type 0 where
+  pub timed : TimedPass b index n clock
+  pub gravityIs : coordinates gravity ≡ sceneOf b .header .gravity
+
+-- room for n rows and the volumes
+abbrev pub Room : Scene → ℕ → List Float → Type 0
+Room s n work = rowAt n + boundarySize s ≤ length work
+
+-- ---- what is stored of a particle
+
+abbrev pub massRow : Scene → ℕ → List Float
+massRow s i = particleMass (particle s i) ∷ []
+
+abbrev pub advectedRow : Scene → ℕ → List Float
+advectedRow s i = advectedVelocity s (particle s i)
+
+-- the pressure before the iterations
+abbrev pub firstPressure : Scene → ℕ → Float
+firstPressure s i = particle s i .warmPressure ⊗ half
+
+abbrev pub volumes : Scene → List Float
+volumes s = table (boundarySize s) (λ j. boundaryVolume (boundary s j))
+
+-- the volume of a boundary particle whose record is at an offset; k is 1 where forces are kept
+unfoldable pub volumeAt : List ℕ → ℕ → ℕ → Float
+volumeAt b k at = volumeFrom (boundaryWeights b (boundaryContactCount b k at) (at + boundaryRecordWidth axes k))
+
+-- ---- what the coefficients find: masses, advected velocities and volumes
+
+pub record CoefficientsReady (s : Scene) (n : ℕ) (work : List Float) : Type 0 where
+  pub room : Room s n work
+  pub mass : Rows n (massSlot axes) (massRow s) work
+  pub advected : Rows n (dijSlot axes) (advectedRow s) work
+  pub volume : Behind n (volumes s) work
+
+-- ---- a number below n, or none
+
+unfoldable pub foundBelow : ℕ → ℕ → Found
+foundBelow n i = choose (ltb i n) (At i) Nothing

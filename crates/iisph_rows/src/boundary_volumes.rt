@@ -1,0 +1,114 @@
+// The volumes of the boundary particles (the Rust's `compute_boundary_volumes`), stored behind the rows of the work
+// list.
+use crate::rows::ROW;
+use math::is_zero;
+use scene_format::format::BOUNDARY_CONTACT_WIDTH;
+use scene_format::format::CONTACT_WEIGHT;
+use scene_format::format::VECTOR_WIDTH;
+use scene_format::read::byte;
+use scene_format::read::double;
+use scene_index::index::BOUNDARY_RECORDS;
+use scene_layout::Layout;
+ghost use mathlib.Core.Path.{_≡_};
+ghost use Prim.Native.Nat.{ℕ, _+_, _*_, _≤_, _<_};
+ghost use lib.ListN.{length};
+ghost use lib.Seq.{sets};
+ghost use Rattle.iisph_rules.specs.Coefficients.{boundaryVolume};
+ghost use Rattle.lists.specs.Lists.{table};
+ghost use Rattle.math.specs.Real.{+0, total};
+ghost use Rattle.scene_check.specs.Check.{Passed};
+ghost use Rattle.scene_format.specs.Bytes.{FiniteAt};
+ghost use Rattle.scene_format.specs.Format.{boundaryContactWidth, weightOffset};
+ghost use Rattle.scene_format.specs.Scene.{fluidSize, boundarySize, boundary};
+ghost use Rattle.scene_format.specs.SceneOf.{boundaryWeights, sceneOf};
+ghost use Rattle.scene_index.specs.Index.{Indexed};
+ghost use Rattle.scene_index.specs.Runs.{BoundaryRun};
+ghost use Rattle.scene_walk.specs.Accepted.{BoundaryRecordOk};
+ghost use Rattle.iisph_rows.specs.Passes.{volumes, volumeAt, Room};
+ghost use Rattle.iisph_rows.specs.Rows.{rowAt};
+
+// The sum of the weights of n contacts, in their order.
+fn weight_sum(scene: &[u8], n: usize, at: usize) -> f64
+    requires { ⌜ ((j : ℕ) → j < n → FiniteAt (now scene) (at + boundaryContactWidth * j + weightOffset)) ⌝ }
+    ensures { λ r. ⌜ r ≡ total +0 (boundaryWeights (now (scene .entry)) n at) ⌝ }
+{
+    let mut sum = 0.0;
+    let mut j = 0;
+    while j < n {
+        sum = sum + double(scene, at + BOUNDARY_CONTACT_WIDTH * j + CONTACT_WEIGHT);
+        j += 1;
+    }
+    sum
+}
+
+// The volume of the particle whose record is at an offset, of a boundary that keeps forces if `keeps` is 1.
+fn volume(scene: &[u8], keeps: usize, at: usize) -> f64
+    requires { ⌜ (keeps < 2) × BoundaryRecordOk (now scene) keeps at ⌝ }
+    ensures { λ r. ⌜ r ≡ volumeAt (now (scene .entry)) keeps at ⌝ }
+{
+    let n = byte(scene, at + (VECTOR_WIDTH + VECTOR_WIDTH * keeps));
+    let denominator = weight_sum(scene, n, at + (VECTOR_WIDTH + VECTOR_WIDTH * keeps + 1));
+    if is_zero(denominator) {
+        0.0
+    } else {
+        1.0 / denominator
+    }
+}
+
+// The volumes of one boundary, whose `count` particles have the numbers from `first` on, from element k on.
+fn put_volumes(
+    scene: &[u8],
+    index: &[usize],
+    first: usize,
+    count: usize,
+    keeps: usize,
+    k: usize,
+    work: &mut [f64],
+)
+    requires { ⌜ Indexed (now scene) (now index) ⌝ }
+    requires { ⌜ BoundaryRun (now scene) first count keeps × (k + count ≤ length (now work)) ⌝ }
+    ensures { λ _. ⌜
+        (let s = sceneOf (now (scene .entry)) in
+        now (work .exit) ≡ sets (now (work .entry)) k (table count (λ p. boundaryVolume (boundary s (first + p)))))
+        ⌝ }
+{
+    let mut p = 0;
+    while p < count {
+        let at = index[BOUNDARY_RECORDS + (first + p)];
+        work[k + p] = volume(scene, keeps, at);
+        p += 1;
+    }
+}
+
+// The pass: the volumes of all boundary particles, boundary by boundary, behind n rows.
+pub fn compute_boundary_volumes(
+    scene: &[u8],
+    layout: Layout,
+    index: &[usize],
+    n: usize,
+    work: &mut [f64],
+)
+    requires { ⌜ Indexed (now scene) (now index) × Passed (now scene) layout ⌝ }
+    requires { ⌜ (n ≡ fluidSize (sceneOf (now scene))) × Room (sceneOf (now scene)) n (now work) ⌝ }
+    ensures { λ _. ⌜ now (work .exit) ≡ sets (now (work .entry)) (rowAt n) (volumes (sceneOf (now (scene .entry)))) ⌝ }
+{
+    let boundaries = layout.boundaries;
+    let starts = boundaries.starts;
+    let counts = boundaries.counts;
+    let keeps = boundaries.keeps;
+    let number = boundaries.number;
+    let mut m = 0;
+    while m < number {
+        let first = starts[m];
+        put_volumes(
+            scene,
+            index,
+            first,
+            counts[m],
+            keeps[m],
+            ROW * n + first,
+            work,
+        );
+        m += 1;
+    }
+}

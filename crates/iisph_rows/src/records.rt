@@ -1,0 +1,79 @@
+// What a pass takes of a fluid particle's own record: mass, velocity with its change before the pressures, and first
+// pressure.
+use math::Vec3;
+use scene_format::format::ACCELERATION;
+use scene_format::format::DENSITY0;
+use scene_format::format::VELOCITY;
+use scene_format::format::VOLUME;
+use scene_format::format::WARM_PRESSURE;
+use scene_format::read;
+use scene_index::index::HEADS;
+use scene_index::index::RECORDS;
+use timestep_manager::Clock;
+ghost use mathlib.Core.Path.{_≡_};
+ghost use Prim.Native.Nat.{_<_};
+ghost use Rattle.iisph_rules.specs.Coefficients.{particleMass, velocityChange, advectedVelocity};
+ghost use Rattle.math.specs.Vector.{coordinates};
+ghost use Rattle.scene_format.specs.Scene.{particle};
+ghost use Rattle.scene_format.specs.SceneOf.{sceneOf};
+ghost use Rattle.iisph_rows.specs.Passes.{PassOver, DrivenPass, firstPressure};
+
+// Volume × rest density (the Rust's `Fluid::particle_mass`).
+pub fn mass_of(scene: &[u8], index: &[usize], n: usize, i: usize) -> f64
+    requires { ⌜ PassOver (now scene) (now index) n × (i < n) ⌝ }
+    ensures { λ r. ⌜ r ≡ particleMass (particle (sceneOf (now (scene .entry))) i) ⌝ }
+{
+    let at = index[RECORDS + i];
+    let head = index[HEADS + i];
+    read::double(scene, at + VOLUME) * read::double(scene, head + DENSITY0)
+}
+
+// 0 + (acceleration + gravity) × dt (the Rust's `predict_advection` and `integrate_and_clear_accelerations`).
+pub fn velocity_change_of(
+    scene: &[u8],
+    index: &[usize],
+    n: usize,
+    clock: Clock,
+    gravity: Vec3,
+    i: usize,
+) -> Vec3
+    requires { ⌜ DrivenPass (now scene) (now index) n clock gravity × (i < n) ⌝ }
+    ensures { λ r. ⌜
+        (let s = sceneOf (now (scene .entry)) in
+        coordinates r ≡ velocityChange s (particle s i))
+        ⌝ }
+{
+    let at = index[RECORDS + i];
+    let acceleration = read::vector(scene, at + ACCELERATION).add(gravity);
+    let none = Vec3::zero();
+    none.add(acceleration.scale(clock.dt))
+}
+
+// Velocity plus its change before the pressures.
+pub fn advected_of(
+    scene: &[u8],
+    index: &[usize],
+    n: usize,
+    clock: Clock,
+    gravity: Vec3,
+    i: usize,
+) -> Vec3
+    requires { ⌜ DrivenPass (now scene) (now index) n clock gravity × (i < n) ⌝ }
+    ensures { λ r. ⌜
+        (let s = sceneOf (now (scene .entry)) in
+        coordinates r ≡ advectedVelocity s (particle s i))
+        ⌝ }
+{
+    let at = index[RECORDS + i];
+    let change = velocity_change_of(scene, index, n, clock, gravity, i);
+    read::vector(scene, at + VELOCITY).add(change)
+}
+
+// Half the warm pressure, from which the Rust's `step` begins.
+pub fn first_pressure(scene: &[u8], index: &[usize], n: usize, i: usize) -> f64
+    requires { ⌜ PassOver (now scene) (now index) n × (i < n) ⌝ }
+    ensures { λ r. ⌜ r ≡ firstPressure (sceneOf (now (scene .entry))) i ⌝ }
+{
+    let at = index[RECORDS + i];
+    read::double(scene, at + WARM_PRESSURE) * 0.5
+}

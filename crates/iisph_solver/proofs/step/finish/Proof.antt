@@ -1,0 +1,130 @@
+-- `iisph_solver::step::finish` meets its contract: each call finds what it needs in the rows, and what they leave
+-- together is the rules'. Assumes nothing.
+use Prim.Native.Nat.{_≤_}
+use native.Mathlib.Omega.{arith}
+use denote.Ref.{now}
+use lib.Ieee.{nan}
+use borrow.Author.Needs.{needs}
+use Rattle.iisph_passes.specs.Traverse.{Ready}
+use Rattle.lists.proofs.Stores.{length-stored}
+use Rattle.scene_format.specs.Format.{mostOfAKind}
+use Rattle.scene_lengths.proofs.Needed.{boundaries-total}
+use Rattle.iisph_solver.proofs.Finished.{first-pressures, first-ready, solved-ready, shared, finished}
+use Rattle.iisph_solver.proofs.Finished.{answers-room, report-made}
+use Rattle.iisph_solver.proofs.StepHeaders.{driven}
+use Rattle.iisph_solver.proofs.step.finish.Statement.{statement}
+use Rattle.iisph_solver.proofs.step.finish.Tie as tie
+
+-- the calls, from the last back to the start
+abbrev Bound : tie.After-clear → tie.After-boundary-answers
+Bound c = c .before .before .before .before
+
+abbrev Moved : tie.After-boundary-answers → tie.After-update-velocities-and-positions
+Moved c = c .before .before .before .before .before
+
+abbrev Shared : tie.After-update-velocities-and-positions → tie.After-traverse
+Shared c = c .before .before .before .before .before
+
+abbrev Solved : tie.After-traverse → tie.After-pressure-solve
+Solved c = c .before .before .before .before
+
+abbrev Begin : tie.After-pressure-solve → tie.Start
+Begin c = c .before .before .before .before .before .before .before .before .before
+
+pressure-solve-requires : tie.Need-pressure-solve-requires
+pressure-solve-requires c κs =
+    let p = c .before .before .before .before .before .before .before .before .pre in
+    let size = p .0 .0 .size in (
+      (driven (p .0 .0) (p .0 .1), p .0 .1 .stoppingIs),
+      ((p .1 .0 .0, first-ready (p .1 .0 .0) size _ (p .1 .1)), first-pressures (p .1 .0 .0) size _ (p .1 .1)),
+    )
+
+traverse-requires : tie.Need-traverse-requires
+unfolding Ready
+traverse-requires c κs =
+    let k = c .before .before .before in
+    let p = Begin k .pre in (
+      driven (p .0 .0) (p .0 .1),
+      (solved-ready (p .1 .0 .0) (p .0 .0 .size) _ (p .1 .1) (k .pressure-solve .ensures) .room, tt),
+    )
+
+update-velocities-and-positions-requires : tie.Need-update-velocities-and-positions-requires
+update-velocities-and-positions-requires c κs =
+    let t = c .before .before .before .before in
+    let k = Solved t in
+    let p = Begin k .pre in (
+      (
+        driven (p .0 .0) (p .0 .1),
+        shared (p .1 .0 .0) (p .0 .0 .size) _ (p .1 .1) (k .pressure-solve .ensures)
+            (t .traverse .ensures),
+      ),
+      answers-room _ (p .0 .0 .indexed .bytes) (p .0 .0 .size) (p .1 .0 .1),
+    )
+
+boundary-answers-requires : tie.Need-boundary-answers-requires
+boundary-answers-requires c κs =
+    let m = c .before .before .before .before in
+    let t = Shared m in
+    let k = Solved t in
+    let p = Begin k .pre in
+    let q = shared (p .1 .0 .0) (p .0 .0 .size) _ (p .1 .1) (k .pressure-solve .ensures) (t .traverse .ensures) in (
+      (p .0 .0, q .iteration),
+      (p .1 .0 .0, rw (m .update-velocities-and-positions .ensures, length-stored nan) (p .1 .0 .1)),
+    )
+
+-- there are few particles
+few : (c : tie.After-pressure-solve)
+    → (Begin c .args .n ≤ mostOfAKind) × (Begin c .args .layout .boundaries .total ≤ mostOfAKind)
+few c =
+    let p = Begin c .pre in
+    let ix = p .0 .0 .indexed in
+    (omega (arith, p .0 .0 .size, ix .fewFluid), omega (arith, boundaries-total (p .1 .0 .0), ix .fewBoundary))
+
+mul-clear : tie.Need-mul-clear
+mul-clear c = omega (arith, few (Solved (Shared (Moved (c .before .before .before)))))
+
+add-clear : tie.Need-add-clear
+add-clear c = omega (arith, few (Solved (Shared (Moved (c .before .before .before)))))
+
+clear-requires : tie.Need-clear-requires
+clear-requires c κs =
+    let t = Shared (Moved (c .before .before .before)) in
+    let k = Solved t in
+    let p = Begin k .pre in
+    let q = shared (p .1 .0 .0) (p .0 .0 .size) _ (p .1 .1) (k .pressure-solve .ensures) (t .traverse .ensures) in
+    omega (arith, q .iteration .room, boundaries-total (p .1 .0 .0))
+
+same-length : tie.Need-same-length
+same-length c = search needs
+
+same-length-2 : tie.Need-same-length-2
+same-length-2 c = search needs
+
+returns : tie.Need-returns
+returns c =
+    let l = c .before .before in
+    let f = Bound l in
+    let m = Moved f in
+    let t = Shared m in
+    let k = Solved t in
+    let p = Begin k .pre in
+    finished (p .1 .0 .0) (p .0 .0 .size) _ (p .1 .1) (k .pressure-solve .ensures) (t .traverse .ensures) (p .1 .0 .1)
+    (m .update-velocities-and-positions .ensures)
+    (f .boundary-answers .ensures)
+    (l .clear .ensures)
+    (report-made _ (p .0 .1 .clockIs) (k .pressure-solve .ensures .iterations) (k .pressure-solve .ensures .ending))
+
+pub finish-spec : {M : Type 1} → statement M
+finish-spec =
+    tie.close
+    (tie.spec
+    pressure-solve-requires
+    traverse-requires
+    update-velocities-and-positions-requires
+    boundary-answers-requires
+    mul-clear
+    add-clear
+    clear-requires
+    same-length
+    same-length-2
+    returns)

@@ -1,0 +1,182 @@
+-- `iisph_solver::step::step_accepted` meets its contract: lists that are too short are 8; else the index is filled, the
+-- passes prepare the work list and may refuse, and what follows finishes the step. Assumes nothing.
+use Prim.Native.Nat.{ℕ, _≤_}
+use mathlib.Core.Path.{_≡_, sym, ap, _∙_}
+use native.Mathlib.Omega.{arith}
+use denote.Ref.{now}
+use lib.ListN.{length, replicate, length-replicate}
+use borrow.Author.Needs.{needs}
+use Rattle.iisph_passes.specs.Prepare.{workPrepared}
+use Rattle.iisph_passes.specs.declared.prepare.Readiness.{Readiness}
+use Rattle.iisph_rows.specs.Passes.{PassOver}
+use Rattle.scene_format.specs.SceneOf.{sceneOf}
+use Rattle.scene_index.proofs.Indexes.{indexed}
+use Rattle.scene_index.specs.Index.{indexLength}
+use Rattle.scene_lengths.proofs.Needed.{few-in, fluids-total, work-needed}
+use Rattle.scene_lengths.specs.Lengths.{answersNeeded, workNeeded, lengthsNeeded}
+use Rattle.iisph_solver.proofs.StepHeaders.{driven}
+use Rattle.iisph_solver.proofs.Stepped.{short-answers-steps, short-work-steps, zero-steps, done-steps}
+use Rattle.iisph_solver.proofs.Stepped.{prepared-ready}
+use Rattle.iisph_solver.proofs.step.step_accepted.Statement.{statement}
+use Rattle.iisph_solver.proofs.step.step_accepted.Tie as tie
+
+long : (n : ℕ) → n ≤ length (replicate {A = ℕ} n 0)
+long n = omega (arith, length-replicate {A = ℕ} n 0)
+
+abbrev Begin : tie.After-lengths-of → tie.Start
+Begin c = c .before .before .before .before
+
+needed : (c : tie.After-lengths-of) → c .lengths-of .result ≡ lengthsNeeded (sceneOf (now (Begin c .args .scene)))
+needed c = c .lengths-of .ensures _ (Begin c .pre)
+
+lengths-of-requires : tie.Need-lengths-of-requires
+lengths-of-requires c κs = few-in (c .before .before .before .pre)
+
+returns : tie.Need-returns
+returns c =
+    let l = c .before .before in
+    let s = Begin l in
+    short-answers-steps (now (s .args .scene)) (now (s .args .answers)) (now (s .args .work)) (s .pre .walk)
+    (omega (arith, c .if1 .taken, ap (λ n. n .answers) (needed l)))
+
+abbrev Asked : tie.Else1 → tie.After-lengths-of
+Asked c = c .before .before
+
+-- the answer list is long enough
+enough : (c : tie.Else1)
+    → answersNeeded (sceneOf (now (Begin (Asked c) .args .scene))) ≤ length (now (Begin (Asked c) .args .answers))
+enough c = omega (arith, c .if1 .left, ap (λ n. n .answers) (needed (Asked c)))
+
+returns-2 : tie.Need-returns-2
+returns-2 c =
+    let e = c .before .before in
+    let s = Begin (Asked e) in
+    short-work-steps (now (s .args .scene)) (now (s .args .answers)) (now (s .args .work)) (s .pre .walk) (enough e)
+    (omega (arith, c .if2 .taken, ap (λ n. n .work) (needed (Asked e))))
+
+abbrev Long : tie.Else2 → tie.Else1
+Long c = c .before .before
+
+abbrev Start-of : tie.Else2 → tie.Start
+Start-of c = Begin (Asked (Long c))
+
+-- and so is the work list
+room : (c : tie.Else2) → workNeeded (sceneOf (now (Start-of c .args .scene))) ≤ length (now (Start-of c .args .work))
+room c = omega (arith, c .if2 .left, ap (λ n. n .work) (needed (Asked (Long c))))
+
+step-header-requires : tie.Need-step-header-requires
+step-header-requires c κs = Start-of c .pre .walk
+
+slice-aggregate-fill : tie.Need-slice-aggregate-fill
+slice-aggregate-fill c = search needs
+
+fill-requires : tie.Need-fill-requires
+fill-requires c κs = (Start-of (c .before .before) .pre, long indexLength)
+
+slice-aggregate-prepare : tie.Need-slice-aggregate-prepare
+slice-aggregate-prepare c = search needs
+
+-- the index of the scene
+over : (c : tie.After-fill)
+    → let s = Start-of (c .before .before .before) in
+    PassOver (now (s .args .scene)) (c .fill .last .1 .1 .0) (s .args .layout .fluids .total)
+over c =
+    let p = Start-of (c .before .before .before) .pre in
+    record { indexed = rw (c .fill .ensures) (indexed p _ (long indexLength)); size = fluids-total p }
+
+prepare-requires : tie.Need-prepare-requires
+prepare-requires c κs =
+    let f = c .before .before .before in
+    let h = f .before .before in
+    let e = h .before in
+    let s = Start-of e in (
+      driven (over f) (h .step-header .ensures),
+      (s .pre, omega (arith, room e, fluids-total (s .pre), work-needed (now (s .args .scene)))),
+    )
+
+enum-known-readiness : tie.Need-enum-known-readiness
+enum-known-readiness c = search needs
+
+enum-told : tie.Need-enum-told
+enum-told c = search needs
+
+slice-aggregate-finish : tie.Need-slice-aggregate-finish
+slice-aggregate-finish c = search needs
+
+-- from the passes' answer back
+abbrev Filled : tie.After-prepare → tie.After-fill
+Filled c = c .before .before .before .before
+
+finish-requires : tie.Need-finish-requires
+finish-requires c κs =
+    let t = c .before .before .before in
+    let p = t .before .before .before .before in
+    let f = Filled p in
+    let h = f .before .before in
+    let e = h .before in
+    let s = Start-of e in (
+      (over f, h .step-header .ensures),
+      (
+        (s .pre, enough (Long e)),
+        prepared-ready (now (s .args .scene)) (fluids-total (s .pre)) (now (s .args .work)) (room e)
+            (t .enum-told .given .1)
+            (p .prepare .ensures .1),
+      ),
+    )
+
+same-length : tie.Need-same-length
+same-length c = search needs
+
+returns-3 : tie.Need-returns-3
+returns-3 c =
+    let r = c .before in
+    let p = r .before .before .before .before in
+    let e = Filled p .before .before .before in
+    let s = Start-of e in
+    let b = now (s .args .scene) in
+    let w = now (s .args .work) in
+    zero-steps b (now (s .args .answers)) w (s .pre .walk) (enough (Long e)) (room e)
+    (sym (r .readiness .given .1) ∙ p .prepare .ensures .0)
+    (p .prepare .ensures .1 ∙ ap (λ (x : Readiness). workPrepared b x w) (r .readiness .given .1))
+
+same-length-2 : tie.Need-same-length-2
+same-length-2 c = search needs
+
+same-length-3 : tie.Need-same-length-3
+same-length-3 c = search needs
+
+returns-4 : tie.Need-returns-4
+returns-4 c =
+    let f = c .before .before .before .before in
+    let t = f .before .before .before .before in
+    let p = t .before .before .before .before in
+    let e = Filled p .before .before .before in
+    let s = Start-of e in
+    let b = now (s .args .scene) in
+    let w = now (s .args .work) in
+    done-steps b (now (s .args .answers)) w (s .pre .walk) (enough (Long e)) (room e)
+    (sym (t .enum-told .given .1) ∙ p .prepare .ensures .0)
+    (p .prepare .ensures .1 ∙ ap (λ (x : Readiness). workPrepared b x w) (t .enum-told .given .1))
+    (f .finish .ensures)
+
+pub step-accepted-spec : {M : Type 1} → statement M
+step-accepted-spec =
+    tie.close
+    (tie.spec
+    lengths-of-requires
+    returns
+    returns-2
+    step-header-requires
+    slice-aggregate-fill
+    fill-requires
+    slice-aggregate-prepare
+    prepare-requires
+    enum-known-readiness
+    enum-told
+    slice-aggregate-finish
+    finish-requires
+    same-length
+    returns-3
+    same-length-2
+    same-length-3
+    returns-4)

@@ -1,0 +1,7 @@
+pub mod Lists
+pub mod Numbering
+pub mod Stores
+pub mod Fills
+pub mod Rows
+pub mod RowParts
+pub mod Writing

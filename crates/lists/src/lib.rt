@@ -1,0 +1,1 @@
+// No code: what every crate says of lists and may use of them stands in specs/ and proofs/.

@@ -1,0 +1,6 @@
+pub mod Accepted
+pub mod Early
+pub mod Records
+pub mod OwnBytes
+pub mod Named
+pub mod Checks

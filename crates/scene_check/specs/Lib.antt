@@ -1,0 +1,4 @@
+pub mod Walk
+pub mod Check
+pub mod Accepted
+pub mod Same

@@ -1,0 +1,151 @@
+// The walk through the names of contacts, of a scene whose fields are accepted: refusal 7.
+use scene_format::Kind;
+use scene_format::Refusal;
+use scene_format::Walk;
+use scene_format::format::BOUNDARY_CONTACT_WIDTH;
+use scene_format::format::BOUNDARY_CONTACTS;
+use scene_format::format::CONTACT_WIDTH;
+use scene_format::format::FLUID_CONTACTS;
+use scene_format::format::HEADER_WIDTH;
+use scene_format::format::NAMEABLE_MODELS;
+use scene_format::format::RECORD_WIDTH;
+use scene_format::format::VECTOR_WIDTH;
+use scene_format::read::byte;
+use scene_format::read::contact_name;
+use scene_format::read::first_record;
+use scene_format::read::keeps;
+use scene_format::read::particles;
+use scene_layout::Layout;
+ghost use mathlib.Core.Path.{_≡_};
+ghost use Prim.Native.Nat.{_+_, _*_, _≤_};
+ghost use lib.ListN.{length};
+ghost use Rattle.scene_format.specs.Format.{nameWidth, modelNumber, firstHead};
+ghost use Rattle.scene_format.specs.Within.{RecordWithin, ModelWithin, ModelsWithin};
+ghost use Rattle.scene_layout.specs.Layout.{layoutOf};
+ghost use Rattle.scene_check.specs.Check.{CountsAre};
+ghost use Rattle.scene_check.specs.Walk as walk;
+ghost use Rattle.scene_walk.specs.Walk.{fields};
+
+// A list of n contacts of w bytes. `counts` has the count of each model that they may name, 0 for a model that is not
+// there.
+fn names(s: &[u8], counts: &[usize; NAMEABLE_MODELS], w: usize, n: usize, from: usize) -> Walk
+    requires { ⌜ (nameWidth ≤ w) × (from + w * n ≤ length (now s)) ⌝ }
+    ensures { λ r. ⌜ r ≡ walk.names (now (s .entry)) (now (counts .entry)) w n from ⌝ }
+{
+    let mut at = from;
+    let mut i = 0;
+    while i < n {
+        let name = contact_name(s, at);
+        let model = name.model.0;
+        let particle = name.particle.0;
+        if counts[model] <= particle {
+            return Walk::Refused(Refusal::DanglingContact(at));
+        }
+        at += w;
+        i += 1;
+    }
+    Walk::At(at)
+}
+
+// The record at an offset, of the model with that head. `fluids` and `boundaries` are the counts by model.
+fn record_names(
+    s: &[u8],
+    kind: Kind,
+    fluids: &[usize; NAMEABLE_MODELS],
+    boundaries: &[usize; NAMEABLE_MODELS],
+    head: usize,
+    at: usize,
+) -> Walk
+    requires { ⌜ CountsAre (now s) (now fluids) (now boundaries) ⌝ }
+    requires { ⌜ RecordWithin kind (now s) head at ⌝ }
+    ensures { λ r. ⌜ r ≡ walk.recordNamesOf kind (now (s .entry)) head at ⌝ }
+{
+    match kind {
+        Kind::Fluid => {
+            let n = byte(s, at + FLUID_CONTACTS);
+            let w = names(s, fluids, CONTACT_WIDTH, n, at + RECORD_WIDTH);
+            let Walk::At(middle) = w else {
+                return w;
+            };
+            let n = byte(s, at + BOUNDARY_CONTACTS);
+            names(s, boundaries, CONTACT_WIDTH, n, middle)
+        }
+        Kind::Boundary => {
+            let count = VECTOR_WIDTH + VECTOR_WIDTH * keeps(s, head);
+            let n = byte(s, at + count);
+            names(s, boundaries, BOUNDARY_CONTACT_WIDTH, n, at + (count + 1))
+        }
+    }
+}
+
+// The records of the model with that head.
+fn model_names(
+    s: &[u8],
+    kind: Kind,
+    fluids: &[usize; NAMEABLE_MODELS],
+    boundaries: &[usize; NAMEABLE_MODELS],
+    head: usize,
+) -> Walk
+    requires { ⌜ CountsAre (now s) (now fluids) (now boundaries) ⌝ }
+    requires { ⌜ ModelWithin kind (now s) head ⌝ }
+    ensures { λ r. ⌜ r ≡ walk.modelNamesOf kind (now (s .entry)) head ⌝ }
+{
+    let n = particles(s, kind, head);
+    let from = first_record(kind, head);
+    let mut at = from;
+    let mut i = 0;
+    while i < n {
+        let w = record_names(s, kind, fluids, boundaries, head, at);
+        let Walk::At(next) = w else {
+            return w;
+        };
+        at = next;
+        i += 1;
+    }
+    Walk::At(at)
+}
+
+// The n models of a kind, of which the first has its head at an offset.
+fn models_names(
+    s: &[u8],
+    kind: Kind,
+    fluids: &[usize; NAMEABLE_MODELS],
+    boundaries: &[usize; NAMEABLE_MODELS],
+    n: usize,
+    from: usize,
+) -> Walk
+    requires { ⌜ CountsAre (now s) (now fluids) (now boundaries) ⌝ }
+    requires { ⌜ ModelsWithin kind (now s) ⌝ }
+    requires { ⌜ (n ≡ modelNumber kind (now s)) × (from ≡ firstHead kind (now s)) ⌝ }
+    ensures { λ r. ⌜ r ≡ walk.modelsNamesOf kind (now (s .entry)) from ⌝ }
+{
+    let mut at = from;
+    let mut i = 0;
+    while i < n {
+        let w = model_names(s, kind, fluids, boundaries, at);
+        let Walk::At(next) = w else {
+            return w;
+        };
+        at = next;
+        i += 1;
+    }
+    Walk::At(at)
+}
+
+// All contacts of a scene, by its layout.
+pub fn all_names(s: &[u8], layout: Layout) -> Walk
+    requires { ⌜ (fields (now s) ≡ Walk.At (length (now s))) × (layout ≡ layoutOf (now s)) ⌝ }
+    ensures { λ r. ⌜ r ≡ walk.allNames (now (s .entry)) ⌝ }
+{
+    let fluid_models = layout.fluids;
+    let boundary_models = layout.boundaries;
+    let fluids = fluid_models.counts;
+    let boundaries = boundary_models.counts;
+    let number = fluid_models.number;
+    let w = models_names(s, Kind::Fluid, &fluids, &boundaries, number, HEADER_WIDTH);
+    let Walk::At(at) = w else {
+        return w;
+    };
+    let number = boundary_models.number;
+    models_names(s, Kind::Boundary, &fluids, &boundaries, number, at)
+}

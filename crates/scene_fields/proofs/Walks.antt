@@ -1,0 +1,99 @@
+-- What the functions of a walk cite: a field that is not there, and a loop of which some turns are done, where what
+-- remains from here is the whole. By cases on the test of a field, and by the turns left. Assumes nothing.
+use Prim.Native.Nat.{ℕ, zero, suc, _+_, _-_, _≤_, _<_}
+use mathlib.Core.Path.{_≡_, refl, sym, ap, _∙_, fun-ext}
+use mathlib.Core.Bool.{Bool, true, false}
+use mathlib.Core.List.{List}
+use native.Mathlib.Nat.{sub-zero}
+use native.Mathlib.Omega.{arith}
+use lib.Dec.{leb}
+use lib.ListN.{length}
+use borrow.Author.Tests.{leb-true, leb-false, le-leb, lt-leb}
+use Rattle.lists.specs.Lists.{choose, iter}
+use Rattle.scene_fields.specs.Fields.{_▹_, times, refusedIf, field, plain, double}
+use Rattle.scene_format.specs.declared.Kind.{Kind}
+use Rattle.scene_format.specs.declared.Kind.the-variants.{Fluid, Boundary}
+use Rattle.scene_format.specs.declared.Refusal.{Refusal}
+use Rattle.scene_format.specs.declared.Refusal.the-variants.{MissingField}
+use Rattle.scene_format.specs.declared.Walk.{Walk}
+use Rattle.scene_format.specs.declared.Walk.the-variants.{At, Refused}
+use Rattle.scene_fields.proofs.Reached.{never, _then_, double-steps, count-steps}
+
+-- ---- fields
+
+module _ (b : List ℕ) (k : ℕ) (rule : ℕ → Walk) (at : ℕ) where
+  pub field-there : at + k ≤ length b → field b k rule at ≡ rule at
+  unfolding field refusedIf choose
+  field-there h = rw (le-leb _ _ h)
+
+  pub field-missing : length b < at + k → field b k rule at ≡ Refused (MissingField at)
+  unfolding field refusedIf choose
+  field-missing h = rw (lt-leb _ _ h)
+
+-- a field whose bytes are refused is refused so
+pub field-refused : (b : List ℕ) (k : ℕ) (rule : ℕ → Walk) (at : ℕ) {w : Walk} {r : Refusal}
+    → w ≡ plain b k at → w ≡ Refused r → w ≡ field b k rule at
+unfolding plain
+field-refused b k rule at {w} {r} e q = told (leb (at + k) (length b)) refl
+  where
+    told : (t : Bool) → leb (at + k) (length b) ≡ t → w ≡ field b k rule at
+    told true h = never (sym q ∙ e ∙ field-there b k _ at (leb-true _ _ h))
+    told false h = let l = leb-false (at + k) (length b) h in e ∙ field-missing b k _ at l
+        ∙ sym (field-missing b k rule at l)
+
+-- ---- loops
+
+-- of n turns from an offset i are done and have led to at: what remains from there is the whole
+pub record Remains (f : ℕ → Walk) (n from i at : ℕ) : Type 0 where
+  pub within : i ≤ n
+  pub whole : times n f from ≡ times (n - i) f at
+
+module _ {f : ℕ → Walk} {n from : ℕ} where
+  pub none-done : Remains f n from 0 from
+  none-done = record { within = omega arith; whole = rw sub-zero }
+
+  module _ {i at : ℕ} (here : Remains f n from i at) where
+    pub all-done : n ≤ i → At at ≡ times n f from
+    unfolding times
+    all-done h = let e : n - i ≡ zero = omega arith in rw (here .whole, e)
+
+    module _ {w : Walk} (h : i < n) (step : w ≡ f at) where
+      pub turn-refused : {r : Refusal} → w ≡ Refused r → w ≡ times n f from
+      unfolding times _▹_
+      turn-refused q = let e : n - i ≡ suc (n - (i + 1)) = omega arith in rw (here .whole, e, sym step ∙ q) q
+
+      pub one-more-done : {next : ℕ} → w ≡ At next → Remains f n from (i + 1) next
+      unfolding times _▹_
+      one-more-done q =
+          let e : n - i ≡ suc (n - (i + 1)) = omega arith in
+          record { within = omega arith; whole = here .whole ∙ rw (e, sym step ∙ q) }
+
+-- the same of steps by a function: the end is the whole's, and P holds of all offsets that are left
+pub record Ahead (g : ℕ → ℕ) (P : ℕ → Type 0) (n from i at : ℕ) : Type 0 where
+  pub within : i ≤ n
+  pub end : iter n g from ≡ iter (n - i) g at
+  pub each : (j : ℕ) → j < n - i → P (iter j g at)
+
+module _ {g : ℕ → ℕ} {P : ℕ → Type 0} {n from : ℕ} where
+  pub none-stepped : ((j : ℕ) → j < n → P (iter j g from)) → Ahead g P n from 0 from
+  none-stepped h = record { within = omega arith; end = rw sub-zero; each = λ j l. h j (omega arith) }
+
+  module _ {i at : ℕ} (here : Ahead g P n from i at) where
+    pub all-stepped : n ≤ i → at ≡ iter n g from
+    unfolding iter
+    all-stepped h = let e : n - i ≡ zero = omega arith in rw (here .end, e)
+
+    pub holds-here : i < n → P at
+    unfolding iter
+    holds-here h = here .each 0 (omega arith)
+
+    pub one-more-stepped : {x : ℕ} → i < n → x ≡ g at → Ahead g P n from (i + 1) x
+    unfolding iter
+    one-more-stepped h q =
+        let e : n - i ≡ suc (n - (i + 1)) = omega arith in
+        record {
+          within = omega arith;
+          end = here .end
+              ∙ rw (e, q);
+          each = λ j l. rw q (here .each (suc j) (omega arith));
+        }

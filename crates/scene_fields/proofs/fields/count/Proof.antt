@@ -1,0 +1,44 @@
+-- `scene_fields::fields::count` meets its contract: present or not, then over 4,096 or not. Assumes nothing.
+use mathlib.Core.Path.{sym, _∙_}
+use borrow.Author.Needs.{needs}
+use borrow.Author.Tests.{lt-ltb, le-ltb}
+use Rattle.lists.specs.Lists.{choose}
+use Rattle.scene_fields.specs.Fields.{refusedIf, count}
+use Rattle.scene_fields.proofs.Reached.{plain-steps}
+use Rattle.scene_fields.proofs.Walks.{field-there, field-refused}
+use Rattle.scene_fields.proofs.fields.count.Statement.{statement}
+use Rattle.scene_fields.proofs.fields.count.Tie as tie
+
+plain-requires : tie.Need-plain-requires
+plain-requires c κs = search needs
+
+enum-known-w : tie.Need-enum-known-w
+enum-known-w c = search needs
+
+enum-told : tie.Need-enum-told
+enum-told c = search needs
+
+returns : tie.Need-returns
+unfolding count
+returns c = field-refused _ _ _ _ (c .before .before .plain .ensures) (c .enum-told .given .1)
+
+particles-requires : tie.Need-particles-requires
+particles-requires c κs = let p =
+    c .before in plain-steps _ _ _ _ (sym (p .before .before .plain .ensures) ∙ p .w .given .1) .1
+
+returns-2 : tie.Need-returns-2
+unfolding count refusedIf choose
+returns-2 c =
+    let p = c .before .before .before in
+    let h = plain-steps _ _ _ _ (sym (p .before .before .plain .ensures) ∙ p .w .given .1) in
+    rw (field-there _ _ _ _ (h .1), ← c .before .particles .ensures .0, lt-ltb _ _ (c .if1 .taken))
+
+returns-3 : tie.Need-returns-3
+unfolding count refusedIf choose
+returns-3 c =
+    let p = c .before .before .before in
+    let h = plain-steps _ _ _ _ (sym (p .before .before .plain .ensures) ∙ p .w .given .1) in
+    rw (field-there _ _ _ _ (h .1), ← c .before .particles .ensures .0, le-ltb _ _ (c .if1 .left), h .0)
+
+pub count-spec : {M : Type 1} → statement M
+count-spec = tie.close (tie.spec plain-requires enum-known-w enum-told returns particles-requires returns-2 returns-3)

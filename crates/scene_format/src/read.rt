@@ -1,0 +1,163 @@
+// Reads at an offset. They ask for what an accepted scene gives: the bytes are there, and a double is finite.
+use crate::ContactName;
+use crate::Kind;
+use crate::ModelNumber;
+use crate::ParticleNumber;
+use crate::format::BOUNDARY_CONTACT_WIDTH;
+use crate::format::BOUNDARY_CONTACTS;
+use crate::format::BOUNDARY_COUNT_MODULUS;
+use crate::format::CONTACT_WIDTH;
+use crate::format::COUNT_WIDTH;
+use crate::format::DOUBLE_WIDTH;
+use crate::format::FLUID_CONTACTS;
+use crate::format::FLUID_HEAD_WIDTH;
+use crate::format::NAMEABLE_PARTICLES;
+use crate::format::RECORD_WIDTH;
+use crate::format::VECTOR_WIDTH;
+use crate::format::Y;
+use crate::format::Z;
+use math::Vec3;
+ghost use mathlib.Core.Path.{_≡_};
+ghost use Prim.Native.Nat.{_+_, _≤_, _<_};
+ghost use lib.ListN.{length};
+ghost use Rattle.math.specs.Vector.{coordinates};
+ghost use Rattle.scene_format.specs.Bytes.{byteAt, be16At, be32At, be64At, doubleWidth, exponentAt, doubleAt};
+ghost use Rattle.scene_format.specs.Bytes.{vectorAt, FiniteAt, AllFinite};
+ghost use Rattle.scene_format.specs.Format.{axes, countWidth, keepsAt, nameWidth, particlesAt, firstRecord};
+ghost use Rattle.scene_format.specs.Format.{nextRecord};
+ghost use Rattle.scene_format.specs.Within.{NameIs, RecordWithin};
+
+// A byte as a wider number.
+fn wide(x: u8) -> u64
+    ensures { λ r. ⌜ (r ≡ x) × (r < 256) ⌝ }
+{
+    x as u64
+}
+
+fn size(x: u8) -> usize
+    ensures { λ r. ⌜ (r ≡ x) × (r < 256) ⌝ }
+{
+    x as usize
+}
+
+pub fn byte(s: &[u8], at: usize) -> usize
+    requires { ⌜ at < length (now s) ⌝ }
+    ensures { λ r. ⌜ (r ≡ byteAt (now (s .entry)) at) × (r < 256) ⌝ }
+{
+    size(s[at])
+}
+
+pub fn be16(s: &[u8], at: usize) -> usize
+    requires { ⌜ at + 2 ≤ length (now s) ⌝ }
+    ensures { λ r. ⌜ (r ≡ be16At (now (s .entry)) at) × (r < 65536) ⌝ }
+{
+    size(s[at]) * 256 + size(s[at + 1])
+}
+
+fn be32(s: &[u8], at: usize) -> u64
+    requires { ⌜ at + 4 ≤ length (now s) ⌝ }
+    ensures { λ r. ⌜ (r ≡ be32At (now (s .entry)) at) × (r < 4294967296) ⌝ }
+{
+    ((wide(s[at]) * 256 + wide(s[at + 1])) * 256 + wide(s[at + 2])) * 256 + wide(s[at + 3])
+}
+
+// Of a double: the eleven bits of its exponent, which stand in the first two bytes.
+pub fn exponent(s: &[u8], at: usize) -> usize
+    requires { ⌜ at + doubleWidth ≤ length (now s) ⌝ }
+    ensures { λ r. ⌜ r ≡ exponentAt (now (s .entry)) at ⌝ }
+{
+    be16(s, at) / 16 % 2048
+}
+
+// In this form one load and a byte swap, once compiled.
+fn be64(s: &[u8], at: usize) -> u64
+    requires { ⌜ at + doubleWidth ≤ length (now s) ⌝ }
+    ensures { λ r. ⌜ r ≡ be64At (now (s .entry)) at ⌝ }
+{
+    be32(s, at) * 4294967296 + be32(s, at + 4)
+}
+
+pub fn double(s: &[u8], at: usize) -> f64
+    requires { ⌜ FiniteAt (now s) at ⌝ }
+    ensures { λ r. ⌜ r ≡ doubleAt (now (s .entry)) at ⌝ }
+{
+    f64::from_bits(be64(s, at))
+}
+
+// The offset behind a double.
+pub fn double_end(s: &[u8], at: usize) -> usize
+    requires { ⌜ FiniteAt (now s) at ⌝ }
+    ensures { λ r. ⌜ r ≡ at + doubleWidth ⌝ }
+{
+    at + DOUBLE_WIDTH
+}
+
+pub fn vector(s: &[u8], at: usize) -> Vec3
+    requires { ⌜ AllFinite (now s) at axes ⌝ }
+    ensures { λ r. ⌜ coordinates r ≡ vectorAt axes (now (s .entry)) at ⌝ }
+{
+    Vec3 {
+        x: double(s, at),
+        y: double(s, at + Y),
+        z: double(s, at + Z),
+    }
+}
+
+pub fn contact_name(s: &[u8], at: usize) -> ContactName
+    requires { ⌜ at + nameWidth ≤ length (now s) ⌝ }
+    ensures { λ r. ⌜ NameIs (now (s .entry)) at r ⌝ }
+{
+    let name = be16(s, at);
+    ContactName {
+        model: ModelNumber(name / NAMEABLE_PARTICLES),
+        particle: ParticleNumber(name % NAMEABLE_PARTICLES),
+    }
+}
+
+// Of a boundary's head: 1 if the boundary keeps forces, else 0.
+pub fn keeps(s: &[u8], head: usize) -> usize
+    requires { ⌜ head + countWidth ≤ length (now s) ⌝ }
+    ensures { λ r. ⌜ (r ≡ keepsAt (now (s .entry)) head) × (r < 2) ⌝ }
+{
+    be16(s, head) / BOUNDARY_COUNT_MODULUS
+}
+
+// Of a model's head: how many particles the model has.
+pub fn particles(s: &[u8], kind: Kind, head: usize) -> usize
+    requires { ⌜ head + countWidth ≤ length (now s) ⌝ }
+    ensures { λ r. ⌜ (r ≡ particlesAt kind (now (s .entry)) head) × (r < 65536) ⌝ }
+{
+    match kind {
+        Kind::Fluid => be16(s, head),
+        Kind::Boundary => be16(s, head) % BOUNDARY_COUNT_MODULUS,
+    }
+}
+
+// Of a model's head: where the first record is.
+pub fn first_record(kind: Kind, head: usize) -> usize
+    requires { ⌜ head < 0x8000_0000_0000_0000 ⌝ }
+    ensures { λ r. ⌜ r ≡ firstRecord kind head ⌝ }
+{
+    match kind {
+        Kind::Fluid => head + FLUID_HEAD_WIDTH,
+        Kind::Boundary => head + COUNT_WIDTH,
+    }
+}
+
+// Of a record of the model with that head: where it ends.
+pub fn next_record(s: &[u8], kind: Kind, head: usize, at: usize) -> usize
+    requires { ⌜ RecordWithin kind (now s) head at ⌝ }
+    ensures { λ r. ⌜ r ≡ nextRecord kind (now (s .entry)) head at ⌝ }
+{
+    match kind {
+        Kind::Fluid => {
+            let contacts = byte(s, at + FLUID_CONTACTS) + byte(s, at + BOUNDARY_CONTACTS);
+            at + RECORD_WIDTH + CONTACT_WIDTH * contacts
+        }
+        Kind::Boundary => {
+            let count = VECTOR_WIDTH + VECTOR_WIDTH * keeps(s, head);
+            let contacts = byte(s, at + count);
+            at + (count + 1) + BOUNDARY_CONTACT_WIDTH * contacts
+        }
+    }
+}

@@ -1,0 +1,124 @@
+-- The contacts of a fluid particle: the record that the index finds is the particle's, and its two lists of contacts
+-- are those of the scene and may be read. From what an accepted scene gives of each particle. Assumes nothing.
+use Prim.Native.Nat.{ℕ, _+_, _*_, _<_, _≤_}
+use mathlib.Core.Path.{_≡_, refl, sym, ap, subst, _∙_}
+use mathlib.Core.List.{List}
+use native.Mathlib.Numerals.{add-one}
+use native.Mathlib.Omega.{arith}
+use lib.Ieee.{Float}
+use lib.ListN.{length, getD}
+use Rattle.lists.specs.Lists.{fold}
+use Rattle.lists.proofs.Lists.{fold-table}
+use Rattle.scene_check.specs.Accepted.{FluidParticleOk}
+use Rattle.scene_check.proofs.Records.{fluid-particle-ok}
+use Rattle.scene_format.specs.Bytes.{byteAt, doubleAt}
+use Rattle.scene_format.specs.Format.{axes, density0Offset, contactCountOffset, recordWidth, contactWidth, startsOf}
+use Rattle.scene_format.specs.Format.{Location}
+use Rattle.scene_format.specs.Format.{locationOf}
+use Rattle.scene_format.specs.Scene.{FluidParticle, Contact, fluidSize, particle}
+use Rattle.scene_format.specs.SceneOf.{contactAt, contactList, fluidParticleAt, sceneOf}
+use Rattle.scene_format.specs.declared.Kind.{Kind}
+use Rattle.scene_format.specs.declared.Kind.the-variants.{Fluid, Boundary}
+use Rattle.scene_index.specs.Contacts.{ContactReady, ContactsReady, contactListAt, overList}
+use Rattle.scene_index.specs.Index.{headsAt, recordsAt, Indexed}
+use Rattle.scene_index.specs.declared.contacts.ContactList.{ContactList}
+use Rattle.scene_index.proofs.Targets.{fluid-record-at, head-at}
+
+-- ---- a list of contacts, as the rules see it
+
+unfoldable pub contactsOf : Kind → FluidParticle → List Contact
+contactsOf Fluid p = p .fluidContacts
+contactsOf Boundary p = p .boundaryContacts
+
+-- the list is that of p's contacts of the kind κ
+pub record ContactsAre (b : List ℕ) (κ : Kind) (p : FluidParticle) (list : ContactList) : Type 0 where
+  pub kind : list .kind ≡ κ
+  pub density0 : list .density0 ≡ p .density0
+  pub contacts : contactList (startsOf κ b) b (list .count) (list .at) ≡ contactsOf κ p
+  pub ready : ContactsReady b list
+
+contacts-of-particle : (b : List ℕ) {p : Location} {i : ℕ} (κ : Kind) → FluidParticleOk b p i
+    → contactList (startsOf κ b) b (contactListAt κ b p .count) (contactListAt κ b p .at)
+    ≡ contactsOf κ (particle (sceneOf b) i)
+unfolding contactListAt contactsOf fluidParticleAt
+contacts-of-particle b Fluid q = sym (ap (λ p. p .fluidContacts) (q .particle))
+contacts-of-particle b Boundary q = sym (ap (λ p. p .boundaryContacts) (q .particle))
+
+contacts-at : {b : List ℕ} {p : Location} {i : ℕ} (κ : Kind) → FluidParticleOk b p i
+    → ContactsAre b κ (particle (sceneOf b) i) (contactListAt κ b p)
+unfolding contactListAt fluidParticleAt
+contacts-at {b} κ q =
+    record {
+      kind = refl;
+      density0 = sym (ap (λ p. p .density0) (q .particle));
+      contacts = contacts-of-particle b κ q;
+      ready = record { each = λ k l. record { doubles = q .own .contacts κ k l; target = q .targets κ k l } };
+    }
+
+-- a sum over the list is one over the particle's contacts
+pub over-list : {A : Type 0} {b : List ℕ} {κ : Kind} {p : FluidParticle} {list : ContactList} → ContactsAre b κ p list
+    → (f : A → Contact → A) (a : A) → overList b list f a ≡ fold f a (contactsOf κ p)
+over-list {b = b} {list = list} h f a =
+    ap (λ k. fold f a (contactList (startsOf k b) b (list .count) (list .at))) (h .kind) ∙ ap (fold f a) (h .contacts)
+
+-- ---- through the index
+
+-- what the index says of fluid particle i
+abbrev pub indexedLocation : List ℕ → ℕ → Location
+indexedLocation index i = record { head = getD index (headsAt + i) 0; at = getD index (recordsAt Fluid + i) 0 }
+
+module _ {b index : List ℕ} (ix : Indexed b index) (i : ℕ) (h : i < fluidSize (sceneOf b)) where
+  -- the list that `contacts_of` returns
+  pub contacts-are : {κ : Kind} {list : ContactList} → list ≡ contactListAt κ b (locationOf Fluid b i)
+      → ContactsAre b κ (particle (sceneOf b) i) list
+  contacts-are {κ} e =
+      subst (ContactsAre b κ (particle (sceneOf b) i)) (sym e) (contacts-at κ (fluid-particle-ok b (ix .accepted) i h))
+
+  location-here : indexedLocation index i ≡ locationOf Fluid b i
+  location-here = rw (fluid-record-at ix i h, head-at ix i h)
+
+  -- all that a step may use of the particle, at the index's entries
+  pub particle-here : FluidParticleOk b (indexedLocation index i) i
+  particle-here = subst (λ p. FluidParticleOk b p i) (sym location-here) (fluid-particle-ok b (ix .accepted) i h)
+
+  module _ {κ : Kind} {d : Float} {f : ℕ} (de : d ≡ doubleAt b (indexedLocation index i .head + density0Offset))
+      (fe : f ≡ byteAt b (indexedLocation index i .at + contactCountOffset Fluid axes)) where
+    pub fluid-contacts : κ ≡ Fluid
+        → _≡_ {A = ContactList}
+        (record { kind = κ; density0 = d; count = f; at = indexedLocation index i .at + recordWidth axes })
+        (contactListAt κ b (locationOf Fluid b i))
+    unfolding contactListAt
+    fluid-contacts e = rw (← location-here, e, de, fe)
+
+    pub boundary-contacts : {c : ℕ} → c ≡ byteAt b (indexedLocation index i .at + contactCountOffset Boundary axes)
+        → κ ≡ Boundary
+        → _≡_ {A = ContactList}
+        (record {
+          kind = κ;
+          density0 = d;
+          count = c;
+          at = indexedLocation index i .at + recordWidth axes + contactWidth
+              axes * f;
+        })
+        (contactListAt κ b (locationOf Fluid b i))
+    unfolding contactListAt
+    boundary-contacts ce e = rw (← location-here, e, de, ce, fe)
+
+-- ---- a turn of a loop over contacts
+
+-- f is what the sum makes of a contact, x what it is after k of them and y what the turn makes of x
+pub fold-next : {A : Type 0} (f : A → Contact → A) (a : A) (κ : Kind) (b : List ℕ) (at k : ℕ) {x y : A}
+    → x ≡ fold f a (contactList (startsOf κ b) b k at)
+    → y ≡ f x (contactAt (startsOf κ b) b (at + contactWidth axes * k))
+    → y ≡ fold f a (contactList (startsOf κ b) b (k + 1) at)
+unfolding contactList
+fold-next f a κ b at k e q =
+    let c : ℕ → Contact = λ i. contactAt (startsOf κ b) b (at + contactWidth axes * i) in
+    q
+    ∙ ap (λ x. f x (c k)) e
+    ∙ sym (fold-table f a k c)
+    ∙ ap (λ (n : ℕ). fold f a (contactList (startsOf κ b) b n at)) (sym (add-one k))
+
+-- a contact that may be read is within the bytes
+pub contact-room : {κ : Kind} {b : List ℕ} {at : ℕ} → ContactReady κ b at → at + contactWidth axes ≤ length b
+contact-room h = omega (arith, h .doubles .gradient .each 2 (omega arith) .present)

@@ -1,0 +1,5 @@
+pub mod Traversals
+pub mod Indexes
+pub mod Targets
+pub mod ContactLists
+pub mod Runs

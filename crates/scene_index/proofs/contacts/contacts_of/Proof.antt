@@ -1,0 +1,114 @@
+-- `scene_index::contacts::contacts_of` meets its contract: the record that the index finds is the particle's. Assumes
+-- nothing.
+use native.Mathlib.Omega.{arith}
+use borrow.Author.Needs.{needs}
+use denote.Ref.{now}
+use Rattle.scene_check.specs.Accepted.{FluidParticleOk}
+use Rattle.scene_index.proofs.ContactLists.{indexedLocation, particle-here, fluid-contacts, boundary-contacts}
+use Rattle.scene_index.proofs.contacts.contacts_of.Statement.{statement}
+use Rattle.scene_index.proofs.contacts.contacts_of.Tie as tie
+
+abbrev Begin : tie.After-shared-slice-known4 → tie.Start
+Begin c = c .before .before .before .before
+
+-- the particle's record
+here : (c : tie.After-shared-slice-known4)
+    → let a = Begin c .args in FluidParticleOk (now (a .scene)) (indexedLocation (now (a .index)) (a .i)) (a .i)
+here c = particle-here (Begin c .pre .0) _ (Begin c .pre .1)
+
+add-at : tie.Need-add-at
+add-at c = search needs
+
+mul-at : tie.Need-mul-at
+mul-at c = search needs
+
+shared-slice-read-at : tie.Need-shared-slice-read-at
+shared-slice-read-at c = search needs
+
+add-head : tie.Need-add-head
+add-head c = search needs
+
+mul-head : tie.Need-mul-head
+mul-head c = search needs
+
+shared-slice-read-head : tie.Need-shared-slice-read-head
+shared-slice-read-head c = search needs
+
+add-double : tie.Need-add-double
+add-double c = omega (arith, here c .density0 .present)
+
+double-requires : tie.Need-double-requires
+double-requires c κs = here c .density0
+
+add-byte : tie.Need-add-byte
+add-byte c = omega (arith, here (c .before) .own .counts)
+
+byte-requires : tie.Need-byte-requires
+byte-requires c κs = omega (arith, here (c .before) .own .counts)
+
+enum-told : tie.Need-enum-told
+enum-told c = search needs
+
+add-t16 : tie.Need-add-t16
+add-t16 c = omega (arith, here (c .before .before .before .before) .own .counts)
+
+enum-told-2 : tie.Need-enum-told-2
+enum-told-2 c = search needs
+
+add-byte-2 : tie.Need-add-byte-2
+add-byte-2 c = omega (arith, here (c .before .before .before .before) .own .counts)
+
+byte-requires-2 : tie.Need-byte-requires-2
+byte-requires-2 c κs = omega (arith, here (c .before .before .before .before) .own .counts)
+
+add-t17 : tie.Need-add-t17
+add-t17 c = omega (arith, here (c .before .before .before .before .before) .own .counts)
+
+mul-t18 : tie.Need-mul-t18
+mul-t18 c = search needs
+
+add-t19 : tie.Need-add-t19
+add-t19 c =
+    omega (
+      arith,
+      here (c .before .before .before .before .before) .own .middle,
+      c .before .before .before .byte .ensures .0,
+    )
+
+returns : tie.Need-returns
+returns c =
+    let p = Begin (c .before .before .before .before) .pre in
+    fluid-contacts (p .0) _ (p .1) (c .before .before .before .double .ensures) (c .before .before .byte .ensures .0)
+    (c .enum-told .given .1)
+
+returns-2 : tie.Need-returns-2
+returns-2 c =
+    let r = c .before .before .before in
+    let p = Begin (r .before .before) .pre in
+    boundary-contacts (p .0) _ (p .1) (r .before .double .ensures) (r .byte .ensures .0) (c .byte2 .ensures .0)
+    (c .before .enum-told2 .given .1)
+
+pub contacts-of-spec : {M : Type 1} → statement M
+contacts-of-spec =
+    tie.close
+    (tie.spec
+    add-at
+    mul-at
+    shared-slice-read-at
+    add-head
+    mul-head
+    shared-slice-read-head
+    add-double
+    double-requires
+    add-byte
+    byte-requires
+    enum-told
+    add-t16
+    enum-told-2
+    add-byte-2
+    byte-requires-2
+    add-t17
+    mul-t18
+    add-t19
+    returns
+    returns-2)

@@ -1,0 +1,86 @@
+-- `scene_index::contacts::target_of` meets its contract: by the kind, the base of the name's first byte stands in the
+-- index. Assumes nothing.
+use native.Mathlib.Omega.{arith}
+use borrow.Author.Needs.{needs}
+use Rattle.scene_format.specs.declared.Kind.the-variants.{Fluid, Boundary}
+use Rattle.scene_index.proofs.Targets.{target-is, target-few}
+use Rattle.scene_index.proofs.contacts.target_of.Statement.{statement}
+use Rattle.scene_index.proofs.contacts.target_of.Tie as tie
+
+abbrev Begin : tie.After-byte2 → tie.Start
+Begin c = c .before .before .before .before
+
+byte-requires : tie.Need-byte-requires
+byte-requires c κs = search needs
+
+add-byte : tie.Need-add-byte
+add-byte c = search needs
+
+byte-requires-2 : tie.Need-byte-requires-2
+byte-requires-2 c κs = search needs
+
+enum-told : tie.Need-enum-told
+enum-told c = search needs
+
+add-result : tie.Need-add-result
+add-result c = search needs
+
+mul-result : tie.Need-mul-result
+mul-result c = search needs
+
+shared-slice-read-result : tie.Need-shared-slice-read-result
+shared-slice-read-result c = search needs
+
+returns : tie.Need-returns
+returns c =
+    let k = c .before .before .before in
+    rw (c .before .enum-told .given .1)
+    (target-is (Begin k .pre .0) Fluid _ (k .before .byte .ensures) (k .byte2 .ensures))
+
+add-result-2 : tie.Need-add-result-2
+add-result-2 c =
+    let p = Begin (c .before .before .before) .pre in
+    omega (arith, returns c, target-few (p .0) _ _ (p .1))
+
+enum-told-2 : tie.Need-enum-told-2
+enum-told-2 c = search needs
+
+add-result-3 : tie.Need-add-result-3
+add-result-3 c = search needs
+
+mul-result-2 : tie.Need-mul-result-2
+mul-result-2 c = search needs
+
+shared-slice-read-result-2 : tie.Need-shared-slice-read-result-2
+shared-slice-read-result-2 c = search needs
+
+returns-2 : tie.Need-returns-2
+returns-2 c =
+    let k = c .before .before .before in
+    rw (c .before .enum-told2 .given .1)
+    (target-is (Begin k .pre .0) Boundary _ (k .before .byte .ensures) (k .byte2 .ensures))
+
+add-result-4 : tie.Need-add-result-4
+add-result-4 c =
+    let p = Begin (c .before .before .before) .pre in
+    omega (arith, returns-2 c, target-few (p .0) _ _ (p .1))
+
+pub target-of-spec : {M : Type 1} → statement M
+target-of-spec =
+    tie.close
+    (tie.spec
+    byte-requires
+    add-byte
+    byte-requires-2
+    enum-told
+    add-result
+    mul-result
+    shared-slice-read-result
+    add-result-2
+    enum-told-2
+    add-result-3
+    mul-result-2
+    shared-slice-read-result-2
+    add-result-4
+    returns
+    returns-2)

@@ -1,0 +1,47 @@
+-- `scene_index::index::fill_model` meets its contract: by the entry. Assumes nothing.
+use Rattle.scene_index.proofs.Indexes.{heads-copied}
+use borrow.Author.Needs.{needs}
+use Rattle.scene_index.proofs.index.fill_model.Statement.{statement}
+use Rattle.scene_index.proofs.index.fill_model.Tie as tie
+
+enum-told : tie.Need-enum-told
+enum-told c = search needs
+
+fill-offsets-requires : tie.Need-fill-offsets-requires
+fill-offsets-requires c κs = search needs
+
+enum-told-2 : tie.Need-enum-told-2
+enum-told-2 c = search needs
+
+fill-copies-requires : tie.Need-fill-copies-requires
+fill-copies-requires c κs = search needs
+
+same-length : tie.Need-same-length
+same-length c = search needs
+
+returns : tie.Need-returns
+returns c = let f = c .before .before in rw (f .before .before .enum-told .given .1) (f .fill-offsets .ensures)
+
+same-length-2 : tie.Need-same-length-2
+same-length-2 c = search needs
+
+returns-2 : tie.Need-returns-2
+returns-2 c =
+    let f = c .before .before in
+    let b = f .before .before .before .before .before .before in
+    let a = b .args in
+    rw (f .before .before .enum-told2 .given .1, ← heads-copied (a .kind) (a .scene .now) (a .head) (b .pre .1 .0))
+    (f .fill-copies .ensures)
+
+pub fill-model-spec : {M : Type 1} → statement M
+fill-model-spec =
+    tie.close
+    (tie.spec
+    enum-told
+    fill-offsets-requires
+    enum-told-2
+    fill-copies-requires
+    same-length
+    returns
+    same-length-2
+    returns-2)

@@ -1,0 +1,37 @@
+-- The contacts of a fluid particle, kind by kind, as the code hands them on; and when a contact may be read.
+-- Scaffolding: no promise rests on it. Definitions only.
+use Prim.Native.Nat.{ℕ, _+_, _*_, _<_}
+use mathlib.Core.List.{List}
+use Rattle.lists.specs.Lists.{fold}
+use Rattle.scene_check.specs.Accepted.{TargetOk}
+use Rattle.scene_format.specs.Bytes.{doubleAt}
+use Rattle.scene_format.specs.Format.{axes, density0Offset, contactWidth, contactCount, contactsStart, startsOf}
+use Rattle.scene_format.specs.Format.{Location}
+use Rattle.scene_format.specs.Scene.{Contact}
+use Rattle.scene_format.specs.SceneOf.{contactList}
+use Rattle.scene_format.specs.declared.Kind.{Kind}
+use Rattle.scene_walk.specs.Accepted.{ContactOk}
+use Rattle.scene_index.specs.declared.contacts.ContactList.{ContactList}
+
+-- a contact whose doubles are there and which names a particle of that kind
+pub record ContactReady (κ : Kind) (b : List ℕ) (at : ℕ) : Type 0 where
+  pub doubles : ContactOk b at
+  pub target : TargetOk κ b at
+
+-- those of a list
+pub record ContactsReady (b : List ℕ) (list : ContactList) : Type 0 where
+  pub each : (k : ℕ) → k < list .count → ContactReady (list .kind) b (list .at + contactWidth axes * k)
+
+-- the list of one kind of the fluid particle whose record stands at p
+unfoldable pub contactListAt : Kind → List ℕ → Location → ContactList
+contactListAt κ b p =
+    record {
+      kind = κ;
+      density0 = doubleAt b (p .head + density0Offset);
+      count = contactCount κ b (p .at);
+      at = contactsStart κ b (p .at);
+    }
+
+-- from a on over the contacts of a list
+abbrev pub overList : {A : Type 0} → List ℕ → ContactList → (A → Contact → A) → A → A
+overList b list f a = fold f a (contactList (startsOf (list .kind) b) b (list .count) (list .at))

@@ -1,0 +1,72 @@
+// The contacts of a fluid particle, kind by kind, and what a contact names: the particle's number among all of its
+// kind.
+use crate::index::BOUNDARY_BASES;
+use crate::index::FLUID_BASES;
+use crate::index::HEADS;
+use crate::index::RECORDS;
+use scene_format::Kind;
+use scene_format::format::BOUNDARY_CONTACTS;
+use scene_format::format::CONTACT_WIDTH;
+use scene_format::format::DENSITY0;
+use scene_format::format::FLUID_CONTACTS;
+use scene_format::format::RECORD_WIDTH;
+use scene_format::read;
+ghost use mathlib.Core.Path.{_≡_};
+ghost use Prim.Native.Nat.{_<_};
+ghost use Rattle.scene_format.specs.Format.{startsOf, locationOf};
+ghost use Rattle.scene_format.specs.Scene.{fluidSize};
+ghost use Rattle.scene_format.specs.SceneOf.{targetAt, sceneOf};
+ghost use Rattle.scene_index.specs.Contacts.{ContactReady, contactListAt};
+ghost use Rattle.scene_index.specs.Index.{Indexed};
+
+// The contacts of one kind that a fluid particle has: how many there are and where the first stands, with the rest
+// density of the particle's fluid.
+pub struct ContactList {
+    pub kind: Kind,
+    pub density0: f64,
+    pub count: usize,
+    pub at: usize,
+}
+
+// The contacts of one kind of fluid particle i.
+pub fn contacts_of(scene: &[u8], index: &[usize], kind: Kind, i: usize) -> ContactList
+    requires { ⌜ Indexed (now scene) (now index) ⌝ }
+    requires { ⌜ i < fluidSize (sceneOf (now scene)) ⌝ }
+    ensures { λ r. ⌜ r ≡ contactListAt kind (now (scene .entry)) (locationOf Kind.Fluid (now (scene .entry)) i) ⌝ }
+{
+    let at = index[RECORDS + i];
+    let head = index[HEADS + i];
+    let density0 = read::double(scene, head + DENSITY0);
+    let fluids = read::byte(scene, at + FLUID_CONTACTS);
+    match kind {
+        Kind::Fluid => ContactList {
+            kind,
+            density0,
+            count: fluids,
+            at: at + RECORD_WIDTH,
+        },
+        Kind::Boundary => {
+            let count = read::byte(scene, at + BOUNDARY_CONTACTS);
+            ContactList {
+                kind,
+                density0,
+                count,
+                at: at + RECORD_WIDTH + CONTACT_WIDTH * fluids,
+            }
+        }
+    }
+}
+
+// The number, among all of its kind, of the particle that the contact at an offset names.
+pub fn target_of(scene: &[u8], index: &[usize], kind: Kind, at: usize) -> usize
+    requires { ⌜ Indexed (now scene) (now index) ⌝ }
+    requires { ⌜ ContactReady kind (now scene) at ⌝ }
+    ensures { λ r. ⌜ r ≡ targetAt (startsOf kind (now (scene .entry))) (now (scene .entry)) at ⌝ }
+{
+    let first = read::byte(scene, at);
+    let second = read::byte(scene, at + 1);
+    match kind {
+        Kind::Fluid => index[FLUID_BASES + first] + second,
+        Kind::Boundary => index[BOUNDARY_BASES + first] + second,
+    }
+}

@@ -1,0 +1,162 @@
+// The index of an accepted scene, filled into a lent list: the bases of contacts' names, and where each record and its
+// model's head stand.
+use scene_format::Kind;
+use scene_format::format::MAX_MODELS;
+use scene_format::format::MAX_PARTICLES;
+use scene_format::format::NAMEABLE_MODELS;
+use scene_format::read::first_record;
+use scene_format::read::next_record;
+use scene_format::read::particles;
+use scene_layout::Layout;
+use scene_layout::Models;
+ghost use mathlib.Core.Path.{_≡_};
+ghost use mathlib.Core.List.{map};
+ghost use Prim.Native.Nat.{ℕ, _+_, _≤_};
+ghost use lib.ListN.{length, getD, replicate};
+ghost use lib.Seq.{sets};
+ghost use Rattle.scene_check.specs.Check.{Passed};
+ghost use Rattle.scene_format.specs.Format.{mostOfAKind, particlesAt, modelLocations, locationsOf};
+ghost use Rattle.scene_format.specs.Within.{ModelWithin, ModelsWithin};
+ghost use Rattle.scene_layout.specs.Layout.{layoutModels};
+ghost use Rattle.scene_index.specs.Index.{basesLength, basesOf, entryOf, entriesOf, indexLength, indexOf};
+
+// The bases of a kind: one for each first byte of a name.
+const BASES_LENGTH: usize = 256;
+
+const MAX_OF_A_KIND: usize = MAX_MODELS * MAX_PARTICLES;
+
+// Where the sections begin, and how long the index is.
+pub const FLUID_BASES: usize = 0;
+
+pub const BOUNDARY_BASES: usize = BASES_LENGTH;
+
+pub const RECORDS: usize = 2 * BASES_LENGTH;
+
+pub const HEADS: usize = RECORDS + MAX_OF_A_KIND;
+
+pub const BOUNDARY_RECORDS: usize = HEADS + MAX_OF_A_KIND;
+
+pub const INDEX_LENGTH: usize = BOUNDARY_RECORDS + MAX_OF_A_KIND;
+
+// What the index holds of each record.
+enum Entry {
+    // Its offset.
+    Offset,
+    // That of its model's head.
+    Head,
+}
+
+// The bases of one kind, from element k on: of each first byte of a contact's name.
+fn fill_bases(starts: [usize; NAMEABLE_MODELS], k: usize, index: &mut [usize])
+    requires { ⌜ k + basesLength ≤ length (now index) ⌝ }
+    requires { ⌜ ((m : ℕ) → getD starts m 0 ≤ mostOfAKind) ⌝ }
+    ensures { λ _. ⌜ now (index .exit) ≡ sets (now (index .entry)) k (basesOf starts) ⌝ }
+{
+    let mut x = 0;
+    while x < BASES_LENGTH {
+        index[k + x] = starts[x / 16] + 256 * (x % 16);
+        x += 1;
+    }
+}
+
+// n times x, from element k on.
+fn fill_copies(x: usize, n: usize, k: usize, index: &mut [usize])
+    requires { ⌜ k + n ≤ length (now index) ⌝ }
+    ensures { λ _. ⌜ now (index .exit) ≡ sets (now (index .entry)) k (replicate n x) ⌝ }
+{
+    let mut i = 0;
+    while i < n {
+        index[k + i] = x;
+        i += 1;
+    }
+}
+
+// The offsets of one model's n records, from element k on.
+fn fill_offsets(scene: &[u8], kind: Kind, head: usize, n: usize, k: usize, index: &mut [usize])
+    requires { ⌜ ModelWithin kind (now scene) head ⌝ }
+    requires { ⌜ (n ≡ particlesAt kind (now scene) head) × (k + n ≤ length (now index)) ⌝ }
+    ensures { λ _. ⌜
+        now (index .exit)
+        ≡ sets (now (index .entry)) k (map (entryOf Entry.Offset) (modelLocations kind (now (scene .entry)) head))
+        ⌝ }
+{
+    let mut at = first_record(kind, head);
+    let mut i = 0;
+    while i < n {
+        index[k + i] = at;
+        at = next_record(scene, kind, head, at);
+        i += 1;
+    }
+}
+
+// One entry of each of a model's n records, from element k on.
+fn fill_model(
+    scene: &[u8],
+    kind: Kind,
+    entry: Entry,
+    head: usize,
+    n: usize,
+    k: usize,
+    index: &mut [usize],
+)
+    requires { ⌜ ModelWithin kind (now scene) head ⌝ }
+    requires { ⌜ (n ≡ particlesAt kind (now scene) head) × (k + n ≤ length (now index)) ⌝ }
+    ensures { λ _. ⌜
+        now (index .exit)
+        ≡ sets (now (index .entry)) k (map (entryOf entry) (modelLocations kind (now (scene .entry)) head))
+        ⌝ }
+{
+    match entry {
+        Entry::Offset => fill_offsets(scene, kind, head, n, k, index),
+        Entry::Head => fill_copies(head, n, k, index),
+    }
+}
+
+// One entry of each record of a kind, from element k on.
+fn fill_models(
+    scene: &[u8],
+    kind: Kind,
+    entry: Entry,
+    models: Models,
+    k: usize,
+    index: &mut [usize],
+)
+    requires { ⌜ ModelsWithin kind (now scene) × (models ≡ layoutModels kind (now scene)) ⌝ }
+    requires { ⌜ k + length (locationsOf kind (now scene)) ≤ length (now index) ⌝ }
+    ensures { λ _. ⌜ now (index .exit) ≡ sets (now (index .entry)) k (entriesOf entry kind (now (scene .entry))) ⌝ }
+{
+    let heads = models.heads;
+    let number = models.number;
+    let mut to = k;
+    let mut m = 0;
+    while m < number {
+        let head = heads[m];
+        let n = particles(scene, kind, head);
+        fill_model(scene, kind, entry, head, n, to, index);
+        to += n;
+        m += 1;
+    }
+}
+
+// The whole index.
+pub fn fill(scene: &[u8], layout: Layout, index: &mut [usize])
+    requires { ⌜ Passed (now scene) layout × (indexLength ≤ length (now index)) ⌝ }
+    ensures { λ _. ⌜ now (index .exit) ≡ indexOf (now (scene .entry)) (now (index .entry)) ⌝ }
+{
+    let fluids = layout.fluids;
+    let boundaries = layout.boundaries;
+    let fluid_starts = fluids.starts;
+    let boundary_starts = boundaries.starts;
+    fill_bases(fluid_starts, FLUID_BASES, index);
+    fill_bases(boundary_starts, BOUNDARY_BASES, index);
+    fill_models(scene, Kind::Fluid, Entry::Offset, fluids, RECORDS, index);
+    fill_models(scene, Kind::Fluid, Entry::Head, fluids, HEADS, index);
+    fill_models(
+        scene,
+        Kind::Boundary,
+        Entry::Offset,
+        boundaries,
+        BOUNDARY_RECORDS,
+        index,
+    );
+}

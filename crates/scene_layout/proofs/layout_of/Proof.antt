@@ -1,0 +1,43 @@
+-- `scene_layout::layout_of` meets its contract: the boundaries begin where the fluids end. Assumes nothing.
+use mathlib.Core.Path.{_≡_, refl, ap}
+use native.Mathlib.Omega.{arith}
+use Rattle.scene_format.specs.Format.{upperHalf, lowerHalf, firstHead}
+use Rattle.scene_format.specs.declared.Kind.the-variants.{Fluid, Boundary}
+use Rattle.scene_layout.specs.Layout.{layoutModels, layoutOf}
+use Rattle.scene_layout.specs.declared.Layout.{Layout}
+use Rattle.scene_layout.specs.declared.Models.{Models}
+use Rattle.scene_walk.proofs.Within.{header-within, fields-within}
+use Rattle.scene_layout.proofs.layout_of.Statement.{statement}
+use Rattle.scene_layout.proofs.layout_of.Tie as tie
+
+both : {f f′ g g′ : Models} → f ≡ f′ → g ≡ g′
+    → _≡_ {A = Layout} (record { fluids = f; boundaries = g }) (record { fluids = f′; boundaries = g′ })
+both e q = cc
+
+fluids-end : (c : tie.After-models-of)
+    → c .models-of .result .end ≡ firstHead Boundary (c .before .before .before .args .s .now)
+unfolding layoutModels firstHead
+fluids-end c = ap (λ (m : Models). m .end) (c .models-of .ensures)
+
+byte-requires : tie.Need-byte-requires
+byte-requires c κs = omega (arith, header-within _ (c .before .pre))
+
+models-of-requires : tie.Need-models-of-requires
+unfolding firstHead
+models-of-requires c κs = (fields-within _ (c .before .before .pre) Fluid, (ap lowerHalf (c .byte .ensures .0), refl))
+
+byte-requires-2 : tie.Need-byte-requires-2
+byte-requires-2 c κs = omega (arith, header-within _ (c .before .before .before .pre))
+
+models-of-requires-2 : tie.Need-models-of-requires-2
+models-of-requires-2 c κs = (
+  fields-within _ (c .before .before .before .before .pre) Boundary,
+  (ap upperHalf (c .byte2 .ensures .0), fluids-end (c .before)),
+)
+
+returns : tie.Need-returns
+unfolding layoutOf
+returns c = both (c .before .before .models-of .ensures) (c .models-of2 .ensures)
+
+pub layout-of-spec : {M : Type 1} → statement M
+layout-of-spec = tie.close (tie.spec byte-requires models-of-requires byte-requires-2 models-of-requires-2 returns)

@@ -1,0 +1,94 @@
+// Where the models of a scene stand whose fields are accepted, found by stepping over the records.
+use scene_format::Kind;
+use scene_format::Walk;
+use scene_format::format::HEADER_WIDTH;
+use scene_format::format::NAMEABLE_MODELS;
+use scene_format::read::byte;
+use scene_format::read::first_record;
+use scene_format::read::keeps;
+use scene_format::read::next_record;
+use scene_format::read::particles;
+ghost use mathlib.Core.Path.{_≡_};
+ghost use lib.ListN.{length};
+ghost use Rattle.scene_format.specs.Format.{modelNumber, modelEnd, firstHead};
+ghost use Rattle.scene_format.specs.Within.{ModelWithin, ModelsWithin};
+ghost use Rattle.scene_layout.specs.Layout.{layoutModels, layoutOf};
+ghost use Rattle.scene_walk.specs.Walk as walk;
+
+// The models of one kind: how many there are and how many particles they have in all; of each, by its number, the
+// offset of its head, its particles, those of the models before it, and 1 if it keeps forces; and the offset behind the
+// last. Beyond the last model the entries are 0.
+pub struct Models {
+    pub number: usize,
+    pub total: usize,
+    pub heads: [usize; NAMEABLE_MODELS],
+    pub counts: [usize; NAMEABLE_MODELS],
+    pub starts: [usize; NAMEABLE_MODELS],
+    pub keeps: [usize; NAMEABLE_MODELS],
+    pub end: usize,
+}
+
+// Where the models of an accepted scene stand. The boundaries begin where the fluids end.
+pub struct Layout {
+    pub fluids: Models,
+    pub boundaries: Models,
+}
+
+// Where the model with its head at an offset ends.
+fn model_end(s: &[u8], kind: Kind, head: usize) -> usize
+    requires { ⌜ ModelWithin kind (now s) head ⌝ }
+    ensures { λ r. ⌜ r ≡ modelEnd kind (now (s .entry)) head ⌝ }
+{
+    let n = particles(s, kind, head);
+    let mut at = first_record(kind, head);
+    let mut i = 0;
+    while i < n {
+        at = next_record(s, kind, head, at);
+        i += 1;
+    }
+    at
+}
+
+// The n models of a kind, of which the first has its head at an offset.
+fn models_of(s: &[u8], kind: Kind, n: usize, from: usize) -> Models
+    requires { ⌜ ModelsWithin kind (now s) ⌝ }
+    requires { ⌜ (n ≡ modelNumber kind (now s)) × (from ≡ firstHead kind (now s)) ⌝ }
+    ensures { λ r. ⌜ r ≡ layoutModels kind (now (s .entry)) ⌝ }
+{
+    let mut heads = [0usize; NAMEABLE_MODELS];
+    let mut counts = [0usize; NAMEABLE_MODELS];
+    let mut starts = [0usize; NAMEABLE_MODELS];
+    let mut kept = [0usize; NAMEABLE_MODELS];
+    let mut total = 0;
+    let mut at = from;
+    let mut i = 0;
+    while i < n {
+        let count = particles(s, kind, at);
+        heads[i] = at;
+        counts[i] = count;
+        starts[i] = total;
+        kept[i] = keeps(s, at);
+        total += count;
+        at = model_end(s, kind, at);
+        i += 1;
+    }
+    Models {
+        number: n,
+        total,
+        heads,
+        counts,
+        starts,
+        keeps: kept,
+        end: at,
+    }
+}
+
+// The layout of both kinds; the boundaries begin where the fluids end.
+pub fn layout_of(s: &[u8]) -> Layout
+    requires { ⌜ walk.fields (now s) ≡ Walk.At (length (now s)) ⌝ }
+    ensures { λ r. ⌜ r ≡ layoutOf (now (s .entry)) ⌝ }
+{
+    let fluids = models_of(s, Kind::Fluid, byte(s, 0) % 16, HEADER_WIDTH);
+    let boundaries = models_of(s, Kind::Boundary, byte(s, 1) / 16, fluids.end);
+    Layout { fluids, boundaries }
+}

@@ -1,0 +1,196 @@
+-- Where answers stand: counted model by model, as the layout gives them, and particle by particle, as they are needed,
+-- they are as many. Both counts are sums over the heads of the models. Assumes nothing.
+use Prim.Native.Nat.{ℕ, zero, suc, _+_, _*_, _<_, _≤_}
+use mathlib.Core.Path.{_≡_, refl, sym, ap, _∙_, fun-ext}
+use mathlib.Core.Bool.{Bool, true, false}
+use mathlib.Core.List.{List, [], _∷_, map, map-map, map-append, flatten}
+use native.Mathlib.Nat.{mul-zero, mul-suc, mul-add}
+use native.Mathlib.Numerals.{add-one}
+use native.Mathlib.Omega.{arith}
+use lib.Dec.{eqb}
+use lib.ListN.{length, getD}
+use Rattle.lists.specs.Lists.{choose, sum, table, trail}
+use Rattle.lists.proofs.Lists.{table-same}
+use Rattle.lists.proofs.Numbering.{length-trail, trail-table, sum-next, sum-append}
+use Rattle.scene_format.specs.Bytes.{Bytes}
+use Rattle.scene_format.specs.Format.{axes, mostParticles, mostOfAKind, modelNumber, particlesAt, keepsAt, firstRecord}
+use Rattle.scene_format.specs.Format.{nextRecord, modelEnd, firstHead, headAt, headsOf, countsOf, Location}
+use Rattle.scene_format.specs.Format.{modelLocations, locationsOf}
+use Rattle.scene_format.specs.Scene.{BoundaryParticle, fluidSize, boundarySize}
+use Rattle.scene_format.specs.SceneOf.{boundaryParticleAt, headerOf, sceneOf}
+use Rattle.scene_format.specs.declared.Kind.{Kind}
+use Rattle.scene_format.specs.declared.Kind.the-variants.{Fluid, Boundary}
+use Rattle.scene_format.specs.declared.Refusal.{Refusal}
+use Rattle.scene_format.specs.declared.Walk.the-variants as walk
+use Rattle.scene_layout.specs.Layout.{layoutModels, layoutOf}
+use Rattle.scene_check.specs.Check.{Passed}
+use Rattle.scene_lengths.specs.Lengths.{fluidAnswerWidth, keptAnswerWidth, answerWidth, boundaryAnswerWidth}
+use Rattle.scene_lengths.specs.Lengths.{workWidth, answersNeeded, workNeeded, lengthsNeeded, needsAfter, needsOf}
+use Rattle.scene_lengths.specs.Lengths.{widthIn, answersBefore, answersIn, FewIn}
+use Rattle.scene_check.specs.Walk.{checked}
+use Rattle.scene_layout.specs.declared.Layout.{Layout}
+use Rattle.scene_lengths.specs.declared.Lengths.{Lengths}
+use Rattle.scene_lengths.specs.declared.Needs.the-variants.{Lists, Refused}
+use Rattle.scene_check.proofs.Accepted.{accepted}
+use Rattle.scene_layout.proofs.Filled.{padded-at}
+use Rattle.scene_layout.proofs.Locations.{mapped-at, counts-at, fluid-size-sum, boundary-size-sum}
+use Rattle.scene_check.proofs.Records.{fluid-size-few, boundary-size-few, keeps-below}
+
+-- ---- one model more
+
+module _ (κ : Kind) (keeps counts : List ℕ) where
+  pub answers-none : answersBefore κ keeps counts 0 ≡ 0
+  unfolding answersBefore table sum
+  answers-none = refl
+
+  pub answers-next : (m : ℕ)
+      → answersBefore κ keeps counts (m + 1) ≡ answersBefore κ keeps counts m + widthIn κ keeps m * getD counts m 0
+  unfolding answersBefore
+  answers-next m = rw (add-one m) (sum-next m _)
+
+-- a boundary's answers are few
+pub few-answers : (keeps count : ℕ) → count ≤ mostParticles
+    → answerWidth axes Boundary keeps * count ≤ keptAnswerWidth axes * mostParticles
+unfolding answerWidth
+few-answers zero count h = omega arith
+few-answers (suc keeps) count h = omega arith
+
+-- ---- the models of a kind, where each particle has w of its model's head
+
+module _ (κ : Kind) (b : List ℕ) where
+  model-sum : (w : ℕ → ℕ) (head : ℕ) (t : List ℕ)
+      → sum (map (λ (p : Location). w (p .head)) (map (λ at. record { head = head; at = at }) t)) ≡ w head * length t
+  unfolding sum
+  model-sum w head [] = sym (mul-zero (w head))
+  model-sum w head (x ∷ t) = omega (arith, model-sum w head t, mul-suc (w head) (length t))
+
+  locations-sum : (w : ℕ → ℕ) (heads : List ℕ)
+      → sum (map (λ p. w (p .head)) (flatten (map (modelLocations κ b) heads)))
+      ≡ sum (map (λ head. w head * particlesAt κ b head) heads)
+  unfolding flatten sum modelLocations
+  locations-sum w [] = refl
+  locations-sum w (head ∷ heads) =
+      let t = trail (particlesAt κ b head) (nextRecord κ b head) (firstRecord κ head) in
+      let records : List Location = map (λ at. record { head = head; at = at }) t in
+      ap sum (map-append (λ (p : Location). w (p .head)) records (flatten (map (modelLocations κ b) heads)))
+      ∙ sum-append (map (λ (p : Location). w (p .head)) records) _
+      ∙ omega (
+        arith,
+        model-sum w head t,
+        locations-sum w heads,
+        ap (λ (n : ℕ). w head * n) (length-trail (nextRecord κ b head) (particlesAt κ b head) (firstRecord κ head)),
+      )
+
+  -- what the layout has for model m is that of its head
+  pub layout-keeps : (m : ℕ) → m < modelNumber κ b → getD (layoutModels κ b .keeps) m 0 ≡ keepsAt b (headAt κ b m)
+  unfolding layoutModels
+  layout-keeps m h = padded-at _ m ∙ mapped-at κ b (keepsAt b) 0 m h
+
+  pub layout-counts : (m : ℕ) → m < modelNumber κ b
+      → getD (layoutModels κ b .counts) m 0 ≡ particlesAt κ b (headAt κ b m)
+  unfolding layoutModels
+  layout-counts m h = padded-at _ m ∙ counts-at κ b m h
+
+  models-sum : answersIn κ (layoutModels κ b)
+      ≡ sum (map (λ head. answerWidth axes κ (keepsAt b head) * particlesAt κ b head) (headsOf κ b))
+  unfolding answersBefore layoutModels headsOf
+  models-sum =
+      ap sum
+      (table-same (modelNumber κ b) _ _ (λ m h. rw (layout-keeps m h, layout-counts m h))
+      ∙ sym (trail-table (modelEnd κ b) (λ head. answerWidth axes κ (keepsAt b head) * particlesAt κ b head)
+      (modelNumber κ b) (firstHead κ b)))
+
+-- ---- a scene
+
+sum-scaled : (c : ℕ) (f : ℕ → ℕ) (xs : List ℕ) → sum (map (λ x. c * f x) xs) ≡ c * sum (map f xs)
+unfolding sum
+sum-scaled c f [] = sym (mul-zero c)
+sum-scaled c f (x ∷ xs) = omega (arith, sum-scaled c f xs, mul-add c (f x) (sum (map f xs)))
+
+kept-or-not : (k : ℕ) → k < 2 → choose (eqb k 1) 1 0 ≡ k
+unfolding choose
+kept-or-not zero h = refl
+kept-or-not (suc zero) h = refl
+kept-or-not (suc (suc k)) h = absurd (omega arith)
+
+module _ (b : List ℕ) where
+  -- by whether its boundary keeps forces
+  pub boundary-width : Bytes b → (p : Location)
+      → boundaryAnswerWidth axes (boundaryParticleAt b p) ≡ answerWidth axes Boundary (keepsAt b (p .head))
+  unfolding boundaryAnswerWidth boundaryParticleAt
+  boundary-width y p = ap (answerWidth axes Boundary) (kept-or-not (keepsAt b (p .head)) (keeps-below b y (p .head)))
+
+  pub fluid-answers : answersIn Fluid (layoutModels Fluid b) ≡ fluidAnswerWidth axes * fluidSize (sceneOf b)
+  unfolding answerWidth countsOf
+  fluid-answers =
+      models-sum Fluid b
+      ∙ sum-scaled (fluidAnswerWidth axes) (particlesAt Fluid b) (headsOf Fluid b)
+      ∙ ap (λ (n : ℕ). fluidAnswerWidth axes * n) (sym (fluid-size-sum b))
+
+  boundary-answers : Bytes b
+      → answersIn Boundary (layoutModels Boundary b)
+      ≡ sum (map (boundaryAnswerWidth axes) (sceneOf b .boundaryParticles))
+  unfolding sceneOf locationsOf
+  boundary-answers y =
+      let w : ℕ → ℕ = λ head. answerWidth axes Boundary (keepsAt b head) in
+      models-sum Boundary b
+      ∙ sym (locations-sum Boundary b w (headsOf Boundary b))
+      ∙ ap (λ (f : Location → ℕ). sum (map f (locationsOf Boundary b))) (fun-ext (λ p. sym (boundary-width y p)))
+      ∙ ap sum (sym (map-map (boundaryAnswerWidth axes) (boundaryParticleAt b) (locationsOf Boundary b)))
+
+  -- as many as are needed
+  pub answers-needed : Bytes b
+      → answersNeeded (sceneOf b)
+      ≡ fluidAnswerWidth axes * fluidSize (sceneOf b) + answersIn Boundary (layoutModels Boundary b)
+  unfolding answersNeeded headerOf sceneOf
+  answers-needed y = rw (boundary-answers y)
+
+  pub work-needed : workNeeded (sceneOf b) ≡ workWidth axes * fluidSize (sceneOf b) + boundarySize (sceneOf b)
+  unfolding workNeeded headerOf sceneOf
+  work-needed = refl
+
+-- ---- a scene that passed the check, with its layout
+
+module _ {b : List ℕ} {layout : Layout} (passed : Passed b layout) where
+  pub fluids-total : layout .fluids .total ≡ fluidSize (sceneOf b)
+  unfolding layoutOf layoutModels
+  fluids-total = rw (passed .layoutIs) (sym (fluid-size-sum b))
+
+  pub boundaries-total : layout .boundaries .total ≡ boundarySize (sceneOf b)
+  unfolding layoutOf layoutModels
+  boundaries-total = rw (passed .layoutIs) (sym (boundary-size-sum b))
+
+  pub few-in : FewIn layout
+  unfolding layoutOf layoutModels
+  few-in =
+      let ok = accepted b (passed .walk) .fields in
+      rw (passed .layoutIs)
+      (record {
+        fluids = omega (arith, fluid-size-sum b, fluid-size-few b (passed .walk));
+        boundaries = omega (arith, boundary-size-sum b, boundary-size-few b (passed .walk));
+        models =
+            record {
+              models = omega (arith, ok .header .few Boundary);
+              each = λ m l. rw (layout-counts Boundary b m l) (ok .models Boundary m l .few);
+            };
+      })
+
+  pub lengths-are : {behind : ℕ} → behind ≡ answersIn Boundary (layout .boundaries)
+      → _≡_ {A = Lengths}
+      (record {
+        answers = fluidAnswerWidth axes * layout .fluids .total + behind;
+        work = workWidth axes * layout .fluids .total + layout .boundaries .total;
+      })
+      (lengthsNeeded (sceneOf b))
+  unfolding layoutOf
+  lengths-are e =
+      rw (e, fluids-total, boundaries-total, ← work-needed b)
+      (rw (passed .layoutIs, ← answers-needed b (passed .bytes)))
+
+  pub accepted-needs : {l : Lengths} → l ≡ lengthsNeeded (sceneOf b) → Lists l ≡ needsOf b
+  unfolding needsOf needsAfter
+  accepted-needs e = rw (passed .walk, e)
+
+pub refused-needs : (b : List ℕ) {r : Refusal} → checked b ≡ walk.Refused r → Refused r ≡ needsOf b
+unfolding needsOf needsAfter
+refused-needs b q = rw q

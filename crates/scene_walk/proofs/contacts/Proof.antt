@@ -1,0 +1,62 @@
+-- `scene_walk::contacts` meets its contract: what remains from here is the whole, turn by turn. Assumes nothing.
+use Prim.Native.Nat.{_-_}
+use borrow.Author.Needs.{needs}
+use Rattle.scene_walk.specs.Walk.{contact}
+use Rattle.scene_fields.proofs.Walks.{Remains, none-done, one-more-done, turn-refused, all-done}
+use Rattle.scene_walk.proofs.contacts.Statement.{statement}
+use Rattle.scene_walk.proofs.contacts.Tie as tie
+
+abbrev Inv-loop : tie.InvT-loop
+Inv-loop s d n from at₀ i₀ at i = Remains (contact d s) n from i at
+
+abbrev μ-loop : tie.MeasureT-loop
+μ-loop s d n from at₀ i₀ at i = n - i
+
+loop-holds : tie.Need-loop-holds Inv-loop μ-loop
+loop-holds c = none-done
+
+contact-requires : tie.Need-contact-requires Inv-loop μ-loop
+contact-requires c κs = search needs
+
+enum-known-w : tie.Need-enum-known-w Inv-loop μ-loop
+enum-known-w c = search needs
+
+enum-told : tie.Need-enum-told Inv-loop μ-loop
+enum-told c = search needs
+
+returns : tie.Need-returns Inv-loop μ-loop
+returns c =
+    let t = c .before .before in
+    turn-refused (t .before .before .loop .inv) (t .before .loop-test .taken) (t .contact .ensures)
+    (c .enum-told .given .1)
+
+add-i : tie.Need-add-i Inv-loop μ-loop
+add-i c = search needs
+
+loop-less : tie.Need-loop-less Inv-loop μ-loop
+loop-less c = search needs
+
+loop-again : tie.Need-loop-again Inv-loop μ-loop
+loop-again c =
+    let t = c .before .before .before in
+    one-more-done (t .before .before .loop .inv) (t .before .loop-test .taken) (t .contact .ensures)
+    (c .before .w .given .1)
+
+returns-2 : tie.Need-returns-2 Inv-loop μ-loop
+returns-2 c = all-done (c .before .loop .inv) (c .loop-test .left)
+
+pub contacts-spec : {M : Type 1} → statement M
+contacts-spec =
+    tie.close
+    (tie.spec
+    Inv-loop
+    μ-loop
+    loop-holds
+    contact-requires
+    enum-known-w
+    enum-told
+    returns
+    add-i
+    loop-less
+    loop-again
+    returns-2)

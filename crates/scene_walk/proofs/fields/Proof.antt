@@ -1,0 +1,125 @@
+-- `scene_walk::fields` meets its contract: header, fluids, boundaries and the end, up to the first refusal; the header
+-- is there once it is passed. Assumes nothing.
+use Prim.Native.Nat.{_≤_}
+use mathlib.Core.Path.{sym, _∙_}
+use native.Mathlib.Omega.{arith}
+use lib.ListN.{length}
+use borrow.Author.Needs.{needs}
+use Rattle.scene_fields.specs.Fields.{_▹_}
+use Rattle.scene_format.specs.Format.{axes, headerWidth}
+use Rattle.scene_walk.specs.Walk.{modelsOf, fields}
+use Rattle.scene_walk.proofs.Walked.{header-leads}
+use Rattle.scene_walk.proofs.fields.Statement.{statement}
+use Rattle.scene_walk.proofs.fields.Tie as tie
+
+abbrev Begin : tie.After-first → tie.Start
+Begin c = c .before .before .before .before
+
+header-there : (c : tie.After-first) → headerWidth axes ≤ length (Begin c .args .s .now)
+header-there c =
+    header-leads (Begin c .args .s .now) _ (sym (c .before .before .header .ensures) ∙ c .first .given .1) .1 .room
+
+header-requires : tie.Need-header-requires
+header-requires c κs = search needs
+
+enum-known-first : tie.Need-enum-known-first
+enum-known-first c = search needs
+
+enum-told : tie.Need-enum-told
+enum-told c = search needs
+
+returns : tie.Need-returns
+unfolding fields modelsOf _▹_
+returns c = let q = c .enum-told .given .1 in rw (sym (c .before .before .header .ensures) ∙ q) q
+
+byte-requires : tie.Need-byte-requires
+byte-requires c κs = omega (arith, header-there (c .before))
+
+models-requires : tie.Need-models-requires
+models-requires c κs = search needs
+
+enum-known-fluids : tie.Need-enum-known-fluids
+enum-known-fluids c = search needs
+
+enum-told-2 : tie.Need-enum-told-2
+enum-told-2 c = search needs
+
+returns-2 : tie.Need-returns-2
+unfolding fields modelsOf _▹_
+returns-2 c =
+    let r = c .before .before in
+    let p₁ = r .before .before .before in
+    let q = c .enum-told2 .given .1 in
+    rw (
+      sym (p₁ .before .before .header .ensures)
+          ∙ p₁ .first .given .1,
+      ← r .before .byte .ensures .0,
+      sym (r .models .ensures) ∙ q,
+    ) q
+
+byte-requires-2 : tie.Need-byte-requires-2
+byte-requires-2 c κs = omega (arith, header-there (c .before .before .before .before .before .before))
+
+models-requires-2 : tie.Need-models-requires-2
+models-requires-2 c κs = search needs
+
+enum-known-boundaries : tie.Need-enum-known-boundaries
+enum-known-boundaries c = search needs
+
+enum-told-3 : tie.Need-enum-told-3
+enum-told-3 c = search needs
+
+returns-3 : tie.Need-returns-3
+unfolding fields modelsOf _▹_
+returns-3 c =
+    let r = c .before .before in
+    let p₂ = r .before .before .before in
+    let p₁ = p₂ .before .before .before .before .before in
+    let q = c .enum-told3 .given .1 in
+    rw (
+      sym (p₁ .before .before .header .ensures) ∙ p₁ .first .given .1,
+      ← p₂ .before .before .before .byte .ensures .0,
+      sym (p₂ .before .before .models .ensures) ∙ p₂ .fluids .given .1,
+      ← r .before .byte2 .ensures .0,
+      sym (r .models2 .ensures) ∙ q,
+    )
+    q
+
+ended-requires : tie.Need-ended-requires
+ended-requires c κs = search needs
+
+returns-4 : tie.Need-returns-4
+unfolding fields modelsOf _▹_
+returns-4 c =
+    let p₃ = c .before .before in
+    let p₂ = p₃ .before .before .before .before .before in
+    let p₁ = p₂ .before .before .before .before .before in
+    rw (
+      sym (p₁ .before .before .header .ensures) ∙ p₁ .first .given .1,
+      ← p₂ .before .before .before .byte .ensures .0,
+      sym (p₂ .before .before .models .ensures) ∙ p₂ .fluids .given .1,
+      ← p₃ .before .before .before .byte2 .ensures .0,
+      sym (p₃ .before .before .models2 .ensures) ∙ p₃ .boundaries .given .1,
+    )
+    (c .ended .ensures)
+
+pub fields-spec : {M : Type 1} → statement M
+fields-spec =
+    tie.close
+    (tie.spec
+    header-requires
+    enum-known-first
+    enum-told
+    returns
+    byte-requires
+    models-requires
+    enum-known-fluids
+    enum-told-2
+    returns-2
+    byte-requires-2
+    models-requires-2
+    enum-known-boundaries
+    enum-told-3
+    returns-3
+    ended-requires
+    returns-4)

@@ -1,0 +1,61 @@
+-- The walk through the fields of a packed scene, in the order in which they stand: each is tested present (refusal 1)
+-- and then by its own rule (2, 3, 4, 6); then come bytes that follow (5) (FORMAT 2.2). Definitions only.
+use Prim.Native.Nat.{ℕ, _+_, _*_}
+use mathlib.Core.List.{List}
+use Rattle.scene_fields.specs.Fields.{_▹_, times, plain, double, count, halves, ended}
+use Rattle.scene_format.specs.Format.{axes, knownVersion, modelNumber, particlesAt, keepsAt, nameWidth, contactCount}
+use Rattle.scene_format.specs.Format.{boundaryContactCount}
+use Rattle.scene_format.specs.declared.Kind.{Kind}
+use Rattle.scene_format.specs.declared.Kind.the-variants.{Fluid, Boundary}
+use Rattle.scene_format.specs.declared.Walk.{Walk}
+use Rattle.scene_fields.specs.declared.fields.Half.the-variants.{Fixed, ModelCount}
+
+-- the version and the number of fluids, the number of boundaries and four zero bits, the least and the most iterations;
+-- step length, remaining time, error limit and gravity
+unfoldable pub header : List ℕ → ℕ → Walk
+header b at =
+    halves b (Fixed knownVersion) ModelCount at
+    ▹ halves b ModelCount (Fixed 0)
+    ▹ plain b 1
+    ▹ plain b 1
+    ▹ times (3 + axes) (double b)
+
+-- a contact: its name, and n doubles
+unfoldable pub contact : ℕ → List ℕ → ℕ → Walk
+contact n b at = plain b nameWidth at ▹ times n (double b)
+
+-- position, velocity, acceleration, volume, warm pressure, two counts, the contacts, each with a weight and a gradient
+unfoldable pub fluidRecord : List ℕ → ℕ → Walk
+fluidRecord b at =
+    times (3 * axes + 2) (double b) at
+    ▹ plain b 1
+    ▹ plain b 1
+    ▹ times (contactCount Fluid b at) (contact (1 + axes) b)
+    ▹ times (contactCount Boundary b at) (contact (1 + axes) b)
+
+-- velocity, force if k is 1, a count, the contacts, each with a weight
+unfoldable pub boundaryRecord : List ℕ → ℕ → ℕ → Walk
+boundaryRecord b k at =
+    times (axes + axes * k) (double b) at ▹ plain b 1 ▹ times (boundaryContactCount b k at) (contact 1 b)
+
+-- a record of the model whose head is at an offset
+unfoldable pub recordOf : Kind → List ℕ → ℕ → ℕ → Walk
+recordOf Fluid b head = fluidRecord b
+recordOf Boundary b head = boundaryRecord b (keepsAt b head)
+
+-- what stands before the first record: the count, and a fluid's rest density
+unfoldable pub headOf : Kind → List ℕ → ℕ → Walk
+headOf Fluid b at = count Fluid b at ▹ double b
+headOf Boundary b at = count Boundary b at
+
+-- a model with its records
+unfoldable pub modelOf : Kind → List ℕ → ℕ → Walk
+modelOf κ b head = headOf κ b head ▹ times (particlesAt κ b head) (recordOf κ b head)
+
+-- all models of a kind
+unfoldable pub modelsOf : Kind → List ℕ → ℕ → Walk
+modelsOf κ b = times (modelNumber κ b) (modelOf κ b)
+
+-- all fields
+unfoldable pub fields : List ℕ → Walk
+fields b = header b 0 ▹ modelsOf Fluid b ▹ modelsOf Boundary b ▹ ended b

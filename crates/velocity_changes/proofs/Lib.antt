@@ -1,3 +1,0 @@
-pub mod Accelerations
-pub mod Losses
-pub mod Motions
