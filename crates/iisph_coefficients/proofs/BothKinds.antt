@@ -2,7 +2,7 @@
 -- its boundary contacts, which is the rules' sum over both; the factors between them are the rules'. Each list of
 -- contacts is the particle's. Assumes nothing.
 use Prim.Native.Nat.{ℕ}
-use mathlib.Core.Path.{_≡_, refl, ap, _∙_}
+use mathlib.Core.Path.{_≡_, ap, _∙_}
 use mathlib.Core.List.{List}
 use lib.Ieee.{Float}
 use Rattle.lists.specs.Lists.{fold}

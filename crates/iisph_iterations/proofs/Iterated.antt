@@ -1,7 +1,7 @@
 -- One iteration's passes yield the rules' iteration: quotients, dij_pjl, next pressures with their error terms, then
 -- the exchange. Each pass finds what it needs where an earlier one stored it, and keeps what later ones need. Assumes
 -- nothing.
-use Prim.Native.Nat.{ℕ, zero, suc, _+_, _*_, _<_, _≤_}
+use Prim.Native.Nat.{ℕ, zero, suc, _+_, _<_, _≤_}
 use mathlib.Core.Path.{_≡_, refl, sym, ap, _∙_}
 use mathlib.Core.Logic.{inl, inr}
 use mathlib.Core.List.{List, [], _∷_, map}

@@ -1,7 +1,7 @@
 -- The work list before the iterations holds what they need: each coefficient in its slot, the first pressures, masses
 -- and volumes. The coefficients' row is taken apart slot by slot; the other rows and the volumes stay while it is
 -- stored. Assumes nothing.
-use Prim.Native.Nat.{ℕ, suc, _+_, _*_, _<_, _≤_}
+use Prim.Native.Nat.{ℕ, suc, _+_, _<_, _≤_}
 use mathlib.Core.Path.{_≡_, refl, sym, ap, _∙_}
 use mathlib.Core.List.{List, [], _∷_, _++_}
 use mathlib.Core.Logic.{inr}

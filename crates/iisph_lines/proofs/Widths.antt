@@ -1,21 +1,18 @@
 -- How long the parts of a line are: each by the lengths of what it is made of. Assumes nothing.
-use Prim.Native.Nat.{ℕ, suc, _+_, _*_, _^_, _<_, _≤_}
-use mathlib.Core.Path.{_≡_, ap, _∙_}
+use Prim.Native.Nat.{ℕ, _+_, _*_}
+use mathlib.Core.Path.{_≡_}
 use mathlib.Core.List.{List}
 use native.Mathlib.Omega.{arith}
-use lib.ListN.{length, getD, length-append}
-use lib.Ieee.{Float, nan}
-use Rattle.lists.specs.Stores.{Writes}
+use lib.ListN.{length, length-append}
+use lib.Ieee.{Float}
 use Rattle.timestep_manager.specs.declared.Clock.{Clock}
 use Rattle.scene_format.specs.declared.Kind.{Kind}
 use Rattle.iisph_rules.specs.declared.Ending.{Ending}
 use Rattle.iisph_rules.specs.declared.Ending.the-variants.{Unswept}
 use Rattle.iisph_rules.specs.declared.Report.{Report}
-use Rattle.iisph_rules.proofs.EndToEnd.{length-rows, sum-same}
-use Rattle.iisph_words.specs.Digits.{decimalOf, mostDigits}
-use Rattle.iisph_words.specs.Words.{pairText, doubleTextWidth, doubleText, doublesText, kindWord}
+use Rattle.iisph_words.specs.Digits.{decimalOf}
+use Rattle.iisph_words.specs.Words.{pairText, doubleTextWidth, kindWord}
 use Rattle.iisph_lines.specs.Lines.{sweptText, endingText, stepLine, clockLine, particleLine}
-use Rattle.iisph_words.proofs.Numbers.{length-hex, digits-most}
 use Rattle.iisph_words.proofs.WordWidths.{length-double}
 
 pub length-swept : (word : List ℕ) (n : ℕ) (error : Float)

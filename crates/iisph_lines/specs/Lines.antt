@@ -3,7 +3,7 @@
 use Prim.Native.Nat.{ℕ, _+_, _*_}
 use mathlib.Core.List.{List, [], _∷_, _++_, flatten}
 use lib.ListN.{getD}
-use lib.Ieee.{Float, nan}
+use lib.Ieee.{Float}
 use Rattle.lists.specs.Lists.{table}
 use Rattle.timestep_manager.specs.declared.Clock.{Clock}
 use Rattle.scene_format.specs.Format.{axes}

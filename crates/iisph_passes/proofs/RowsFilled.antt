@@ -17,9 +17,8 @@ use Rattle.iisph_rows.specs.Passes.{massRow, advectedRow, volumes, Coefficients
 use Rattle.iisph_coefficients.specs.Neighbours.{coefficientRow}
 use Rattle.iisph_passes.specs.Prepare.{afterPass, rowsFilled, prepared}
 use Rattle.iisph_passes.specs.Traverse.{slotOf, rowOf}
-use Rattle.iisph_rows.specs.Rows.{rowAt, elementAt, stored, Rows, Behind}
-use Rattle.iisph_rows.specs.Rows.{densitySlot, predictedSlot, aiiSlot, diiSlot, pressureSlot, dijSlot, massSlot}
-use Rattle.iisph_rows.specs.Rows.{quotientSlot, nextPressureSlot}
+use Rattle.iisph_rows.specs.Rows.{rowAt, stored, Rows, Behind}
+use Rattle.iisph_rows.specs.Rows.{densitySlot, dijSlot, massSlot}
 use Rattle.scene_format.specs.Format.{axes}
 use Rattle.scene_lengths.specs.Lengths.{workWidth}
 use Rattle.iisph_passes.specs.declared.traverse.Pass.{Pass}

@@ -24,7 +24,7 @@ use Rattle.scene_format.specs.Format.{axes}
 use Rattle.scene_lengths.specs.Lengths.{workWidth}
 use Rattle.iisph_rows.specs.Passes.{firstPressure, CoefficientsReady}
 use Rattle.iisph_coefficients.specs.Neighbours.{coefficientRow, CoefficientsAre}
-use Rattle.iisph_pressures.specs.IterationRows.{pressuresIn, dijsIn, rowQuotient, quotientRow, rowShare, NextIs}
+use Rattle.iisph_pressures.specs.IterationRows.{pressuresIn, dijsIn, rowQuotient, rowShare, NextIs}
 use Rattle.iisph_pressures.specs.IterationRows.{IterationReady, Iterating, DijReady}
 use Rattle.iisph_coefficients.specs.declared.coefficients.CoefficientsOf.{CoefficientsOf}
 use Rattle.iisph_pressures.specs.declared.iteration.Next.{Next}

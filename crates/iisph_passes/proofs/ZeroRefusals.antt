@@ -13,29 +13,20 @@ use lib.Seq.{sets, length-sets}
 use Rattle.math.specs.Real.{+0}
 use Rattle.lists.specs.Lists.{choose}
 use Rattle.lists.proofs.Lists.{length-table, map-table}
-use Rattle.scene_format.specs.Bytes.{Bytes}
-use Rattle.scene_format.specs.Format.{countsOf, locationOf}
-use Rattle.scene_layout.specs.Layout.{layoutOf, layoutModels}
+use Rattle.scene_format.specs.Format.{locationOf}
 use Rattle.scene_format.specs.Scene.{Scene, fluidSize, boundarySize, particle}
 use Rattle.scene_format.specs.SceneOf.{sceneOf}
 use Rattle.scene_lengths.specs.Lengths.{workNeeded}
-use Rattle.scene_check.specs.Walk.{checked}
-use Rattle.scene_layout.specs.declared.Layout.{Layout}
 use Rattle.scene_format.specs.declared.Kind.the-variants.{Fluid}
 use Rattle.scene_format.specs.declared.Refusal.{Refusal}
 use Rattle.scene_format.specs.declared.Refusal.the-variants.{ZeroDensity, ZeroPredictedDensity}
-use Rattle.scene_format.specs.declared.Walk.the-variants.{At}
-use Rattle.scene_check.proofs.Records.{fluid-size-few, boundary-size-few}
-use Rattle.scene_layout.proofs.Locations.{fluid-size, boundary-size, fluid-size-sum, boundary-size-sum}
 use Rattle.iisph_rules.specs.Coefficients.{Coefficients, coefficientsOf, coefficients}
 use Rattle.scene_index.specs.Index.{recordsAt, Indexed}
 use Rattle.iisph_rows.specs.Passes.{volumes}
 use Rattle.iisph_coefficients.specs.Neighbours.{coefficientRow}
 use Rattle.iisph_passes.specs.Prepare.{rowsFilled, prepared, workPrepared, readiness, zeroAnswer}
 use Rattle.iisph_rules.specs.Step.{reportOf, unlessZero, sceneAnswer}
-use Rattle.iisph_rows.specs.Rows.{densitySlot, predictedSlot, rowAt, elementAt, column, Behind}
-use Rattle.scene_lengths.specs.Lengths.{workWidth}
-use Rattle.scene_format.specs.Format.{axes}
+use Rattle.iisph_rows.specs.Rows.{densitySlot, predictedSlot, rowAt, column, Behind}
 use Rattle.iisph_rules.specs.declared.Report.{Report}
 use Rattle.iisph_rules.specs.declared.StepAnswer.{StepAnswer}
 use Rattle.iisph_rules.specs.declared.StepAnswer.the-variants as answer

@@ -7,15 +7,15 @@ use mathlib.Core.Bool.{Bool, true, false, cond}
 use mathlib.Core.List.{List}
 use native.Mathlib.Omega.{arith}
 use lib.Ieee
-use lib.Ieee.{Float, nan}
-use lib.ListN.{length, getD}
+use lib.Ieee.{Float}
+use lib.ListN.{length}
 use Rattle.math.specs.Real.{_⊕_, _⊖_, _⊗_, _⊘_, ⊝, +0, half, magnitude}
 use Rattle.math.specs.Vector.{Vector, coordinates, origin, _⊞_, _⊟_, _⊡_, _·_}
 use Rattle.lists.specs.Lists.{fold, choose}
 use Rattle.math.specs.declared.Vec3.{Vec3}
 use Rattle.scene_format.specs.Bytes.{vectorAt}
 use Rattle.scene_format.specs.Scene.{Scene, FluidParticle, Contact, fluidSize, particle}
-use Rattle.scene_format.specs.SceneOf.{targetAt, contactAt, contactList, sceneOf}
+use Rattle.scene_format.specs.SceneOf.{targetAt, contactAt, sceneOf}
 use Rattle.scene_format.specs.declared.Kind.{Kind}
 use Rattle.scene_format.specs.declared.Kind.the-variants.{Fluid, Boundary}
 use Rattle.iisph_rules.specs.Coefficients.{dt, overContacts, particleMass, fluidMass, boundaryMass, density, djiFactor}

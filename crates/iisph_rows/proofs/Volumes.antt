@@ -3,8 +3,8 @@
 use Prim.Native.Nat.{ℕ, suc, _+_, _<_, _≤_}
 use mathlib.Core.Path.{_≡_, refl, sym, ap, _∙_}
 use mathlib.Core.Bool.{Bool, true, false, cond}
-use mathlib.Core.List.{List, _++_}
-use native.Mathlib.Nat.{add-zero, le-antisymm}
+use mathlib.Core.List.{List}
+use native.Mathlib.Nat.{le-antisymm}
 use native.Mathlib.Numerals.{add-one}
 use native.Mathlib.Omega.{arith}
 use lib.Ieee.{Float}
@@ -15,11 +15,10 @@ use Rattle.lists.specs.Lists.{table}
 use Rattle.lists.proofs.Fills.{sets-append}
 use Rattle.lists.proofs.Lists.{fold-table, length-table, table-add}
 use Rattle.math.specs.Real.{_⊕_, _⊘_, +0, one, isZero, total}
-use Rattle.scene_check.specs.Check.{Passed}
 use Rattle.scene_check.proofs.Records.{boundary-particle-ok}
 use Rattle.scene_format.specs.Format.{axes, modelNumber, boundaryRecordWidth, boundaryContactCount, countsOf}
 use Rattle.scene_format.specs.Format.{locationOf}
-use Rattle.scene_format.specs.Scene.{Scene, boundarySize, boundary}
+use Rattle.scene_format.specs.Scene.{Scene, boundary}
 use Rattle.scene_format.specs.SceneOf.{boundaryWeights, boundaryParticleAt, sceneOf}
 use Rattle.scene_format.specs.declared.Kind.the-variants.{Boundary}
 use Rattle.scene_index.specs.Index.{recordsAt, Indexed}

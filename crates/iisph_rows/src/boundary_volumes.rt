@@ -19,7 +19,7 @@ ghost use Rattle.math.specs.Real.{+0, total};
 ghost use Rattle.scene_check.specs.Check.{Passed};
 ghost use Rattle.scene_format.specs.Bytes.{FiniteAt};
 ghost use Rattle.scene_format.specs.Format.{boundaryContactWidth, weightOffset};
-ghost use Rattle.scene_format.specs.Scene.{fluidSize, boundarySize, boundary};
+ghost use Rattle.scene_format.specs.Scene.{fluidSize, boundary};
 ghost use Rattle.scene_format.specs.SceneOf.{boundaryWeights, sceneOf};
 ghost use Rattle.scene_index.specs.Index.{Indexed};
 ghost use Rattle.scene_index.specs.Runs.{BoundaryRun};

@@ -1,12 +1,12 @@
 -- What a step answers and leaves in both lists, case by case: refused by the check, lists too short, a zero density, or
 -- done. Each case unfolds the rules' answer once. Assumes nothing.
 use Prim.Native.Nat.{ℕ, _≤_, _<_}
-use mathlib.Core.Path.{_≡_, refl, sym, ap, _∙_}
+use mathlib.Core.Path.{_≡_, refl}
 use mathlib.Core.Bool.{true}
 use mathlib.Core.List.{List, _++_}
 use native.Mathlib.Omega.{arith}
 use lib.Ieee.{Float}
-use lib.ListN.{length, drop, replicate}
+use lib.ListN.{drop, replicate}
 use borrow.Author.Tests.{lt-ltb, le-ltb, lt-leb}
 use Rattle.math.specs.Real.{+0}
 use Rattle.lists.specs.Lists.{choose}

@@ -1,10 +1,9 @@
 -- What a step takes of the header: the numbers that the code reads there are those of the scene's header, and the clock
 -- made of them is the advanced one. By the definition of the header. Assumes nothing.
 use Prim.Native.Nat.{ℕ, _<_}
-use mathlib.Core.Path.{_≡_, _∙_}
+use mathlib.Core.Path.{_≡_}
 use mathlib.Core.List.{List}
 use lib.Ieee.{Float}
-use Rattle.iisph_iterations.specs.declared.«pressure_solve».Stopping.{Stopping}
 use Rattle.iisph_rows.specs.Passes.{PassOver, DrivenPass}
 use Rattle.iisph_rules.specs.Coefficients.{clockOf}
 use Rattle.math.specs.Real.{+0}

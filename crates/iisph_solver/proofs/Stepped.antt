@@ -1,7 +1,7 @@
 -- A step meets its contract in each case: refused by the check, by a short list or by a zero density, or done. From the
 -- cases of the rules' answer and what the passes left in both lists. Assumes nothing.
 use Prim.Native.Nat.{ℕ, _≤_, _<_}
-use mathlib.Core.Path.{_≡_, refl, sym, ap, _∙_}
+use mathlib.Core.Path.{_≡_, sym, ap, _∙_}
 use mathlib.Core.List.{List}
 use native.Mathlib.Omega.{arith}
 use lib.Ieee.{Float}

@@ -1,7 +1,7 @@
 -- Validating a scene answers and leaves the work list as a step does that is refused, or that is done: by the cases of
 -- `stepAnswer`. Refusals 1 to 8 leave the list alone, and what comes after them clears it. Assumes nothing.
 use Prim.Native.Nat.{ℕ, _≤_, _<_}
-use mathlib.Core.Path.{_≡_, refl, sym, ap, _∙_}
+use mathlib.Core.Path.{_≡_, sym, ap, _∙_}
 use mathlib.Core.List.{List, _++_}
 use native.Mathlib.Omega.{arith}
 use lib.Ieee.{Float}

@@ -7,7 +7,6 @@ use native.Mathlib.Omega.{arith}
 use lib.ListN.{length, drop, length-append}
 use lib.Ieee.{Float}
 use Rattle.lists.specs.Stores.{Writes}
-use Rattle.scene_format.specs.Bytes.{Bytes}
 use Rattle.scene_format.specs.Format.{axes, nameableModels}
 use Rattle.scene_format.specs.SceneOf.{sceneOf}
 use Rattle.scene_format.specs.declared.Kind.the-variants.{Fluid, Boundary}

@@ -1,7 +1,7 @@
 -- `iisph_iterations::pressure_solve::pressure_solve` meets its contract. The invariant: what remains from this
 -- iteration on is the whole; the measure is the number of iterations left. Assumes nothing.
-use Prim.Native.Nat.{_-_, _<_, _≤_}
-use mathlib.Core.Path.{_≡_, refl, sym, ap, _∙_}
+use Prim.Native.Nat.{_-_, _<_}
+use mathlib.Core.Path.{refl, sym, ap, _∙_}
 use native.Mathlib.Omega.{arith}
 use denote.Ref.{now}
 use lib.Ieee

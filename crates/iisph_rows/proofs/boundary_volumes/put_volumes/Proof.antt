@@ -1,7 +1,6 @@
 -- `iisph_rows::boundary_volumes::put_volumes` meets its contract: particle by particle. Assumes nothing.
 use Prim.Native.Nat.{_+_, _-_}
 use mathlib.Core.Path.{refl, _∙_}
-use native.Mathlib.Omega.{arith}
 use borrow.Author.Needs.{needs}
 use Rattle.iisph_rules.specs.Coefficients.{boundaryVolume}
 use Rattle.lists.proofs.Fills.{Filling, none-stored, one-more-stored, all-stored}

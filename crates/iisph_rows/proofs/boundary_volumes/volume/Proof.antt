@@ -1,7 +1,6 @@
 -- `iisph_rows::boundary_volumes::volume` meets its contract: the count and the weights stand in the record. Assumes
 -- nothing.
 use mathlib.Core.Path.{sym, _∙_}
-use native.Mathlib.Omega.{arith}
 use borrow.Author.Needs.{needs}
 use Rattle.iisph_rows.proofs.Volumes.{volume-zero, volume-inverse}
 use Rattle.iisph_rows.proofs.boundary_volumes.volume.Statement.{statement}

@@ -2,7 +2,6 @@
 -- together is the rules'. Assumes nothing.
 use Prim.Native.Nat.{_≤_}
 use native.Mathlib.Omega.{arith}
-use denote.Ref.{now}
 use lib.Ieee.{nan}
 use borrow.Author.Needs.{needs}
 use Rattle.iisph_passes.specs.Traverse.{Ready}
