@@ -15,9 +15,6 @@ returns : tie.Need-returns
 unfolding lineOf choose
 returns c = rw (lt-ltb _ _ (c .if1 .taken))
 
-be16-requires : tie.Need-be16-requires
-be16-requires c κs = search needs
-
 returns-2 : tie.Need-returns-2
 unfolding lineOf choose
 returns-2 c = rw (le-ltb _ _ (c .before .before .if1 .left), ← c .before .be16 .ensures .0, lt-ltb _ _ (c .if2 .taken))
@@ -27,9 +24,6 @@ slice-aggregate-print-check c =
     let b = c .before .before in
     let h : b .be16 .result ≤ length (b .before .before .before .args .block .now) = search needs in
     sym (length-take-le _ _ h)
-
-print-check-requires : tie.Need-print-check-requires
-print-check-requires c κs = search needs
 
 returns-3 : tie.Need-returns-3
 unfolding lineOf sceneIn choose
@@ -45,4 +39,4 @@ returns-3 c =
 pub check-block-spec : {M : Type 1} → statement M
 check-block-spec =
     tie.close
-    (tie.spec returns be16-requires returns-2 slice-aggregate-print-check print-check-requires returns-3)
+    (tie.spec returns (λ c κs. search needs) returns-2 slice-aggregate-print-check (λ c κs. search needs) returns-3)

@@ -6,14 +6,8 @@ use Rattle.cases_check.specs.Printed.{printed}
 use Rattle.cases_check.proofs.print_check.Statement.{statement}
 use Rattle.cases_check.proofs.print_check.Tie as tie
 
-check-requires : tie.Need-check-requires
-check-requires c κs = search needs
-
-print-verdict-requires : tie.Need-print-verdict-requires
-print-verdict-requires c κs = search needs
-
 returns : tie.Need-returns
 returns c = c .print-verdict .ensures ∙ ap printed (c .before .check .ensures .verdict)
 
 pub print-check-spec : {M : Type 1} → statement M
-print-check-spec = tie.close (tie.spec check-requires print-verdict-requires returns)
+print-check-spec = tie.close (tie.spec (λ c κs. search needs) (λ c κs. search needs) returns)

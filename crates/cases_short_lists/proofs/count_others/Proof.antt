@@ -21,24 +21,6 @@ loop-holds : tie.Need-loop-holds Inv-loop μ-loop
 unfolding others
 loop-holds c = (refl, omega arith, omega arith)
 
-mul-is-other : tie.Need-mul-is-other Inv-loop μ-loop
-mul-is-other c = search needs
-
-shared-slice-read-is-other : tie.Need-shared-slice-read-is-other Inv-loop μ-loop
-shared-slice-read-is-other c = search needs
-
-is-other-requires : tie.Need-is-other-requires Inv-loop μ-loop
-is-other-requires c κs = search needs
-
-add-n : tie.Need-add-n Inv-loop μ-loop
-add-n c = search needs
-
-add-i : tie.Need-add-i Inv-loop μ-loop
-add-i c = search needs
-
-loop-less : tie.Need-loop-less Inv-loop μ-loop
-loop-less c = search needs
-
 loop-again : tie.Need-loop-again Inv-loop μ-loop
 unfolding others
 loop-again c =
@@ -58,11 +40,11 @@ count-others-spec =
     Inv-loop
     μ-loop
     loop-holds
-    mul-is-other
-    shared-slice-read-is-other
-    is-other-requires
-    add-n
-    add-i
-    loop-less
+    (λ c. search needs)
+    (λ c. search needs)
+    (λ c κs. search needs)
+    (λ c. search needs)
+    (λ c. search needs)
+    (λ c. search needs)
     loop-again
     returns)

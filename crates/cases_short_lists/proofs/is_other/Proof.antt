@@ -7,9 +7,6 @@ use Rattle.cases_short_lists.specs.Marks.{other}
 use Rattle.cases_short_lists.proofs.is_other.Statement.{statement}
 use Rattle.cases_short_lists.proofs.is_other.Tie as tie
 
-to-bits-requires : tie.Need-to-bits-requires
-to-bits-requires c κs = search needs
-
 returns : tie.Need-returns
 unfolding other choose
 returns c = (rw (← c .before .to-bits .ensures, eq-eqb _ _ (c .if1 .taken)), omega arith)
@@ -19,4 +16,4 @@ unfolding other choose
 returns-2 c = (rw (← c .before .to-bits .ensures, ne-eqb _ _ (c .if1 .left)), omega arith)
 
 pub is-other-spec : {M : Type 1} → statement M
-is-other-spec = tie.close (tie.spec to-bits-requires returns returns-2)
+is-other-spec = tie.close (tie.spec (λ c κs. search needs) returns returns-2)

@@ -23,44 +23,14 @@ no-text : FromScene 0
 unfolding writtenFor choose
 no-text = record { scene = 0 ∷ []; short = omega arith; read = record { came = 0; within = omega arith; is = refl } }
 
-slice-aggregate-read-full : tie.Need-slice-aggregate-read-full
-slice-aggregate-read-full c = search needs
-
-read-full-requires : tie.Need-read-full-requires
-read-full-requires c κs = search needs
-
 returns : tie.Need-returns
 returns c = no-text
-
-slice-aggregate-be16 : tie.Need-slice-aggregate-be16
-slice-aggregate-be16 c = search needs
-
-be16-requires : tie.Need-be16-requires
-be16-requires c κs = search needs
-
-mul-n : tie.Need-mul-n
-mul-n c = search needs
-
-slice-aggregate-be16-2 : tie.Need-slice-aggregate-be16-2
-slice-aggregate-be16-2 c = search needs
-
-be16-requires-2 : tie.Need-be16-requires-2
-be16-requires-2 c κs = search needs
-
-add-n : tie.Need-add-n
-add-n c = search needs
 
 returns-2 : tie.Need-returns-2
 returns-2 c = no-text
 
-array-borrow-prefix-scene : tie.Need-array-borrow-prefix-scene
-array-borrow-prefix-scene c = search needs
-
 slice-aggregate-print-scene : tie.Need-slice-aggregate-print-scene
 slice-aggregate-print-scene c = front _ 32769 (c .before .if2 .left)
-
-print-scene-requires : tie.Need-print-scene-requires
-print-scene-requires c κs = search needs
 
 returns-3 : tie.Need-returns-3
 returns-3 c =
@@ -76,17 +46,17 @@ pub print-next-spec : {M : Type 1} → statement M
 print-next-spec =
     tie.close
     (tie.spec
-    slice-aggregate-read-full
-    read-full-requires
+    (λ c. search needs)
+    (λ c κs. search needs)
     returns
-    slice-aggregate-be16
-    be16-requires
-    mul-n
-    slice-aggregate-be16-2
-    be16-requires-2
-    add-n
+    (λ c. search needs)
+    (λ c κs. search needs)
+    (λ c. search needs)
+    (λ c. search needs)
+    (λ c κs. search needs)
+    (λ c. search needs)
     returns-2
-    array-borrow-prefix-scene
+    (λ c. search needs)
     slice-aggregate-print-scene
-    print-scene-requires
+    (λ c κs. search needs)
     returns-3)

@@ -13,22 +13,10 @@ use Rattle.cases_texts.proofs.print_text.Tie as tie
 long : (n : ℕ) → n ≤ length (replicate {A = ℕ} n 0)
 long n = omega (arith, length-replicate {A = ℕ} n 0)
 
-slice-aggregate-text : tie.Need-slice-aggregate-text
-slice-aggregate-text c = search needs
-
-text-requires : tie.Need-text-requires
-text-requires c κs = search needs
-
-array-share-prefix-out : tie.Need-array-share-prefix-out
-array-share-prefix-out c = search needs
-
 slice-aggregate-write-all : tie.Need-slice-aggregate-write-all
 slice-aggregate-write-all c =
     let t = c .before .before .text .ensures in
     sym (length-take-le _ _ (t .within))
-
-write-all-requires : tie.Need-write-all-requires
-write-all-requires c κs = search needs
 
 returns : tie.Need-returns
 returns c = text-in-front (now (c .before .before .before .before .before .before .args .scene)) _ (long 65536)
@@ -38,9 +26,9 @@ pub print-text-spec : {M : Type 1} → statement M
 print-text-spec =
     tie.close
     (tie.spec
-    slice-aggregate-text
-    text-requires
-    array-share-prefix-out
+    (λ c. search needs)
+    (λ c κs. search needs)
+    (λ c. search needs)
     slice-aggregate-write-all
-    write-all-requires
+    (λ c κs. search needs)
     returns)

@@ -10,12 +10,9 @@ returns : tie.Need-returns
 unfolding writtenFor choose
 returns c = rw (lt-ltb _ _ (c .if1 .taken))
 
-print-text-requires : tie.Need-print-text-requires
-print-text-requires c κs = search needs
-
 returns-2 : tie.Need-returns-2
 unfolding writtenFor choose
 returns-2 c = rw (le-ltb _ _ (c .before .if1 .left)) (c .print-text .ensures)
 
 pub print-whole-spec : {M : Type 1} → statement M
-print-whole-spec = tie.close (tie.spec returns print-text-requires returns-2)
+print-whole-spec = tie.close (tie.spec returns (λ c κs. search needs) returns-2)

@@ -14,9 +14,6 @@ below-infinity nan = refl
 below-infinity (inf s) = refl
 below-infinity (fin s m e) = refl
 
-magnitude-requires : tie.Need-magnitude-requires
-magnitude-requires c κs = search needs
-
 float-from-bits-result : tie.Need-float-from-bits-result
 unfolding nanBits
 float-from-bits-result c = tt
@@ -30,4 +27,4 @@ returns-2 : tie.Need-returns-2
 returns-2 c = simp (c .if1 .left)
 
 pub and-finite-spec : {M : Type 1} → statement M
-and-finite-spec = tie.close (tie.spec magnitude-requires float-from-bits-result returns returns-2)
+and-finite-spec = tie.close (tie.spec (λ c κs. search needs) float-from-bits-result returns returns-2)

@@ -7,12 +7,6 @@ use Rattle.cubic_spline.proofs.Answers.{kernel-promise}
 use Rattle.cubic_spline.proofs.answer.Statement.{statement}
 use Rattle.cubic_spline.proofs.answer.Tie as tie
 
-is-distance-requires : tie.Need-is-distance-requires
-is-distance-requires c κs = search needs
-
-is-radius-requires : tie.Need-is-radius-requires
-is-radius-requires c κs = search needs
-
 returns : tie.Need-returns
 unfolding kernelAnswer
 returns c =
@@ -38,4 +32,4 @@ unfolding kernelAnswer
 returns-3 c = kernel-promise _ _ _ _ (simp (sym (c .before .is-distance .ensures) ∙ c .if1 .left))
 
 pub answer-spec : {M : Type 1} → statement M
-answer-spec = tie.close (tie.spec is-distance-requires is-radius-requires returns returns-2 returns-3)
+answer-spec = tie.close (tie.spec (λ c κs. search needs) (λ c κs. search needs) returns returns-2 returns-3)

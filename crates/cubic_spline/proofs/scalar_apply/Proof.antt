@@ -4,18 +4,9 @@ use borrow.Author.Needs.{needs}
 use Rattle.cubic_spline.proofs.scalar_apply.Statement.{statement}
 use Rattle.cubic_spline.proofs.scalar_apply.Tie as tie
 
-normalizer-requires : tie.Need-normalizer-requires
-normalizer-requires c κs = search needs
-
-weight-shape-requires : tie.Need-weight-shape-requires
-weight-shape-requires c κs = search needs
-
-answer-requires : tie.Need-answer-requires
-answer-requires c κs = search needs
-
 returns : tie.Need-returns
 returns c =
     rw (← c .before .weight-shape .ensures .value, ← c .before .before .normalizer .ensures) (c .answer .ensures)
 
 pub scalar-apply-spec : {M : Type 1} → statement M
-scalar-apply-spec = tie.close (tie.spec normalizer-requires weight-shape-requires answer-requires returns)
+scalar-apply-spec = tie.close (tie.spec (λ c κs. search needs) (λ c κs. search needs) (λ c κs. search needs) returns)

@@ -8,24 +8,6 @@ use Rattle.iisph_c.proofs.iisph_needed.Tie as tie
 returns : tie.Need-returns
 returns c = needs-short _ _ (c .if1 .taken)
 
-lengths-needed-requires : tie.Need-lengths-needed-requires
-lengths-needed-requires c κs = search needs
-
-enum-known-lengths : tie.Need-enum-known-lengths
-enum-known-lengths c = search needs
-
-write-lengths-requires : tie.Need-write-lengths-requires
-write-lengths-requires c κs = search needs
-
-enum-known-refusal : tie.Need-enum-known-refusal
-enum-known-refusal c = search needs
-
-write-refusal-requires : tie.Need-write-refusal-requires
-write-refusal-requires c κs = search needs
-
-same-length : tie.Need-same-length
-same-length c = search needs
-
 returns-2 : tie.Need-returns-2
 returns-2 c =
     let w = c .before .before in
@@ -33,9 +15,6 @@ returns-2 c =
     let n = l .before .before in
     needs-lists _ _ (omega (arith, n .before .if1 .left)) (n .lengths-needed .ensures) (l .lengths .given .1)
     (w .write-lengths .ensures .0) (w .write-lengths .ensures .1)
-
-same-length-2 : tie.Need-same-length-2
-same-length-2 c = search needs
 
 returns-3 : tie.Need-returns-3
 returns-3 c =
@@ -50,12 +29,12 @@ iisph-needed-spec =
     tie.close
     (tie.spec
     returns
-    lengths-needed-requires
-    enum-known-lengths
-    write-lengths-requires
-    enum-known-refusal
-    write-refusal-requires
-    same-length
+    (λ c κs. search needs)
+    (λ c. search needs)
+    (λ c κs. search needs)
+    (λ c. search needs)
+    (λ c κs. search needs)
+    (λ c. search needs)
     returns-2
-    same-length-2
+    (λ c. search needs)
     returns-3)

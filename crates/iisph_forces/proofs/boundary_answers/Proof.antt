@@ -18,9 +18,6 @@ use Rattle.iisph_forces.proofs.InitialAnswers.{starts-held, still-room}
 use Rattle.iisph_forces.proofs.boundary_answers.Statement.{statement}
 use Rattle.iisph_forces.proofs.boundary_answers.Tie as tie
 
-slice-aggregate-put-initial : tie.Need-slice-aggregate-put-initial
-slice-aggregate-put-initial c = search needs
-
 abbrev Begin : tie.After-put-initial-arg → tie.Start
 Begin c = c .before .before .before .before .before .before
 
@@ -31,9 +28,6 @@ put-initial-requires : tie.Need-put-initial-requires
 put-initial-requires c κs =
     let p = Begin c .pre in
     (p .0, (p .1 .0, room, p .1 .1))
-
-slice-aggregate-gather-all : tie.Need-slice-aggregate-gather-all
-slice-aggregate-gather-all c = search needs
 
 gather-all-requires : tie.Need-gather-all-requires
 gather-all-requires c κs =
@@ -47,9 +41,6 @@ gather-all-requires c κs =
         still-room _ (now (b .args .answers)) k (m .put-initial .ensures .1) (p .1 .1),
       ),
     )
-
-same-length : tie.Need-same-length
-same-length c = search needs
 
 returns : tie.Need-returns
 returns c =
@@ -67,9 +58,9 @@ pub boundary-answers-spec : {M : Type 1} → statement M
 boundary-answers-spec =
     tie.close
     (tie.spec
-    slice-aggregate-put-initial
+    (λ c. search needs)
     put-initial-requires
-    slice-aggregate-gather-all
+    (λ c. search needs)
     gather-all-requires
-    same-length
+    (λ c. search needs)
     returns)

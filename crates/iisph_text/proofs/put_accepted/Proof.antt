@@ -12,12 +12,6 @@ use Rattle.iisph_text.proofs.put_accepted.Tie as tie
 abbrev Begin : tie.After-step-accepted → tie.Start
 Begin c = c .before .before .before .before .before .before .before
 
-step-accepted-requires : tie.Need-step-accepted-requires
-step-accepted-requires c κs = search needs
-
-enum-known-answer : tie.Need-enum-known-answer
-enum-known-answer c = search needs
-
 put-done-requires : tie.Need-put-done-requires
 put-done-requires c κs =
     let k = c .before .before .before .before .before .before .before .before .before in
@@ -25,21 +19,6 @@ put-done-requires c κs =
     let q = sym (k .step-accepted .ensures .answer) ∙ c .before .before .before .answer .given .1 in
     lines-ready (s .pre .0) _ (answers-front (now (s .args .scene)) _ _ q _ (k .step-accepted .ensures .answersThen))
     (reported (now (s .args .scene)) _ _ q) (omega (arith, s .pre .1 .0, s .pre .1 .1))
-
-enum-known-answer-2 : tie.Need-enum-known-answer-2
-enum-known-answer-2 c = search needs
-
-put-refused-requires : tie.Need-put-refused-requires
-put-refused-requires c κs = search needs
-
-same-length : tie.Need-same-length
-same-length c = search needs
-
-same-length-2 : tie.Need-same-length-2
-same-length-2 c = search needs
-
-same-length-3 : tie.Need-same-length-3
-same-length-3 c = search needs
 
 returns : tie.Need-returns
 returns c =
@@ -53,15 +32,6 @@ returns c =
     (lines-written (s .pre .0) _ (answers-front (now (s .args .scene)) _ _ q _ (k .step-accepted .ensures .answersThen))
     _
     (w .put-done .ensures)))
-
-same-length-4 : tie.Need-same-length-4
-same-length-4 c = search needs
-
-same-length-5 : tie.Need-same-length-5
-same-length-5 c = search needs
-
-same-length-6 : tie.Need-same-length-6
-same-length-6 c = search needs
 
 returns-2 : tie.Need-returns-2
 unfolding answerText
@@ -77,16 +47,16 @@ pub put-accepted-spec : {M : Type 1} → statement M
 put-accepted-spec =
     tie.close
     (tie.spec
-    step-accepted-requires
-    enum-known-answer
+    (λ c κs. search needs)
+    (λ c. search needs)
     put-done-requires
-    enum-known-answer-2
-    put-refused-requires
-    same-length
-    same-length-2
-    same-length-3
+    (λ c. search needs)
+    (λ c κs. search needs)
+    (λ c. search needs)
+    (λ c. search needs)
+    (λ c. search needs)
     returns
-    same-length-4
-    same-length-5
-    same-length-6
+    (λ c. search needs)
+    (λ c. search needs)
+    (λ c. search needs)
     returns-2)

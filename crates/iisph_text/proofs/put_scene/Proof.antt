@@ -9,18 +9,6 @@ use Rattle.iisph_text.proofs.Ran.{scene-run}
 use Rattle.iisph_text.proofs.put_scene.Statement.{statement}
 use Rattle.iisph_text.proofs.put_scene.Tie as tie
 
-check-requires : tie.Need-check-requires
-check-requires c κs = search needs
-
-enum-known-verdict : tie.Need-enum-known-verdict
-enum-known-verdict c = search needs
-
-put-refused-requires : tie.Need-put-refused-requires
-put-refused-requires c κs = search needs
-
-enum-told : tie.Need-enum-told
-enum-told c = search needs
-
 put-accepted-requires : tie.Need-put-accepted-requires
 put-accepted-requires c κs =
     let e = c .before .before .before in
@@ -30,9 +18,6 @@ put-accepted-requires c κs =
           (e .enum-told .given .1),
       b .before .pre,
     )
-
-same-length : tie.Need-same-length
-same-length c = search needs
 
 returns : tie.Need-returns
 unfolding answerText
@@ -46,30 +31,18 @@ returns c =
     (refused-steps (now (s .args .scene)) (now (s .args .answers)) (now (s .args .work)) q)
     (w .put-refused .ensures)
 
-same-length-2 : tie.Need-same-length-2
-same-length-2 c = search needs
-
-same-length-3 : tie.Need-same-length-3
-same-length-3 c = search needs
-
-same-length-4 : tie.Need-same-length-4
-same-length-4 c = search needs
-
-returns-2 : tie.Need-returns-2
-returns-2 c = search needs
-
 pub put-scene-spec : {M : Type 1} → statement M
 put-scene-spec =
     tie.close
     (tie.spec
-    check-requires
-    enum-known-verdict
-    put-refused-requires
-    enum-told
+    (λ c κs. search needs)
+    (λ c. search needs)
+    (λ c κs. search needs)
+    (λ c. search needs)
     put-accepted-requires
-    same-length
+    (λ c. search needs)
     returns
-    same-length-2
-    same-length-3
-    same-length-4
-    returns-2)
+    (λ c. search needs)
+    (λ c. search needs)
+    (λ c. search needs)
+    (λ c. search needs))

@@ -12,18 +12,6 @@ use Rattle.iisph_text.proofs.text.Tie as tie
 long : (n : ℕ) → n ≤ length (replicate n +0)
 long n = omega (arith, length-replicate n +0)
 
-slice-aggregate-run : tie.Need-slice-aggregate-run
-slice-aggregate-run c = search needs
-
-slice-aggregate-run-2 : tie.Need-slice-aggregate-run-2
-slice-aggregate-run-2 c = search needs
-
-run-requires : tie.Need-run-requires
-run-requires c κs = search needs
-
-same-length : tie.Need-same-length
-same-length c = search needs
-
 returns : tie.Need-returns
 returns c =
     let r = c .before .before .before .before in
@@ -32,4 +20,4 @@ returns c =
 
 pub text-spec : {M : Type 1} → statement M
 text-spec =
-    tie.close (tie.spec slice-aggregate-run slice-aggregate-run-2 run-requires same-length returns)
+    tie.close (tie.spec (λ c. search needs) (λ c. search needs) (λ c κs. search needs) (λ c. search needs) returns)

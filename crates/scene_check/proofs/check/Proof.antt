@@ -15,35 +15,17 @@ fields-passed : (c : tie.After-enum-told) → let b = c .before .before .before 
 fields-passed c = let q = sym (c .before .before .fields .ensures) ∙ c .enum-told .given .1 in q
     ∙ ap At (fields-leads _ _ q .0)
 
-fields-requires : tie.Need-fields-requires
-fields-requires c κs = search needs
-
-enum-known-r : tie.Need-enum-known-r
-enum-known-r c = search needs
-
-refused-requires : tie.Need-refused-requires
-refused-requires c κs = search needs
-
 returns : tie.Need-returns
 returns c =
     let p = c .before .before in
     checks-refused _ (fields-refused _ (sym (p .before .before .fields .ensures) ∙ p .r .given .1))
     (c .refused .ensures)
 
-enum-told : tie.Need-enum-told
-enum-told c = search needs
-
 layout-of-requires : tie.Need-layout-of-requires
 layout-of-requires c κs = fields-passed c
 
 all-names-requires : tie.Need-all-names-requires
 all-names-requires c κs = (fields-passed (c .before), c .layout-of .ensures)
-
-enum-known-r-2 : tie.Need-enum-known-r-2
-enum-known-r-2 c = search needs
-
-refused-requires-2 : tie.Need-refused-requires-2
-refused-requires-2 c κs = search needs
 
 returns-2 : tie.Need-returns-2
 returns-2 c =
@@ -52,9 +34,6 @@ returns-2 c =
     let l = n .before in
     checks-refused _ (names-decide _ (fields-passed (l .before)) ∙ sym (n .all-names .ensures) ∙ p .r2 .given .1)
     (c .refused2 .ensures)
-
-enum-told-2 : tie.Need-enum-told-2
-enum-told-2 c = search needs
 
 returns-3 : tie.Need-returns-3
 returns-3 c =
@@ -68,15 +47,15 @@ pub check-spec : {M : Type 1} → statement M
 check-spec =
     tie.close
     (tie.spec
-    fields-requires
-    enum-known-r
-    refused-requires
+    (λ c κs. search needs)
+    (λ c. search needs)
+    (λ c κs. search needs)
     returns
-    enum-told
+    (λ c. search needs)
     layout-of-requires
     all-names-requires
-    enum-known-r-2
-    refused-requires-2
+    (λ c. search needs)
+    (λ c κs. search needs)
     returns-2
-    enum-told-2
+    (λ c. search needs)
     returns-3)

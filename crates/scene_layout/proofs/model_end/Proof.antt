@@ -15,12 +15,6 @@ Inv-loop s kind head n at₀ i₀ at i = Ahead (nextRecord kind s head) (RecordW
 abbrev μ-loop : tie.MeasureT-loop
 μ-loop s kind head n at₀ i₀ at i = n - i
 
-particles-requires : tie.Need-particles-requires Inv-loop μ-loop
-particles-requires c κs = search needs
-
-first-record-requires : tie.Need-first-record-requires Inv-loop μ-loop
-first-record-requires c κs = search needs
-
 loop-holds : tie.Need-loop-holds Inv-loop μ-loop
 loop-holds c =
     none-stepped
@@ -28,12 +22,6 @@ loop-holds c =
 
 next-record-requires : tie.Need-next-record-requires Inv-loop μ-loop
 next-record-requires c κs = holds-here (c .before .loop .inv) (c .loop-test .taken)
-
-add-i : tie.Need-add-i Inv-loop μ-loop
-add-i c = search needs
-
-loop-less : tie.Need-loop-less Inv-loop μ-loop
-loop-less c = search needs
 
 loop-again : tie.Need-loop-again Inv-loop μ-loop
 loop-again c = one-more-stepped (c .before .before .loop .inv) (c .before .loop-test .taken) (c .next-record .ensures)
@@ -51,11 +39,11 @@ model-end-spec =
     (tie.spec
     Inv-loop
     μ-loop
-    particles-requires
-    first-record-requires
+    (λ c κs. search needs)
+    (λ c κs. search needs)
     loop-holds
     next-record-requires
-    add-i
-    loop-less
+    (λ c. search needs)
+    (λ c. search needs)
     loop-again
     returns)

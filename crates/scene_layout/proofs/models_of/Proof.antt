@@ -33,44 +33,11 @@ here c = let i = c .before .loop .inv in holds-here (i .1) (rw (i .0) at (c .loo
 particles-requires : tie.Need-particles-requires Inv-loop μ-loop
 particles-requires c κs = here c .headRoom
 
-mul-heads : tie.Need-mul-heads Inv-loop μ-loop
-mul-heads c = search needs
-
-array-write-heads : tie.Need-array-write-heads Inv-loop μ-loop
-array-write-heads c = search needs
-
-mul-counts : tie.Need-mul-counts Inv-loop μ-loop
-mul-counts c = search needs
-
-array-write-counts : tie.Need-array-write-counts Inv-loop μ-loop
-array-write-counts c = search needs
-
-mul-starts : tie.Need-mul-starts Inv-loop μ-loop
-mul-starts c = search needs
-
-array-write-starts : tie.Need-array-write-starts Inv-loop μ-loop
-array-write-starts c = search needs
-
 keeps-requires : tie.Need-keeps-requires Inv-loop μ-loop
 keeps-requires c κs = here (c .before) .headRoom
 
-mul-kept : tie.Need-mul-kept Inv-loop μ-loop
-mul-kept c = search needs
-
-array-write-kept : tie.Need-array-write-kept Inv-loop μ-loop
-array-write-kept c = search needs
-
-add-total : tie.Need-add-total Inv-loop μ-loop
-add-total c = search needs
-
 model-end-requires : tie.Need-model-end-requires Inv-loop μ-loop
 model-end-requires c κs = here (c .before .before)
-
-add-i : tie.Need-add-i Inv-loop μ-loop
-add-i c = search needs
-
-loop-less : tie.Need-loop-less Inv-loop μ-loop
-loop-less c = search needs
 
 loop-again : tie.Need-loop-again Inv-loop μ-loop
 loop-again c =
@@ -99,18 +66,18 @@ models-of-spec =
     μ-loop
     loop-holds
     particles-requires
-    mul-heads
-    array-write-heads
-    mul-counts
-    array-write-counts
-    mul-starts
-    array-write-starts
+    (λ c. search needs)
+    (λ c. search needs)
+    (λ c. search needs)
+    (λ c. search needs)
+    (λ c. search needs)
+    (λ c. search needs)
     keeps-requires
-    mul-kept
-    array-write-kept
-    add-total
+    (λ c. search needs)
+    (λ c. search needs)
+    (λ c. search needs)
     model-end-requires
-    add-i
-    loop-less
+    (λ c. search needs)
+    (λ c. search needs)
     loop-again
     returns)

@@ -13,12 +13,6 @@ unfolding answerWidth
 kept zero h = absurd (h refl)
 kept (suc k) h = refl
 
-enum-told : tie.Need-enum-told
-enum-told c = search needs
-
-enum-told-2 : tie.Need-enum-told-2
-enum-told-2 c = search needs
-
 returns : tie.Need-returns
 unfolding answerWidth
 returns c = rw (c .enum-told .given .1)
@@ -31,4 +25,4 @@ returns-3 : tie.Need-returns-3
 returns-3 c = rw (c .before .enum-told2 .given .1) (kept _ (c .if1 .left))
 
 pub answer-width-spec : {M : Type 1} → statement M
-answer-width-spec = tie.close (tie.spec enum-told enum-told-2 returns returns-2 returns-3)
+answer-width-spec = tie.close (tie.spec (λ c. search needs) (λ c. search needs) returns returns-2 returns-3)

@@ -31,21 +31,6 @@ here c =
 loop-holds : tie.Need-loop-holds Inv-loop μ-loop
 loop-holds c = (omega arith, omega arith, rw answers-none)
 
-mul-answer-width : tie.Need-mul-answer-width Inv-loop μ-loop
-mul-answer-width c = search needs
-
-array-read-answer-width : tie.Need-array-read-answer-width Inv-loop μ-loop
-array-read-answer-width c = search needs
-
-answer-width-requires : tie.Need-answer-width-requires Inv-loop μ-loop
-answer-width-requires c κs = search needs
-
-mul-needed : tie.Need-mul-needed Inv-loop μ-loop
-mul-needed c = search needs
-
-array-read-needed : tie.Need-array-read-needed Inv-loop μ-loop
-array-read-needed c = search needs
-
 mul-needed-2 : tie.Need-mul-needed-2 Inv-loop μ-loop
 mul-needed-2 c = omega (arith, here c)
 
@@ -53,12 +38,6 @@ add-needed : tie.Need-add-needed Inv-loop μ-loop
 add-needed c =
     let l = c .before .before in
     omega (arith, here c, l .loop .inv .1, l .loop .inv .0, l .before .pre .models)
-
-add-m : tie.Need-add-m Inv-loop μ-loop
-add-m c = search needs
-
-loop-less : tie.Need-loop-less Inv-loop μ-loop
-loop-less c = search needs
 
 loop-again : tie.Need-loop-again Inv-loop μ-loop
 loop-again c =
@@ -78,14 +57,14 @@ boundary-answers-spec =
     Inv-loop
     μ-loop
     loop-holds
-    mul-answer-width
-    array-read-answer-width
-    answer-width-requires
-    mul-needed
-    array-read-needed
+    (λ c. search needs)
+    (λ c. search needs)
+    (λ c κs. search needs)
+    (λ c. search needs)
+    (λ c. search needs)
     mul-needed-2
     add-needed
-    add-m
-    loop-less
+    (λ c. search needs)
+    (λ c. search needs)
     loop-again
     returns)

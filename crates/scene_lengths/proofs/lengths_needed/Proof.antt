@@ -9,15 +9,6 @@ use Rattle.scene_lengths.proofs.Needed.{few-in, refused-needs, accepted
 use Rattle.scene_lengths.proofs.lengths_needed.Statement.{statement}
 use Rattle.scene_lengths.proofs.lengths_needed.Tie as tie
 
-check-requires : tie.Need-check-requires
-check-requires c κs = search needs
-
-enum-known-verdict : tie.Need-enum-known-verdict
-enum-known-verdict c = search needs
-
-enum-told : tie.Need-enum-told
-enum-told c = search needs
-
 -- an accepted scene with its layout
 passed : (c : tie.After-enum-told)
     → let k = c .before .before .before in Passed (now (k .before .before .args .scene)) (k .check .result .layout)
@@ -39,4 +30,4 @@ returns-2 c = accepted-needs (passed (c .before)) (c .lengths-of .ensures _ (pas
 
 pub lengths-needed-spec : {M : Type 1} → statement M
 lengths-needed-spec =
-    tie.close (tie.spec check-requires enum-known-verdict enum-told lengths-of-requires returns returns-2)
+    tie.close (tie.spec (λ c κs. search needs) (λ c. search needs) (λ c. search needs) lengths-of-requires returns returns-2)

@@ -26,33 +26,9 @@ count-there p₂ =
     (sym (p₂ .before .before .plain .ensures) ∙ p₂ .boundaries .given .1))
     .1 .1
 
-mul-doubles : tie.Need-mul-doubles
-mul-doubles c = search needs
-
-add-doubles : tie.Need-add-doubles
-add-doubles c = search needs
-
-doubles-requires : tie.Need-doubles-requires
-doubles-requires c κs = search needs
-
-enum-known-own : tie.Need-enum-known-own
-enum-known-own c = search needs
-
-enum-told : tie.Need-enum-told
-enum-told c = search needs
-
 returns : tie.Need-returns
 unfolding boundaryRecord _▹_
 returns c = let q = c .enum-told .given .1 in rw (sym (c .before .before .doubles .ensures) ∙ q) q
-
-plain-requires : tie.Need-plain-requires
-plain-requires c κs = search needs
-
-enum-known-boundaries : tie.Need-enum-known-boundaries
-enum-known-boundaries c = search needs
-
-enum-told-2 : tie.Need-enum-told-2
-enum-told-2 c = search needs
 
 returns-2 : tie.Need-returns-2
 unfolding boundaryRecord _▹_
@@ -62,20 +38,11 @@ returns-2 c =
     let q = c .enum-told2 .given .1 in
     rw (sym (p₁ .before .before .doubles .ensures) ∙ p₁ .own .given .1, sym (r .plain .ensures) ∙ q) q
 
-mul-count : tie.Need-mul-count
-mul-count c = search needs
-
-add-count : tie.Need-add-count
-add-count c = search needs
-
 add-byte : tie.Need-add-byte
 add-byte c = omega (arith, count-there (c .before))
 
 byte-requires : tie.Need-byte-requires
 byte-requires c κs = omega (arith, count-there (c .before))
-
-contacts-requires : tie.Need-contacts-requires
-contacts-requires c κs = search needs
 
 returns-3 : tie.Need-returns-3
 unfolding boundaryRecord _▹_
@@ -93,19 +60,19 @@ pub boundary-record-spec : {M : Type 1} → statement M
 boundary-record-spec =
     tie.close
     (tie.spec
-    mul-doubles
-    add-doubles
-    doubles-requires
-    enum-known-own
-    enum-told
+    (λ c. search needs)
+    (λ c. search needs)
+    (λ c κs. search needs)
+    (λ c. search needs)
+    (λ c. search needs)
     returns
-    plain-requires
-    enum-known-boundaries
-    enum-told-2
+    (λ c κs. search needs)
+    (λ c. search needs)
+    (λ c. search needs)
     returns-2
-    mul-count
-    add-count
+    (λ c. search needs)
+    (λ c. search needs)
     add-byte
     byte-requires
-    contacts-requires
+    (λ c κs. search needs)
     returns-3)

@@ -19,30 +19,12 @@ header-there : (c : tie.After-first) → headerWidth axes ≤ length (Begin c .a
 header-there c =
     header-leads (Begin c .args .s .now) _ (sym (c .before .before .header .ensures) ∙ c .first .given .1) .1 .room
 
-header-requires : tie.Need-header-requires
-header-requires c κs = search needs
-
-enum-known-first : tie.Need-enum-known-first
-enum-known-first c = search needs
-
-enum-told : tie.Need-enum-told
-enum-told c = search needs
-
 returns : tie.Need-returns
 unfolding fields modelsOf _▹_
 returns c = let q = c .enum-told .given .1 in rw (sym (c .before .before .header .ensures) ∙ q) q
 
 byte-requires : tie.Need-byte-requires
 byte-requires c κs = omega (arith, header-there (c .before))
-
-models-requires : tie.Need-models-requires
-models-requires c κs = search needs
-
-enum-known-fluids : tie.Need-enum-known-fluids
-enum-known-fluids c = search needs
-
-enum-told-2 : tie.Need-enum-told-2
-enum-told-2 c = search needs
 
 returns-2 : tie.Need-returns-2
 unfolding fields modelsOf _▹_
@@ -60,15 +42,6 @@ returns-2 c =
 byte-requires-2 : tie.Need-byte-requires-2
 byte-requires-2 c κs = omega (arith, header-there (c .before .before .before .before .before .before))
 
-models-requires-2 : tie.Need-models-requires-2
-models-requires-2 c κs = search needs
-
-enum-known-boundaries : tie.Need-enum-known-boundaries
-enum-known-boundaries c = search needs
-
-enum-told-3 : tie.Need-enum-told-3
-enum-told-3 c = search needs
-
 returns-3 : tie.Need-returns-3
 unfolding fields modelsOf _▹_
 returns-3 c =
@@ -84,9 +57,6 @@ returns-3 c =
       sym (r .models2 .ensures) ∙ q,
     )
     q
-
-ended-requires : tie.Need-ended-requires
-ended-requires c κs = search needs
 
 returns-4 : tie.Need-returns-4
 unfolding fields modelsOf _▹_
@@ -107,19 +77,19 @@ pub fields-spec : {M : Type 1} → statement M
 fields-spec =
     tie.close
     (tie.spec
-    header-requires
-    enum-known-first
-    enum-told
+    (λ c κs. search needs)
+    (λ c. search needs)
+    (λ c. search needs)
     returns
     byte-requires
-    models-requires
-    enum-known-fluids
-    enum-told-2
+    (λ c κs. search needs)
+    (λ c. search needs)
+    (λ c. search needs)
     returns-2
     byte-requires-2
-    models-requires-2
-    enum-known-boundaries
-    enum-told-3
+    (λ c κs. search needs)
+    (λ c. search needs)
+    (λ c. search needs)
     returns-3
-    ended-requires
+    (λ c κs. search needs)
     returns-4)

@@ -30,27 +30,9 @@ counts-there p₃ =
     (sym (p₃ .before .before .plain2 .ensures) ∙ p₃ .boundaries .given .1))
     .1 .1
 
-doubles-requires : tie.Need-doubles-requires
-doubles-requires c κs = search needs
-
-enum-known-own : tie.Need-enum-known-own
-enum-known-own c = search needs
-
-enum-told : tie.Need-enum-told
-enum-told c = search needs
-
 returns : tie.Need-returns
 unfolding fluidRecord _▹_
 returns c = let q = c .enum-told .given .1 in rw (sym (c .before .before .doubles .ensures) ∙ q) q
-
-plain-requires : tie.Need-plain-requires
-plain-requires c κs = search needs
-
-enum-known-fluids : tie.Need-enum-known-fluids
-enum-known-fluids c = search needs
-
-enum-told-2 : tie.Need-enum-told-2
-enum-told-2 c = search needs
 
 returns-2 : tie.Need-returns-2
 unfolding fluidRecord _▹_
@@ -59,15 +41,6 @@ returns-2 c =
     let p₁ = r .before .before in
     let q = c .enum-told2 .given .1 in
     rw (sym (p₁ .before .before .doubles .ensures) ∙ p₁ .own .given .1, sym (r .plain .ensures) ∙ q) q
-
-plain-requires-2 : tie.Need-plain-requires-2
-plain-requires-2 c κs = search needs
-
-enum-known-boundaries : tie.Need-enum-known-boundaries
-enum-known-boundaries c = search needs
-
-enum-told-3 : tie.Need-enum-told-3
-enum-told-3 c = search needs
 
 returns-3 : tie.Need-returns-3
 unfolding fluidRecord _▹_
@@ -88,15 +61,6 @@ add-byte c = omega (arith, counts-there (c .before))
 
 byte-requires : tie.Need-byte-requires
 byte-requires c κs = omega (arith, counts-there (c .before))
-
-contacts-requires : tie.Need-contacts-requires
-contacts-requires c κs = search needs
-
-enum-known-fluid-contacts : tie.Need-enum-known-fluid-contacts
-enum-known-fluid-contacts c = search needs
-
-enum-told-4 : tie.Need-enum-told-4
-enum-told-4 c = search needs
 
 returns-4 : tie.Need-returns-4
 unfolding fluidRecord _▹_
@@ -121,9 +85,6 @@ add-byte-2 c = omega (arith, counts-there (c .before .before .before .before .be
 byte-requires-2 : tie.Need-byte-requires-2
 byte-requires-2 c κs = omega (arith, counts-there (c .before .before .before .before .before .before))
 
-contacts-requires-2 : tie.Need-contacts-requires-2
-contacts-requires-2 c κs = search needs
-
 returns-5 : tie.Need-returns-5
 unfolding fluidRecord _▹_
 returns-5 c =
@@ -146,25 +107,25 @@ pub fluid-record-spec : {M : Type 1} → statement M
 fluid-record-spec =
     tie.close
     (tie.spec
-    doubles-requires
-    enum-known-own
-    enum-told
+    (λ c κs. search needs)
+    (λ c. search needs)
+    (λ c. search needs)
     returns
-    plain-requires
-    enum-known-fluids
-    enum-told-2
+    (λ c κs. search needs)
+    (λ c. search needs)
+    (λ c. search needs)
     returns-2
-    plain-requires-2
-    enum-known-boundaries
-    enum-told-3
+    (λ c κs. search needs)
+    (λ c. search needs)
+    (λ c. search needs)
     returns-3
     add-byte
     byte-requires
-    contacts-requires
-    enum-known-fluid-contacts
-    enum-told-4
+    (λ c κs. search needs)
+    (λ c. search needs)
+    (λ c. search needs)
     returns-4
     add-byte-2
     byte-requires-2
-    contacts-requires-2
+    (λ c κs. search needs)
     returns-5)

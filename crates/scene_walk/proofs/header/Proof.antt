@@ -6,27 +6,9 @@ use Rattle.scene_walk.specs.Walk.{header}
 use Rattle.scene_walk.proofs.header.Statement.{statement}
 use Rattle.scene_walk.proofs.header.Tie as tie
 
-halves-requires : tie.Need-halves-requires
-halves-requires c κs = search needs
-
-enum-known-fluids : tie.Need-enum-known-fluids
-enum-known-fluids c = search needs
-
-enum-told : tie.Need-enum-told
-enum-told c = search needs
-
 returns : tie.Need-returns
 unfolding header _▹_
 returns c = let q = c .enum-told .given .1 in rw (sym (c .before .before .halves .ensures) ∙ q) q
-
-halves-requires-2 : tie.Need-halves-requires-2
-halves-requires-2 c κs = search needs
-
-enum-known-boundaries : tie.Need-enum-known-boundaries
-enum-known-boundaries c = search needs
-
-enum-told-2 : tie.Need-enum-told-2
-enum-told-2 c = search needs
 
 returns-2 : tie.Need-returns-2
 unfolding header _▹_
@@ -35,15 +17,6 @@ returns-2 c =
     let p₁ = r .before .before in
     let q = c .enum-told2 .given .1 in
     rw (sym (p₁ .before .before .halves .ensures) ∙ p₁ .fluids .given .1, sym (r .halves2 .ensures) ∙ q) q
-
-plain-requires : tie.Need-plain-requires
-plain-requires c κs = search needs
-
-enum-known-min-pressure-iter : tie.Need-enum-known-min-pressure-iter
-enum-known-min-pressure-iter c = search needs
-
-enum-told-3 : tie.Need-enum-told-3
-enum-told-3 c = search needs
 
 returns-3 : tie.Need-returns-3
 unfolding header _▹_
@@ -58,15 +31,6 @@ returns-3 c =
       sym (r .plain .ensures) ∙ q,
     )
     q
-
-plain-requires-2 : tie.Need-plain-requires-2
-plain-requires-2 c κs = search needs
-
-enum-known-max-pressure-iter : tie.Need-enum-known-max-pressure-iter
-enum-known-max-pressure-iter c = search needs
-
-enum-told-4 : tie.Need-enum-told-4
-enum-told-4 c = search needs
 
 returns-4 : tie.Need-returns-4
 unfolding header _▹_
@@ -83,9 +47,6 @@ returns-4 c =
       sym (r .plain2 .ensures) ∙ q,
     )
     q
-
-doubles-requires : tie.Need-doubles-requires
-doubles-requires c κs = search needs
 
 returns-5 : tie.Need-returns-5
 unfolding header _▹_
@@ -106,21 +67,21 @@ pub header-spec : {M : Type 1} → statement M
 header-spec =
     tie.close
     (tie.spec
-    halves-requires
-    enum-known-fluids
-    enum-told
+    (λ c κs. search needs)
+    (λ c. search needs)
+    (λ c. search needs)
     returns
-    halves-requires-2
-    enum-known-boundaries
-    enum-told-2
+    (λ c κs. search needs)
+    (λ c. search needs)
+    (λ c. search needs)
     returns-2
-    plain-requires
-    enum-known-min-pressure-iter
-    enum-told-3
+    (λ c κs. search needs)
+    (λ c. search needs)
+    (λ c. search needs)
     returns-3
-    plain-requires-2
-    enum-known-max-pressure-iter
-    enum-told-4
+    (λ c κs. search needs)
+    (λ c. search needs)
+    (λ c. search needs)
     returns-4
-    doubles-requires
+    (λ c κs. search needs)
     returns-5)

@@ -8,15 +8,6 @@ use Rattle.scene_walk.proofs.Within.{passed-head}
 use Rattle.scene_walk.proofs.model.Statement.{statement}
 use Rattle.scene_walk.proofs.model.Tie as tie
 
-model-head-requires : tie.Need-model-head-requires
-model-head-requires c κs = search needs
-
-enum-known-w : tie.Need-enum-known-w
-enum-known-w c = search needs
-
-enum-told : tie.Need-enum-told
-enum-told c = search needs
-
 returns : tie.Need-returns
 unfolding modelOf _▹_
 returns c = let q = c .enum-told .given .1 in rw (sym (c .before .before .model-head .ensures) ∙ q) q
@@ -40,9 +31,9 @@ pub model-spec : {M : Type 1} → statement M
 model-spec =
     tie.close
     (tie.spec
-    model-head-requires
-    enum-known-w
-    enum-told
+    (λ c κs. search needs)
+    (λ c. search needs)
+    (λ c. search needs)
     returns
     particles-requires
     records-requires

@@ -8,18 +8,6 @@ use Rattle.scene_format.specs.declared.Kind.the-variants.{Fluid}
 use Rattle.scene_walk.proofs.model_head.Statement.{statement}
 use Rattle.scene_walk.proofs.model_head.Tie as tie
 
-enum-told : tie.Need-enum-told
-enum-told c = search needs
-
-count-requires : tie.Need-count-requires
-count-requires c κs = search needs
-
-enum-known-particles : tie.Need-enum-known-particles
-enum-known-particles c = search needs
-
-enum-told-2 : tie.Need-enum-told-2
-enum-told-2 c = search needs
-
 counted : (c : tie.After-count) → let a = c .before .before .before .before .args in c .count .result
     ≡ count Fluid (now (a .s)) (a .from)
 counted c = rw (c .before .enum-told .given .1) at (c .count .ensures)
@@ -30,15 +18,6 @@ returns c =
     let r = c .before .before in
     let q = c .enum-told2 .given .1 in
     rw (r .before .enum-told .given .1, sym (counted r) ∙ q) q
-
-double-requires : tie.Need-double-requires
-double-requires c κs = search needs
-
-enum-told-3 : tie.Need-enum-told-3
-enum-told-3 c = search needs
-
-count-requires-2 : tie.Need-count-requires-2
-count-requires-2 c κs = search needs
 
 returns-2 : tie.Need-returns-2
 unfolding headOf _▹_
@@ -55,13 +34,13 @@ pub model-head-spec : {M : Type 1} → statement M
 model-head-spec =
     tie.close
     (tie.spec
-    enum-told
-    count-requires
-    enum-known-particles
-    enum-told-2
+    (λ c. search needs)
+    (λ c κs. search needs)
+    (λ c. search needs)
+    (λ c. search needs)
     returns
-    double-requires
-    enum-told-3
-    count-requires-2
+    (λ c κs. search needs)
+    (λ c. search needs)
+    (λ c κs. search needs)
     returns-2
     returns-3)

@@ -4,21 +4,6 @@ use Rattle.scene_walk.specs.Walk.{recordOf}
 use Rattle.scene_walk.proofs.record.Statement.{statement}
 use Rattle.scene_walk.proofs.record.Tie as tie
 
-enum-told : tie.Need-enum-told
-enum-told c = search needs
-
-fluid-record-requires : tie.Need-fluid-record-requires
-fluid-record-requires c κs = search needs
-
-enum-told-2 : tie.Need-enum-told-2
-enum-told-2 c = search needs
-
-keeps-requires : tie.Need-keeps-requires
-keeps-requires c κs = search needs
-
-boundary-record-requires : tie.Need-boundary-record-requires
-boundary-record-requires c κs = search needs
-
 returns : tie.Need-returns
 unfolding recordOf
 returns c = rw (c .before .enum-told .given .1) (c .fluid-record .ensures)
@@ -31,10 +16,10 @@ pub record-spec : {M : Type 1} → statement M
 record-spec =
     tie.close
     (tie.spec
-    enum-told
-    fluid-record-requires
-    enum-told-2
-    keeps-requires
-    boundary-record-requires
+    (λ c. search needs)
+    (λ c κs. search needs)
+    (λ c. search needs)
+    (λ c κs. search needs)
+    (λ c κs. search needs)
     returns
     returns-2)

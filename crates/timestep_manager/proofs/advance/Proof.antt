@@ -4,12 +4,9 @@ use Rattle.timestep_manager.specs.Clock.{advanced}
 use Rattle.timestep_manager.proofs.advance.Statement.{statement}
 use Rattle.timestep_manager.proofs.advance.Tie as tie
 
-inverse-of-requires : tie.Need-inverse-of-requires
-inverse-of-requires c κs = search needs
-
 returns : tie.Need-returns
 unfolding advanced
 returns c = rw (c .before .inverse-of .ensures)
 
 pub advance-spec : {M : Type 1} → statement M
-advance-spec = tie.close (tie.spec inverse-of-requires returns)
+advance-spec = tie.close (tie.spec (λ c κs. search needs) returns)

@@ -6,9 +6,6 @@ use Rattle.timestep_manager.specs.Clock.{inverse}
 use Rattle.timestep_manager.proofs.inverse_of.Statement.{statement}
 use Rattle.timestep_manager.proofs.inverse_of.Tie as tie
 
-is-zero-requires : tie.Need-is-zero-requires
-is-zero-requires c κs = search needs
-
 returns : tie.Need-returns
 unfolding inverse
 returns c = simp (sym (c .before .is-zero .ensures) ∙ c .if1 .taken)
@@ -18,4 +15,4 @@ unfolding inverse
 returns-2 c = simp (sym (c .before .is-zero .ensures) ∙ c .if1 .left)
 
 pub inverse-of-spec : {M : Type 1} → statement M
-inverse-of-spec = tie.close (tie.spec is-zero-requires returns returns-2)
+inverse-of-spec = tie.close (tie.spec (λ c κs. search needs) returns returns-2)

@@ -4,12 +4,6 @@ use Rattle.iisph_c.specs.Kernel.{refusalCode}
 use Rattle.iisph_c.proofs.write.refusal_code.Statement.{statement}
 use Rattle.iisph_c.proofs.write.refusal_code.Tie as tie
 
-enum-told : tie.Need-enum-told
-enum-told c = search needs
-
-enum-told-2 : tie.Need-enum-told-2
-enum-told-2 c = search needs
-
 returns : tie.Need-returns
 unfolding refusalCode
 returns c = rw (c .enum-told .given .1)
@@ -19,4 +13,4 @@ unfolding refusalCode
 returns-2 c = rw (c .enum-told2 .given .1)
 
 pub refusal-code-spec : {M : Type 1} → statement M
-refusal-code-spec = tie.close (tie.spec enum-told enum-told-2 returns returns-2)
+refusal-code-spec = tie.close (tie.spec (λ c. search needs) (λ c. search needs) returns returns-2)

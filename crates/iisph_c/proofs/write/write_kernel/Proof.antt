@@ -9,21 +9,6 @@ use Rattle.iisph_c.proofs.write.write_kernel.Tie as tie
 returns : tie.Need-returns
 returns c = out-empty _ _ (c .if1 .taken)
 
-enum-known-answer : tie.Need-enum-known-answer
-enum-known-answer c = search needs
-
-slice-write-out : tie.Need-slice-write-out
-slice-write-out c = search needs
-
-enum-known-answer-2 : tie.Need-enum-known-answer-2
-enum-known-answer-2 c = search needs
-
-refusal-code-requires : tie.Need-refusal-code-requires
-refusal-code-requires c κs = search needs
-
-same-length : tie.Need-same-length
-same-length c = search needs
-
 returns-2 : tie.Need-returns-2
 returns-2 c = value-given _ _ (omega (arith, c .before .before .before .if1 .left)) (c .before .answer .given .1) refl
 
@@ -37,10 +22,10 @@ write-kernel-spec =
     tie.close
     (tie.spec
     returns
-    enum-known-answer
-    slice-write-out
-    enum-known-answer-2
-    refusal-code-requires
-    same-length
+    (λ c. search needs)
+    (λ c. search needs)
+    (λ c. search needs)
+    (λ c κs. search needs)
+    (λ c. search needs)
     returns-2
     returns-3)

@@ -7,22 +7,10 @@ use Rattle.iisph_c.proofs.Calls.{number-few}
 use Rattle.iisph_c.proofs.write.write_refusal.Statement.{statement}
 use Rattle.iisph_c.proofs.write.write_refusal.Tie as tie
 
-place-requires : tie.Need-place-requires
-place-requires c κs = search needs
-
-slice-write-counts : tie.Need-slice-write-counts
-slice-write-counts c = search needs
-
-number-requires : tie.Need-number-requires
-number-requires c κs = search needs
-
 add-result : tie.Need-add-result
 add-result c = let few : c .number .result
     ≤ 10 = omega (arith, c .number .ensures, number-few (c .before .before .before .args .refusal)) in omega
     (arith, few)
-
-same-length : tie.Need-same-length
-same-length c = search needs
 
 returns : tie.Need-returns
 returns c = (ap (λ (n : ℕ). 100 + n) (c .number .ensures), rw (c .before .place .ensures))
@@ -30,4 +18,4 @@ returns c = (ap (λ (n : ℕ). 100 + n) (c .number .ensures), rw (c .before .pla
 pub write-refusal-spec : {M : Type 1} → statement M
 write-refusal-spec =
     tie.close
-    (tie.spec place-requires slice-write-counts number-requires add-result same-length returns)
+    (tie.spec (λ c κs. search needs) (λ c. search needs) (λ c κs. search needs) add-result (λ c. search needs) returns)

@@ -7,12 +7,6 @@ use borrow.Author.Needs.{needs}
 use Rattle.iisph_c.proofs.write.write_report.Statement.{statement}
 use Rattle.iisph_c.proofs.write.write_report.Tie as tie
 
-error-of-requires : tie.Need-error-of-requires
-error-of-requires c κs = search needs
-
-slice-write-numbers : tie.Need-slice-write-numbers
-slice-write-numbers c = search needs
-
 slice-write-numbers-2 : tie.Need-slice-write-numbers-2
 slice-write-numbers-2 c = simp length-set (omega arith)
 
@@ -21,21 +15,6 @@ slice-write-numbers-3 c = simp length-set (omega arith)
 
 slice-write-numbers-4 : tie.Need-slice-write-numbers-4
 slice-write-numbers-4 c = simp length-set (omega arith)
-
-cast-counts : tie.Need-cast-counts
-cast-counts c = search needs
-
-slice-write-counts : tie.Need-slice-write-counts
-slice-write-counts c = search needs
-
-ending-code-requires : tie.Need-ending-code-requires
-ending-code-requires c κs = search needs
-
-same-length : tie.Need-same-length
-same-length c = search needs
-
-same-length-2 : tie.Need-same-length-2
-same-length-2 c = search needs
 
 returns : tie.Need-returns
 unfolding reportNumbers
@@ -47,14 +26,14 @@ pub write-report-spec : {M : Type 1} → statement M
 write-report-spec =
     tie.close
     (tie.spec
-    error-of-requires
-    slice-write-numbers
+    (λ c κs. search needs)
+    (λ c. search needs)
     slice-write-numbers-2
     slice-write-numbers-3
     slice-write-numbers-4
-    cast-counts
-    slice-write-counts
-    ending-code-requires
-    same-length
-    same-length-2
+    (λ c. search needs)
+    (λ c. search needs)
+    (λ c κs. search needs)
+    (λ c. search needs)
+    (λ c. search needs)
     returns)

@@ -54,20 +54,8 @@ add-vector c = omega (arith, contact-room (here (c .before)))
 vector-requires : tie.Need-vector-requires Inv-loop μ-loop
 vector-requires c κs = here (c .before) .doubles .gradient
 
-scale-requires : tie.Need-scale-requires Inv-loop μ-loop
-scale-requires c κs = search needs
-
-sub-requires : tie.Need-sub-requires Inv-loop μ-loop
-sub-requires c κs = search needs
-
-dot-requires : tie.Need-dot-requires Inv-loop μ-loop
-dot-requires c κs = search needs
-
 add-k : tie.Need-add-k Inv-loop μ-loop
 add-k c = omega (arith, contact-room (here (c .before .before .before .before .before)))
-
-loop-less : tie.Need-loop-less Inv-loop μ-loop
-loop-less c = search needs
 
 loop-again : tie.Need-loop-again Inv-loop μ-loop
 unfolding contactAt
@@ -106,10 +94,10 @@ aii-spec =
     mass-requires
     add-vector
     vector-requires
-    scale-requires
-    sub-requires
-    dot-requires
+    (λ c κs. search needs)
+    (λ c κs. search needs)
+    (λ c κs. search needs)
     add-k
-    loop-less
+    (λ c. search needs)
     loop-again
     returns)

@@ -69,9 +69,6 @@ densities-requires-2 c κs =
     let p = Begin u .pre in
     (p .0 .0 .over, (boundary u .ready, p .1))
 
-zero-requires : tie.Need-zero-requires
-zero-requires c κs = search needs
-
 dii-requires : tie.Need-dii-requires
 dii-requires c κs =
     let u = c .before .before .before .before in
@@ -150,7 +147,7 @@ coefficients-of-spec =
     vector-at-requires
     densities-requires
     densities-requires-2
-    zero-requires
+    (λ c κs. search needs)
     dii-requires
     dii-requires-2
     mul-e

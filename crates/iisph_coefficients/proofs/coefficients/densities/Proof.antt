@@ -61,23 +61,14 @@ add-double c = omega (arith, contact-room (here (c .before .before)))
 double-requires : tie.Need-double-requires Inv-loop μ-loop
 double-requires c κs = here (c .before .before) .doubles .weight
 
-sub-requires : tie.Need-sub-requires Inv-loop μ-loop
-sub-requires c κs = search needs
-
 add-vector : tie.Need-add-vector Inv-loop μ-loop
 add-vector c = omega (arith, contact-room (here (c .before .before .before .before)))
 
 vector-requires : tie.Need-vector-requires Inv-loop μ-loop
 vector-requires c κs = here (c .before .before .before .before) .doubles .gradient
 
-dot-requires : tie.Need-dot-requires Inv-loop μ-loop
-dot-requires c κs = search needs
-
 add-k : tie.Need-add-k Inv-loop μ-loop
 add-k c = omega (arith, contact-room (here (c .before .before .before .before .before .before)))
-
-loop-less : tie.Need-loop-less Inv-loop μ-loop
-loop-less c = search needs
 
 loop-again : tie.Need-loop-again Inv-loop μ-loop
 unfolding contactAt
@@ -118,11 +109,11 @@ densities-spec =
     velocity-requires
     add-double
     double-requires
-    sub-requires
+    (λ c κs. search needs)
     add-vector
     vector-requires
-    dot-requires
+    (λ c κs. search needs)
     add-k
-    loop-less
+    (λ c. search needs)
     loop-again
     returns)

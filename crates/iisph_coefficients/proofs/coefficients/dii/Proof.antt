@@ -54,17 +54,8 @@ add-vector c = omega (arith, contact-room (here (c .before)))
 vector-requires : tie.Need-vector-requires Inv-loop μ-loop
 vector-requires c κs = here (c .before) .doubles .gradient
 
-scale-requires : tie.Need-scale-requires Inv-loop μ-loop
-scale-requires c κs = search needs
-
-add-requires : tie.Need-add-requires Inv-loop μ-loop
-add-requires c κs = search needs
-
 add-k : tie.Need-add-k Inv-loop μ-loop
 add-k c = omega (arith, contact-room (here (c .before .before .before .before)))
-
-loop-less : tie.Need-loop-less Inv-loop μ-loop
-loop-less c = search needs
 
 loop-again : tie.Need-loop-again Inv-loop μ-loop
 unfolding contactAt
@@ -95,9 +86,9 @@ dii-spec =
     mass-requires
     add-vector
     vector-requires
-    scale-requires
-    add-requires
+    (λ c κs. search needs)
+    (λ c κs. search needs)
     add-k
-    loop-less
+    (λ c. search needs)
     loop-again
     returns)

@@ -24,12 +24,6 @@ boundary : (c : tie.After-enum-told2)
 boundary c = boundary-named (Begin (c .before .before) .pre .1 .0) (c .before .before .target-of .ensures)
     (c .enum-told2 .given .1)
 
-target-of-requires : tie.Need-target-of-requires
-target-of-requires c κs = search needs
-
-enum-told : tie.Need-enum-told
-enum-told c = search needs
-
 mul-result : tie.Need-mul-result
 mul-result c =
     let p = Begin (c .before .before) .pre in
@@ -49,12 +43,6 @@ shared-slice-read-result : tie.Need-shared-slice-read-result
 shared-slice-read-result c =
     let p = Begin (c .before .before .before) .pre in
     omega (arith, fluid (c .before), p .1 .1 .room)
-
-enum-told-2 : tie.Need-enum-told-2
-enum-told-2 c = search needs
-
-mul-result-3 : tie.Need-mul-result-3
-mul-result-3 c = search needs
 
 add-result-2 : tie.Need-add-result-2
 add-result-2 c =
@@ -87,14 +75,14 @@ pub mass-spec : {M : Type 1} → statement M
 mass-spec =
     tie.close
     (tie.spec
-    target-of-requires
-    enum-told
+    (λ c κs. search needs)
+    (λ c. search needs)
     mul-result
     add-result
     mul-result-2
     shared-slice-read-result
-    enum-told-2
-    mul-result-3
+    (λ c. search needs)
+    (λ c. search needs)
     add-result-2
     mul-result-4
     shared-slice-read-result-2

@@ -25,12 +25,6 @@ boundary : (c : tie.After-enum-told2)
 boundary c = boundary-named (Begin (c .before .before) .pre .1 .0) (c .before .before .target-of .ensures)
     (c .enum-told2 .given .1)
 
-target-of-requires : tie.Need-target-of-requires
-target-of-requires c κs = search needs
-
-enum-told : tie.Need-enum-told
-enum-told c = search needs
-
 mul-vector-at : tie.Need-mul-vector-at
 mul-vector-at c =
     let p = Begin (c .before .before) .pre in
@@ -45,9 +39,6 @@ vector-at-requires : tie.Need-vector-at-requires
 vector-at-requires c κs =
     let p = Begin (c .before .before) .pre in
     omega (arith, fluid c, p .1 .1 .room)
-
-enum-told-2 : tie.Need-enum-told-2
-enum-told-2 c = search needs
 
 add-record : tie.Need-add-record
 add-record c =
@@ -87,12 +78,12 @@ pub velocity-spec : {M : Type 1} → statement M
 velocity-spec =
     tie.close
     (tie.spec
-    target-of-requires
-    enum-told
+    (λ c κs. search needs)
+    (λ c. search needs)
     mul-vector-at
     add-vector-at
     vector-at-requires
-    enum-told-2
+    (λ c. search needs)
     add-record
     mul-record
     shared-slice-read-record

@@ -54,12 +54,6 @@ boundary-acceleration-requires c κs =
 vector-at-requires : tie.Need-vector-at-requires
 vector-at-requires c κs = omega (arith, room (c .before .before))
 
-scale-requires : tie.Need-scale-requires
-scale-requires c κs = search needs
-
-add-requires : tie.Need-add-requires
-add-requires c κs = search needs
-
 put-vector-requires : tie.Need-put-vector-requires
 put-vector-requires c κs = omega (arith, room (c .before .before .before .before .before .before))
 
@@ -106,8 +100,8 @@ gather-spec =
     add-k
     boundary-acceleration-requires
     vector-at-requires
-    scale-requires
-    add-requires
+    (λ c κs. search needs)
+    (λ c κs. search needs)
     put-vector-requires
     same-length
     returns

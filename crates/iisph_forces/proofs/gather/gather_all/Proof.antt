@@ -60,9 +60,6 @@ add-i c =
     let i = c .before .before .before .before .before .before in
     omega (arith, below i, Begin i .pre .0 .0 .indexed .fewFluid)
 
-loop-less : tie.Need-loop-less Inv-loop μ-loop
-loop-less c = search needs
-
 loop-again : tie.Need-loop-again Inv-loop μ-loop
 loop-again c =
     let g = c .before .before in
@@ -105,7 +102,7 @@ gather-all-spec =
     contacts-of-requires
     gather-list-requires
     add-i
-    loop-less
+    (λ c. search needs)
     loop-again
     same-length
     returns)

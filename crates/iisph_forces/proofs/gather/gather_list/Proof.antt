@@ -55,9 +55,6 @@ gather-requires c κs =
 add-k : tie.Need-add-k Inv-loop μ-loop
 add-k c = omega (arith, contact-room (here (c .before .before .before .before) .ready))
 
-loop-less : tie.Need-loop-less Inv-loop μ-loop
-loop-less c = search needs
-
 loop-again : tie.Need-loop-again Inv-loop μ-loop
 loop-again c =
     let g = c .before .before in
@@ -95,7 +92,7 @@ gather-list-spec =
     add-c
     gather-requires
     add-k
-    loop-less
+    (λ c. search needs)
     loop-again
     same-length
     returns)

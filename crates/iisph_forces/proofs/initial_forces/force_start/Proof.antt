@@ -5,9 +5,6 @@ use Rattle.lists.specs.Lists.{choose}
 use Rattle.iisph_forces.proofs.initial_forces.force_start.Statement.{statement}
 use Rattle.iisph_forces.proofs.initial_forces.force_start.Tie as tie
 
-add-result : tie.Need-add-result
-add-result c = search needs
-
 returns : tie.Need-returns
 unfolding choose
 returns c = rw (eq-eqb (c .before .args .keeps) 1 (c .if1 .taken))
@@ -17,4 +14,4 @@ unfolding choose
 returns-2 c = rw (ne-eqb (c .before .args .keeps) 1 (c .if1 .left))
 
 pub force-start-spec : {M : Type 1} → statement M
-force-start-spec = tie.close (tie.spec add-result returns returns-2)
+force-start-spec = tie.close (tie.spec (λ c. search needs) returns returns-2)

@@ -46,9 +46,6 @@ add-p c =
     let p = Begin (c .before .before .before .before) .pre in
     omega (arith, p .1 .0 .within, p .0 .0 .indexed .fewBoundary)
 
-loop-less : tie.Need-loop-less Inv-loop μ-loop
-loop-less c = search needs
-
 loop-again : tie.Need-loop-again Inv-loop μ-loop
 loop-again c =
     let r = c .before .before in
@@ -56,9 +53,6 @@ loop-again c =
     let p = Begin i .pre in
     one-more-put _ _ _ _ (p .0 .0 .indexed .accepted) (p .1 .0 .within) (i .before .loop .inv) (i .loop-test .taken)
     (r .put-particle .ensures .0) (r .put-particle .ensures .1)
-
-same-length : tie.Need-same-length Inv-loop μ-loop
-same-length c = search needs
 
 returns : tie.Need-returns Inv-loop μ-loop
 returns c =
@@ -76,7 +70,7 @@ put-boundary-spec =
     add-put-particle
     put-particle-requires
     add-p
-    loop-less
+    (λ c. search needs)
     loop-again
-    same-length
+    (λ c. search needs)
     returns)

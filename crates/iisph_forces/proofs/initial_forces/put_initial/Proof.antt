@@ -89,9 +89,6 @@ put-boundary-requires c κs =
 add-m : tie.Need-add-m Inv-loop μ-loop
 add-m c = omega (arith, few (c .before .before .before .before .before))
 
-loop-less : tie.Need-loop-less Inv-loop μ-loop
-loop-less c = search needs
-
 loop-again : tie.Need-loop-again Inv-loop μ-loop
 loop-again c =
     let r = c .before .before in
@@ -133,7 +130,7 @@ put-initial-spec =
     array-read-put-boundary-2
     put-boundary-requires
     add-m
-    loop-less
+    (λ c. search needs)
     loop-again
     same-length
     same-length-2

@@ -20,21 +20,6 @@ use Rattle.iisph_forces.proofs.Offsets.{width-kept, width-not-kept}
 use Rattle.iisph_forces.proofs.initial_forces.put_particle.Statement.{statement}
 use Rattle.iisph_forces.proofs.initial_forces.put_particle.Tie as tie
 
-mul-answers : tie.Need-mul-answers
-mul-answers c = search needs
-
-add-answers : tie.Need-add-answers
-add-answers c = search needs
-
-mul-answers-2 : tie.Need-mul-answers-2
-mul-answers-2 c = search needs
-
-shared-slice-read-answers : tie.Need-shared-slice-read-answers
-shared-slice-read-answers c = search needs
-
-mul-answers-3 : tie.Need-mul-answers-3
-mul-answers-3 c = search needs
-
 abbrev Begin : tie.After-shared-slice-known4 → tie.Start
 Begin c = c .before .before .before .before .before
 
@@ -57,32 +42,17 @@ finite c =
     let b = Begin (c .before .before) in
     force-finite (b .pre .0 .0 .indexed) (b .args .j) (b .pre .1 .0) (kept (c .before))
 
-add-record : tie.Need-add-record
-add-record c = search needs
-
-mul-record : tie.Need-mul-record
-mul-record c = search needs
-
-shared-slice-read-record : tie.Need-shared-slice-read-record
-shared-slice-read-record c = search needs
-
 add-vector : tie.Need-add-vector
 add-vector c = omega (arith, finite c .each 0 (omega arith) .present)
 
 vector-requires : tie.Need-vector-requires
 vector-requires c κs = finite c
 
-add-put-vector : tie.Need-add-put-vector
-add-put-vector c = search needs
-
 put-vector-requires : tie.Need-put-vector-requires
 put-vector-requires c κs =
     let t = c .before .before .before in
     let b = Begin (t .before) in
     simp length-set (omega (arith, b .pre .1 .2, width-kept (sceneOf (now (b .args .scene))) (b .args .j) (kept t)))
-
-add-result : tie.Need-add-result
-add-result c = search needs
 
 same-length : tie.Need-same-length
 same-length c = ap length (c .before .before .put-vector .ensures) ∙ simp length-set
@@ -102,12 +72,6 @@ returns c =
           (v .vector .ensures ∙ force-here (b .pre .0 .0 .indexed) (a .j) (b .pre .1 .0) (kept t)),
     )
 
-add-result-2 : tie.Need-add-result-2
-add-result-2 c = search needs
-
-same-length-2 : tie.Need-same-length-2
-same-length-2 c = search needs
-
 returns-2 : tie.Need-returns-2
 returns-2 c =
     let b = Begin (c .before) in
@@ -124,22 +88,22 @@ pub put-particle-spec : {M : Type 1} → statement M
 put-particle-spec =
     tie.close
     (tie.spec
-    mul-answers
-    add-answers
-    mul-answers-2
-    shared-slice-read-answers
-    mul-answers-3
+    (λ c. search needs)
+    (λ c. search needs)
+    (λ c. search needs)
+    (λ c. search needs)
+    (λ c. search needs)
     slice-write-answers
-    add-record
-    mul-record
-    shared-slice-read-record
+    (λ c. search needs)
+    (λ c. search needs)
+    (λ c. search needs)
     add-vector
     vector-requires
-    add-put-vector
+    (λ c. search needs)
     put-vector-requires
-    add-result
+    (λ c. search needs)
     same-length
     returns
-    add-result-2
-    same-length-2
+    (λ c. search needs)
+    (λ c. search needs)
     returns-2)

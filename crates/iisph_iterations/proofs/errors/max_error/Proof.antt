@@ -45,23 +45,11 @@ room c =
 loop-holds : tie.Need-loop-holds Inv-loop μ-loop
 loop-holds c = none-averaged _ _ _ (c .before .pre .1)
 
-mul-count : tie.Need-mul-count Inv-loop μ-loop
-mul-count c = search needs
-
-array-read-count : tie.Need-array-read-count Inv-loop μ-loop
-array-read-count c = search needs
-
 with-average-requires : tie.Need-with-average-requires Inv-loop μ-loop
 with-average-requires c κs = omega (arith, room c, c .before .before .before .pre .2)
 
 add-from : tie.Need-add-from Inv-loop μ-loop
 add-from c = omega (arith, room (c .before), c .before .before .before .before .pre .2)
-
-add-m : tie.Need-add-m Inv-loop μ-loop
-add-m c = search needs
-
-loop-less : tie.Need-loop-less Inv-loop μ-loop
-loop-less c = search needs
 
 loop-again : tie.Need-loop-again Inv-loop μ-loop
 loop-again c =
@@ -79,11 +67,11 @@ max-error-spec =
     Inv-loop
     μ-loop
     loop-holds
-    mul-count
-    array-read-count
+    (λ c. search needs)
+    (λ c. search needs)
     with-average-requires
     add-from
-    add-m
-    loop-less
+    (λ c. search needs)
+    (λ c. search needs)
     loop-again
     returns)

@@ -8,15 +8,6 @@ use Rattle.iisph_iterations.proofs.errors.with_average.Tie as tie
 returns : tie.Need-returns
 returns c = with-none _ _ _ (omega (arith, c .if1 .taken))
 
-term-sum-requires : tie.Need-term-sum-requires
-term-sum-requires c κs = search needs
-
-nearest-u64-to-f64-requires : tie.Need-nearest-u64-to-f64-requires
-nearest-u64-to-f64-requires c κs = search needs
-
-larger-requires : tie.Need-larger-requires
-larger-requires c κs = search needs
-
 returns-2 : tie.Need-returns-2
 returns-2 c =
     let d = c .before in
@@ -27,4 +18,4 @@ returns-2 c =
 pub with-average-spec : {M : Type 1} → statement M
 with-average-spec =
     tie.close
-    (tie.spec returns term-sum-requires nearest-u64-to-f64-requires larger-requires returns-2)
+    (tie.spec returns (λ c κs. search needs) (λ c κs. search needs) (λ c κs. search needs) returns-2)

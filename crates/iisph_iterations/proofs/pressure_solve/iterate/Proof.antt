@@ -70,9 +70,6 @@ max-error-requires c κs =
     (v .traverse3 .ensures) (w .traverse4 .ensures) in
     (few-fluids (p .1 .0), counts-sum (p .1 .0) (p .0 .timed .over .size), omega (arith, q .room))
 
-same-length : tie.Need-same-length
-same-length c = search needs
-
 returns : tie.Need-returns
 returns c =
     let w = c .before .before .before .before in
@@ -93,5 +90,5 @@ iterate-spec =
     traverse-requires-3
     traverse-requires-4
     max-error-requires
-    same-length
+    (λ c. search needs)
     returns)

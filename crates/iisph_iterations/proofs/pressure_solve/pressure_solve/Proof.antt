@@ -48,9 +48,6 @@ add-i c = omega (arith, few (c .before .before .before .before .before))
 cast-t20 : tie.Need-cast-t20 Inv-loop μ-loop
 cast-t20 c = omega (arith, few (c .before .before .before .before .before .before .before))
 
-same-length : tie.Need-same-length Inv-loop μ-loop
-same-length c = search needs
-
 returns : tie.Need-returns Inv-loop μ-loop
 returns c =
     let k = c .before .before .before .before in
@@ -64,9 +61,6 @@ returns c =
     refl
     refl
 
-loop-less : tie.Need-loop-less Inv-loop μ-loop
-loop-less c = search needs
-
 loop-again : tie.Need-loop-again Inv-loop μ-loop
 loop-again c =
     let k = c .before .before .before .before in
@@ -76,9 +70,6 @@ loop-again c =
     next-solved _ (p .0 .0 .timed .over .size) _ (n .before .loop .inv) (below n) (k .iterate .ensures)
     (not-least (sceneOf (now (s .args .scene))) (n .before .loop .i) (k .iterate .result)
     (omega (arith, p .0 .1 .least, c .if2 .left)))
-
-loop-less-2 : tie.Need-loop-less-2 Inv-loop μ-loop
-loop-less-2 c = search needs
 
 loop-again-2 : tie.Need-loop-again-2 Inv-loop μ-loop
 loop-again-2 c =
@@ -90,14 +81,8 @@ loop-again-2 c =
     (not-small (sceneOf (now (s .args .scene))) (n .before .loop .i) (k .iterate .result)
     (sym (ap (λ x. Ieee.le (k .iterate .result) x) (p .0 .1 .limit)) ∙ c .if1 .left))
 
-ending-after-requires : tie.Need-ending-after-requires Inv-loop μ-loop
-ending-after-requires c κs = search needs
-
 cast-t22 : tie.Need-cast-t22 Inv-loop μ-loop
 cast-t22 c = omega (arith, few (c .before .before))
-
-same-length-2 : tie.Need-same-length-2 Inv-loop μ-loop
-same-length-2 c = search needs
 
 returns-2 : tie.Need-returns-2 Inv-loop μ-loop
 returns-2 c =
@@ -117,13 +102,13 @@ pressure-solve-spec =
     iterate-requires
     add-i
     cast-t20
-    same-length
+    (λ c. search needs)
     returns
-    loop-less
+    (λ c. search needs)
     loop-again
-    loop-less-2
+    (λ c. search needs)
     loop-again-2
-    ending-after-requires
+    (λ c κs. search needs)
     cast-t22
-    same-length-2
+    (λ c. search needs)
     returns-2)

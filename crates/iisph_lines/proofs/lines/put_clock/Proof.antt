@@ -11,9 +11,6 @@ use Rattle.iisph_lines.proofs.lines.put_clock.Tie as tie
 abbrev start : tie.After-put-word → tie.Start
 start w₁ = w₁ .before .before .before .before
 
-slice-aggregate-put-word : tie.Need-slice-aggregate-put-word
-slice-aggregate-put-word c = search needs
-
 put-word-requires : tie.Need-put-word-requires
 put-word-requires c κs = omega (arith, length-clock (c .before .before .before .args .clock))
 
@@ -54,9 +51,6 @@ put-byte-requires c κs =
       double-ends _ (w₄ .put-double3 .ensures),
     )
 
-same-length : tie.Need-same-length
-same-length c = search needs
-
 returns : tie.Need-returns
 unfolding clockLine
 returns c =
@@ -75,11 +69,11 @@ pub put-clock-spec : {M : Type 1} → statement M
 put-clock-spec =
     tie.close
     (tie.spec
-    slice-aggregate-put-word
+    (λ c. search needs)
     put-word-requires
     put-double-requires
     put-double-requires-2
     put-double-requires-3
     put-byte-requires
-    same-length
+    (λ c. search needs)
     returns)

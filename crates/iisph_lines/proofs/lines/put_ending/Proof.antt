@@ -7,12 +7,6 @@ use borrow.Author.Needs.{needs}
 use Rattle.iisph_lines.proofs.lines.put_ending.Statement.{statement}
 use Rattle.iisph_lines.proofs.lines.put_ending.Tie as tie
 
-enum-told : tie.Need-enum-told
-enum-told c = search needs
-
-slice-aggregate-put-word : tie.Need-slice-aggregate-put-word
-slice-aggregate-put-word c = search needs
-
 put-word-requires : tie.Need-put-word-requires
 put-word-requires c κs =
     let m = c .before .before in
@@ -23,32 +17,17 @@ put-decimal-requires c κs =
     let m = c .before .before .before .before .before .before in
     omega (arith, length-unswept (m .before .before .before .args .iterations) (m .enum-told .given .1))
 
-enum-known-ending : tie.Need-enum-known-ending
-enum-known-ending c = search needs
-
-slice-aggregate-put-swept : tie.Need-slice-aggregate-put-swept
-slice-aggregate-put-swept c = search needs
-
 put-swept-requires : tie.Need-put-swept-requires
 unfolding endingText
 put-swept-requires c κs =
     let m = c .before .before .before in
     rw (m .ending .given .1) at (m .before .before .before .pre)
 
-enum-known-ending-2 : tie.Need-enum-known-ending-2
-enum-known-ending-2 c = search needs
-
-slice-aggregate-put-swept-2 : tie.Need-slice-aggregate-put-swept-2
-slice-aggregate-put-swept-2 c = search needs
-
 put-swept-requires-2 : tie.Need-put-swept-requires-2
 unfolding endingText
 put-swept-requires-2 c κs =
     let m = c .before .before .before in
     rw (m .ending2 .given .1) at (m .before .before .before .pre)
-
-same-length : tie.Need-same-length
-same-length c = search needs
 
 returns : tie.Need-returns
 unfolding endingText
@@ -57,17 +36,11 @@ returns c =
     let w₁ = w₂ .before .before .before .before in
     rw (w₁ .before .before .before .enum-told .given .1) (w₁ .put-word .ensures then w₂ .put-decimal .ensures)
 
-same-length-2 : tie.Need-same-length-2
-same-length-2 c = search needs
-
 returns-2 : tie.Need-returns-2
 unfolding endingText
 returns-2 c =
     let w = c .before .before in
     rw (w .before .before .before .before .ending .given .1) (w .put-swept .ensures)
-
-same-length-3 : tie.Need-same-length-3
-same-length-3 c = search needs
 
 returns-3 : tie.Need-returns-3
 unfolding endingText
@@ -79,19 +52,19 @@ pub put-ending-spec : {M : Type 1} → statement M
 put-ending-spec =
     tie.close
     (tie.spec
-    enum-told
-    slice-aggregate-put-word
+    (λ c. search needs)
+    (λ c. search needs)
     put-word-requires
     put-decimal-requires
-    enum-known-ending
-    slice-aggregate-put-swept
+    (λ c. search needs)
+    (λ c. search needs)
     put-swept-requires
-    enum-known-ending-2
-    slice-aggregate-put-swept-2
+    (λ c. search needs)
+    (λ c. search needs)
     put-swept-requires-2
-    same-length
+    (λ c. search needs)
     returns
-    same-length-2
+    (λ c. search needs)
     returns-2
-    same-length-3
+    (λ c. search needs)
     returns-3)

@@ -38,12 +38,6 @@ add-from c =
     let s = l .before .before .before in
     omega (arith, turn-fits (s .args .w) (s .args .k) (t .loop-test .taken) (l .loop .inv .1) (s .pre .0))
 
-add-i : tie.Need-add-i Inv-loop μ-loop
-add-i c = search needs
-
-loop-less : tie.Need-loop-less Inv-loop μ-loop
-loop-less c = search needs
-
 loop-again : tie.Need-loop-again Inv-loop μ-loop
 loop-again c =
     let p = c .before .before in
@@ -53,9 +47,6 @@ loop-again c =
       rw add-one (omega (arith, mul-suc (at-loop .before .before .before .args .w) (l .i), l .inv .1)),
       line-written _ _ _ _ _ (l .i) (l .inv .1) (l .inv .2) (p .put-particle .ensures),
     )
-
-same-length : tie.Need-same-length Inv-loop μ-loop
-same-length c = search needs
 
 returns : tie.Need-returns Inv-loop μ-loop
 returns c =
@@ -71,8 +62,8 @@ put-model-spec =
     loop-holds
     put-particle-requires
     add-from
-    add-i
-    loop-less
+    (λ c. search needs)
+    (λ c. search needs)
     loop-again
-    same-length
+    (λ c. search needs)
     returns)

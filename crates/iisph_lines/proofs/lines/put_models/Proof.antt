@@ -41,21 +41,6 @@ loop-holds c =
     let s = c .before .before .before .before in
     (omega arith, rw answers-none (omega arith), none-modelled _ _ _ _ _ (omega (arith, s .pre .1)))
 
-mul-n : tie.Need-mul-n Inv-loop μ-loop
-mul-n c = search needs
-
-array-read-n : tie.Need-array-read-n Inv-loop μ-loop
-array-read-n c = search needs
-
-mul-answer-width : tie.Need-mul-answer-width Inv-loop μ-loop
-mul-answer-width c = search needs
-
-array-read-answer-width : tie.Need-array-read-answer-width Inv-loop μ-loop
-array-read-answer-width c = search needs
-
-answer-width-requires : tie.Need-answer-width-requires Inv-loop μ-loop
-answer-width-requires c κs = search needs
-
 put-model-requires : tie.Need-put-model-requires Inv-loop μ-loop
 put-model-requires c κs =
     let w = c .before in
@@ -72,12 +57,6 @@ mul-from c = omega (arith, fits (c .before .before .before .before))
 add-from : tie.Need-add-from Inv-loop μ-loop
 add-from c = omega (arith, fits (c .before .before .before .before))
 
-add-m : tie.Need-add-m Inv-loop μ-loop
-add-m c = search needs
-
-loop-less : tie.Need-loop-less Inv-loop μ-loop
-loop-less c = search needs
-
 loop-again : tie.Need-loop-again Inv-loop μ-loop
 loop-again c =
     let p = c .before .before in
@@ -88,9 +67,6 @@ loop-again c =
       rw (answers-next, v) (omega (arith, l .inv .1)),
       model-written _ _ _ _ _ (l .m) (l .inv .1) v (l .inv .2) (p .put-model .ensures),
     )
-
-same-length : tie.Need-same-length Inv-loop μ-loop
-same-length c = search needs
 
 returns : tie.Need-returns Inv-loop μ-loop
 returns c =
@@ -104,16 +80,16 @@ put-models-spec =
     Inv-loop
     μ-loop
     loop-holds
-    mul-n
-    array-read-n
-    mul-answer-width
-    array-read-answer-width
-    answer-width-requires
+    (λ c. search needs)
+    (λ c. search needs)
+    (λ c. search needs)
+    (λ c. search needs)
+    (λ c κs. search needs)
     put-model-requires
     mul-from
     add-from
-    add-m
-    loop-less
+    (λ c. search needs)
+    (λ c. search needs)
     loop-again
-    same-length
+    (λ c. search needs)
     returns)

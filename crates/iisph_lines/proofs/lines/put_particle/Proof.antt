@@ -44,9 +44,6 @@ put-byte-requires c κs =
     let w₂ = w₃ .before .before .before .before in
     omega (arith, room (start (w₂ .before .before .before .before)))
 
-same-length : tie.Need-same-length
-same-length c = search needs
-
 returns : tie.Need-returns
 unfolding particleLine
 returns c =
@@ -64,5 +61,5 @@ put-particle-spec =
     put-pair-requires
     put-doubles-requires
     put-byte-requires
-    same-length
+    (λ c. search needs)
     returns)

@@ -8,18 +8,6 @@ use borrow.Author.Needs.{needs}
 use Rattle.iisph_lines.proofs.lines.put_refused.Statement.{statement}
 use Rattle.iisph_lines.proofs.lines.put_refused.Tie as tie
 
-slice-aggregate-put-word : tie.Need-slice-aggregate-put-word
-slice-aggregate-put-word c = search needs
-
-put-word-requires : tie.Need-put-word-requires
-put-word-requires c κs = search needs
-
-number-requires : tie.Need-number-requires
-number-requires c κs = search needs
-
-place-requires : tie.Need-place-requires
-place-requires c κs = search needs
-
 put-pair-requires : tie.Need-put-pair-requires
 put-pair-requires c κs =
     let n = c .before .number in
@@ -30,9 +18,6 @@ put-byte-requires c κs =
     let p = c .before .before .before .before in
     let n = p .before .number in
     omega (arith, pair-most (n .result) (p .place .result) (n .ok) (p .place .ok))
-
-same-length : tie.Need-same-length
-same-length c = search needs
 
 returns : tie.Need-returns
 unfolding refusedLine
@@ -49,11 +34,11 @@ pub put-refused-spec : {M : Type 1} → statement M
 put-refused-spec =
     tie.close
     (tie.spec
-    slice-aggregate-put-word
-    put-word-requires
-    number-requires
-    place-requires
+    (λ c. search needs)
+    (λ c κs. search needs)
+    (λ c κs. search needs)
+    (λ c κs. search needs)
     put-pair-requires
     put-byte-requires
-    same-length
+    (λ c. search needs)
     returns)

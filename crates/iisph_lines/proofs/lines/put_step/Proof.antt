@@ -10,14 +10,8 @@ use Rattle.iisph_lines.proofs.lines.put_step.Tie as tie
 abbrev start : tie.After-put-word → tie.Start
 start w₁ = w₁ .before .before .before .before
 
-slice-aggregate-put-word : tie.Need-slice-aggregate-put-word
-slice-aggregate-put-word c = search needs
-
 put-word-requires : tie.Need-put-word-requires
 put-word-requires c κs = omega (arith, length-step (c .before .before .before .args .report))
-
-cast-put-ending : tie.Need-cast-put-ending
-cast-put-ending c = search needs
 
 put-ending-requires : tie.Need-put-ending-requires
 put-ending-requires c κs =
@@ -29,9 +23,6 @@ put-byte-requires c κs =
     let w₂ = c .before .before .before in
     let w₁ = w₂ .before .before .before .before .before in
     omega (arith, length-step (start w₁ .args .report))
-
-same-length : tie.Need-same-length
-same-length c = search needs
 
 returns : tie.Need-returns
 unfolding stepLine
@@ -45,10 +36,10 @@ pub put-step-spec : {M : Type 1} → statement M
 put-step-spec =
     tie.close
     (tie.spec
-    slice-aggregate-put-word
+    (λ c. search needs)
     put-word-requires
-    cast-put-ending
+    (λ c. search needs)
     put-ending-requires
     put-byte-requires
-    same-length
+    (λ c. search needs)
     returns)

@@ -27,9 +27,6 @@ put-double-requires c κs =
     let a = start (w₂ .before .before .before .before) .args in
     omega (arith, length-swept (now (a .word)) (a .iterations) (a .error))
 
-same-length : tie.Need-same-length
-same-length c = search needs
-
 returns : tie.Need-returns
 unfolding sweptText
 returns c =
@@ -41,4 +38,4 @@ returns c =
 pub put-swept-spec : {M : Type 1} → statement M
 put-swept-spec =
     tie.close
-    (tie.spec put-word-requires put-decimal-requires put-double-requires same-length returns)
+    (tie.spec put-word-requires put-decimal-requires put-double-requires (λ c. search needs) returns)

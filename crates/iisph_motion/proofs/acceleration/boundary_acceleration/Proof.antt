@@ -49,9 +49,6 @@ add-vector c = omega (arith, contact-room (Begin (c .before .before) .pre .1))
 vector-requires : tie.Need-vector-requires
 vector-requires c κs = Begin (c .before .before) .pre .1 .doubles .gradient
 
-scale-requires : tie.Need-scale-requires
-scale-requires c κs = search needs
-
 returns : tie.Need-returns
 returns c =
     let v = c .before .before .before in
@@ -71,5 +68,5 @@ boundary-acceleration-spec =
     shared-slice-read-m
     add-vector
     vector-requires
-    scale-requires
+    (λ c κs. search needs)
     returns)

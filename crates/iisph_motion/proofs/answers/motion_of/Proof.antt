@@ -21,32 +21,14 @@ here c = over-here (c .pre .0 .0 .timed .over) (c .args .i) (c .pre .0 .1)
 final-change-of-requires : tie.Need-final-change-of-requires
 final-change-of-requires c κs = c .before .before .before .pre
 
-add-at : tie.Need-add-at
-add-at c = search needs
-
-mul-at : tie.Need-mul-at
-mul-at c = search needs
-
-shared-slice-read-at : tie.Need-shared-slice-read-at
-shared-slice-read-at c = search needs
-
 add-vector : tie.Need-add-vector
 add-vector c = omega (arith, here (Begin c) .own .counts)
 
 vector-requires : tie.Need-vector-requires
 vector-requires c κs = here (Begin c) .own .velocity
 
-add-requires : tie.Need-add-requires
-add-requires c κs = search needs
-
 vector-requires-2 : tie.Need-vector-requires-2
 vector-requires-2 c κs = here (Begin (c .before .before)) .own .position
-
-scale-requires : tie.Need-scale-requires
-scale-requires c κs = search needs
-
-add-requires-2 : tie.Need-add-requires-2
-add-requires-2 c κs = search needs
 
 returns : tie.Need-returns
 returns c =
@@ -71,13 +53,13 @@ motion-of-spec =
     tie.close
     (tie.spec
     final-change-of-requires
-    add-at
-    mul-at
-    shared-slice-read-at
+    (λ c. search needs)
+    (λ c. search needs)
+    (λ c. search needs)
     add-vector
     vector-requires
-    add-requires
+    (λ c κs. search needs)
     vector-requires-2
-    scale-requires
-    add-requires-2
+    (λ c κs. search needs)
+    (λ c κs. search needs)
     returns)

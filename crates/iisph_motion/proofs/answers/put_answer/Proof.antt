@@ -31,45 +31,18 @@ motion-of-requires c κs =
     let p = c .before .before .before .before .pre in
     ((p .0 .0, p .1 .0), p .0 .1)
 
-mul-pressure : tie.Need-mul-pressure
-mul-pressure c = search needs
-
-add-pressure : tie.Need-add-pressure
-add-pressure c = search needs
-
-mul-pressure-2 : tie.Need-mul-pressure-2
-mul-pressure-2 c = search needs
-
 shared-slice-read-pressure : tie.Need-shared-slice-read-pressure
 shared-slice-read-pressure c =
     let p = Begin (c .before .before .before) .pre in
     omega (arith, p .0 .1 .iteration .room, p .1 .0)
 
-mul-put-vector : tie.Need-mul-put-vector
-mul-put-vector c = search needs
-
 put-vector-requires : tie.Need-put-vector-requires
 put-vector-requires c κs = omega (arith, Begin (c .before .before .before .before) .pre .1 .1)
-
-mul-put-vector-2 : tie.Need-mul-put-vector-2
-mul-put-vector-2 c = search needs
-
-add-put-vector : tie.Need-add-put-vector
-add-put-vector c = search needs
 
 put-vector-requires-2 : tie.Need-put-vector-requires-2
 put-vector-requires-2 c κs =
     let v = c .before .before .before in
     omega (arith, kept v, Begin (Moved v) .pre .1 .1)
-
-mul-answers : tie.Need-mul-answers
-mul-answers c = search needs
-
-add-answers : tie.Need-add-answers
-add-answers c = search needs
-
-mul-answers-2 : tie.Need-mul-answers-2
-mul-answers-2 c = search needs
 
 slice-write-answers : tie.Need-slice-write-answers
 slice-write-answers c =
@@ -95,18 +68,18 @@ put-answer-spec =
     tie.close
     (tie.spec
     motion-of-requires
-    mul-pressure
-    add-pressure
-    mul-pressure-2
+    (λ c. search needs)
+    (λ c. search needs)
+    (λ c. search needs)
     shared-slice-read-pressure
-    mul-put-vector
+    (λ c. search needs)
     put-vector-requires
-    mul-put-vector-2
-    add-put-vector
+    (λ c. search needs)
+    (λ c. search needs)
     put-vector-requires-2
-    mul-answers
-    add-answers
-    mul-answers-2
+    (λ c. search needs)
+    (λ c. search needs)
+    (λ c. search needs)
     slice-write-answers
     same-length
     returns)

@@ -45,12 +45,6 @@ put-answer-requires c κs =
     let h = c .before .loop-test .taken in
     (p .0, (h, omega (arith, h, p .1, l .loop .inv .1)))
 
-add-i : tie.Need-add-i Inv-loop μ-loop
-add-i c = search needs
-
-loop-less : tie.Need-loop-less Inv-loop μ-loop
-loop-less c = search needs
-
 loop-again : tie.Need-loop-again Inv-loop μ-loop
 loop-again c =
     let t = c .before .before in
@@ -63,9 +57,6 @@ loop-again c =
           (l .loop .inv .2)
           (t .put-answer .ensures),
     )
-
-same-length : tie.Need-same-length Inv-loop μ-loop
-same-length c = search needs
 
 returns : tie.Need-returns Inv-loop μ-loop
 returns c =
@@ -85,8 +76,8 @@ update-velocities-and-positions-spec =
     μ-loop
     loop-holds
     put-answer-requires
-    add-i
-    loop-less
+    (λ c. search needs)
+    (λ c. search needs)
     loop-again
-    same-length
+    (λ c. search needs)
     returns)

@@ -21,9 +21,6 @@ below c =
     let p = Begin c .pre in
     omega (arith, p .0 .0 .size, fluid-named (p .1) (c .target-of .ensures) (c .before .enum-told .given .1))
 
-enum-told : tie.Need-enum-told
-enum-told c = search needs
-
 target-of-requires : tie.Need-target-of-requires
 target-of-requires c κs =
     let p = c .before .before .before .before .before .pre in
@@ -68,19 +65,10 @@ add-vector c = omega (arith, contact-room (Begin (c .before .before) .pre .1))
 vector-requires : tie.Need-vector-requires
 vector-requires c κs = Begin (c .before .before) .pre .1 .doubles .gradient
 
-scale-requires : tie.Need-scale-requires
-scale-requires c κs = search needs
-
-enum-told-2 : tie.Need-enum-told-2
-enum-told-2 c = search needs
-
 boundary-acceleration-requires : tie.Need-boundary-acceleration-requires
 boundary-acceleration-requires c κs =
     let p = BeginBoundary c .pre in
     ((p .0 .0, p .0 .1 .iteration), boundary-ready _ (p .1) (c .enum-told2 .given .1))
-
-scale-requires-2 : tie.Need-scale-requires-2
-scale-requires-2 c κs = search needs
 
 returns : tie.Need-returns
 returns c =
@@ -105,7 +93,7 @@ pub pressure-change-spec : {M : Type 1} → statement M
 pressure-change-spec =
     tie.close
     (tie.spec
-    enum-told
+    (λ c. search needs)
     target-of-requires
     mul-row
     add-m
@@ -116,9 +104,9 @@ pressure-change-spec =
     shared-slice-read-share
     add-vector
     vector-requires
-    scale-requires
-    enum-told-2
+    (λ c κs. search needs)
+    (λ c. search needs)
     boundary-acceleration-requires
-    scale-requires-2
+    (λ c κs. search needs)
     returns
     returns-2)

@@ -51,14 +51,8 @@ pressure-change-requires c κs =
     let p = Begin c .pre in
     (p .0, here c)
 
-sub-requires : tie.Need-sub-requires Inv-loop μ-loop
-sub-requires c κs = search needs
-
 add-k : tie.Need-add-k Inv-loop μ-loop
 add-k c = omega (arith, contact-room (here (c .before .before)))
-
-loop-less : tie.Need-loop-less Inv-loop μ-loop
-loop-less c = search needs
 
 loop-again : tie.Need-loop-again Inv-loop μ-loop
 loop-again c =
@@ -87,8 +81,8 @@ pressure-changes-spec =
     mul-c
     add-c
     pressure-change-requires
-    sub-requires
+    (λ c κs. search needs)
     add-k
-    loop-less
+    (λ c. search needs)
     loop-again
     returns)

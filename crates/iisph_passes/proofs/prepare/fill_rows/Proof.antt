@@ -33,9 +33,6 @@ traverse-requires-3 c κs =
     (b .pre .1 .1) (t .traverse .ensures) (u .traverse2 .ensures) in
     (b .pre .0, (e .room, e))
 
-same-length : tie.Need-same-length
-same-length c = search needs
-
 returns : tie.Need-returns
 returns c =
     let v = c .before .before in
@@ -48,4 +45,4 @@ returns c =
 pub fill-rows-spec : {M : Type 1} → statement M
 fill-rows-spec =
     tie.close
-    (tie.spec traverse-requires traverse-requires-2 traverse-requires-3 same-length returns)
+    (tie.spec traverse-requires traverse-requires-2 traverse-requires-3 (λ c. search needs) returns)

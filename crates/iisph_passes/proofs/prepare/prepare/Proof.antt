@@ -75,12 +75,6 @@ zero-refusal-requires c κs =
     let b = Start-of f in
     (b .pre .0 .timed .over .indexed .room, few b .0, omega (arith, b .pre .1 .1, ap length (made f), length-of b))
 
-enum-told : tie.Need-enum-told
-enum-told c = search needs
-
-enum-known-answer : tie.Need-enum-known-answer
-enum-known-answer c = search needs
-
 mul-clear : tie.Need-mul-clear
 mul-clear c = omega (arith, few (Start-of (Filled (c .before .before .before))))
 
@@ -93,9 +87,6 @@ clear-requires c κs =
     let b = Start-of f in
     omega (arith, b .pre .1 .1, boundaries b, ap length (made f), length-of b)
 
-same-length : tie.Need-same-length
-same-length c = search needs
-
 returns : tie.Need-returns
 unfolding workPrepared
 returns c =
@@ -107,9 +98,6 @@ returns c =
           (made f) (z .zero-refusal .ensures),
       made f,
     )
-
-same-length-2 : tie.Need-same-length-2
-same-length-2 c = search needs
 
 returns-2 : tie.Need-returns-2
 returns-2 c =
@@ -130,12 +118,12 @@ prepare-spec =
     compute-boundary-volumes-requires
     fill-rows-requires
     zero-refusal-requires
-    enum-told
-    enum-known-answer
+    (λ c. search needs)
+    (λ c. search needs)
     mul-clear
     add-clear
     clear-requires
-    same-length
+    (λ c. search needs)
     returns
-    same-length-2
+    (λ c. search needs)
     returns-2)

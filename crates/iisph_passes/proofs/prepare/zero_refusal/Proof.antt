@@ -45,12 +45,6 @@ found-2 c = sym (c .before .predicted .given .1) ∙ c .before .before .before .
 nothing-2 : (c : tie.After-enum-told2) → None (Begin (c .before .before .before .before .before .before)) predictedSlot
 nothing-2 c = sym (c .enum-told2 .given .1) ∙ c .before .before .first-zero2 .ensures
 
-first-zero-requires : tie.Need-first-zero-requires
-first-zero-requires c κs = search needs
-
-enum-known-density : tie.Need-enum-known-density
-enum-known-density c = search needs
-
 add-t9 : tie.Need-add-t9
 add-t9 c = omega (arith, found-lt _ _ (found c))
 
@@ -60,15 +54,6 @@ mul-t10 c = omega (arith, found-lt _ _ (found c))
 shared-slice-read-t12 : tie.Need-shared-slice-read-t12
 shared-slice-read-t12 c = omega (arith, found-lt _ _ (found (c .before)))
 
-enum-told : tie.Need-enum-told
-enum-told c = search needs
-
-first-zero-requires-2 : tie.Need-first-zero-requires-2
-first-zero-requires-2 c κs = search needs
-
-enum-known-predicted : tie.Need-enum-known-predicted
-enum-known-predicted c = search needs
-
 add-t15 : tie.Need-add-t15
 add-t15 c = omega (arith, found-lt _ _ (found-2 c))
 
@@ -77,9 +62,6 @@ mul-t16 c = omega (arith, found-lt _ _ (found-2 c))
 
 shared-slice-read-t18 : tie.Need-shared-slice-read-t18
 shared-slice-read-t18 c = omega (arith, found-lt _ _ (found-2 (c .before)))
-
-enum-told-2 : tie.Need-enum-told-2
-enum-told-2 c = search needs
 
 returns : tie.Need-returns
 unfolding readiness
@@ -120,18 +102,18 @@ pub zero-refusal-spec : {M : Type 1} → statement M
 zero-refusal-spec =
     tie.close
     (tie.spec
-    first-zero-requires
-    enum-known-density
+    (λ c κs. search needs)
+    (λ c. search needs)
     add-t9
     mul-t10
     shared-slice-read-t12
-    enum-told
-    first-zero-requires-2
-    enum-known-predicted
+    (λ c. search needs)
+    (λ c κs. search needs)
+    (λ c. search needs)
     add-t15
     mul-t16
     shared-slice-read-t18
-    enum-told-2
+    (λ c. search needs)
     returns
     returns-2
     returns-3)

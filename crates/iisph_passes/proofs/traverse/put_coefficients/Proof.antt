@@ -15,41 +15,14 @@ kept : (c : tie.After-slice-known2) → length (c .before .before .put-vector .l
     ≡ length (now (c .before .before .before .before .before .before .args .work))
 kept c = ap length (c .before .before .put-vector .ensures) ∙ simp length-set
 
-mul-work : tie.Need-mul-work
-mul-work c = search needs
-
-slice-write-work : tie.Need-slice-write-work
-slice-write-work c = search needs
-
-add-work : tie.Need-add-work
-add-work c = search needs
-
-mul-work-2 : tie.Need-mul-work-2
-mul-work-2 c = search needs
-
 slice-write-work-2 : tie.Need-slice-write-work-2
 slice-write-work-2 c = simp length-set (omega arith)
-
-add-work-2 : tie.Need-add-work-2
-add-work-2 c = search needs
-
-mul-work-3 : tie.Need-mul-work-3
-mul-work-3 c = search needs
 
 slice-write-work-3 : tie.Need-slice-write-work-3
 slice-write-work-3 c = simp length-set (omega arith)
 
-add-put-vector : tie.Need-add-put-vector
-add-put-vector c = search needs
-
 put-vector-requires : tie.Need-put-vector-requires
 put-vector-requires c κs = simp length-set (omega arith)
-
-add-work-3 : tie.Need-add-work-3
-add-work-3 c = search needs
-
-mul-work-4 : tie.Need-mul-work-4
-mul-work-4 c = search needs
 
 slice-write-work-4 : tie.Need-slice-write-work-4
 slice-write-work-4 c = omega (arith, kept c)
@@ -70,18 +43,18 @@ pub put-coefficients-spec : {M : Type 1} → statement M
 put-coefficients-spec =
     tie.close
     (tie.spec
-    mul-work
-    slice-write-work
-    add-work
-    mul-work-2
+    (λ c. search needs)
+    (λ c. search needs)
+    (λ c. search needs)
+    (λ c. search needs)
     slice-write-work-2
-    add-work-2
-    mul-work-3
+    (λ c. search needs)
+    (λ c. search needs)
     slice-write-work-3
-    add-put-vector
+    (λ c. search needs)
     put-vector-requires
-    add-work-3
-    mul-work-4
+    (λ c. search needs)
+    (λ c. search needs)
     slice-write-work-4
     same-length
     returns)

@@ -45,12 +45,6 @@ update-row-requires c κs =
       ),
     )
 
-add-i : tie.Need-add-i Inv-loop μ-loop
-add-i c = search needs
-
-loop-less : tie.Need-loop-less Inv-loop μ-loop
-loop-less c = search needs
-
 loop-again : tie.Need-loop-again Inv-loop μ-loop
 loop-again c =
     let t = c .before .before in
@@ -64,9 +58,6 @@ loop-again c =
           ∙ row-again (now (a .scene)) (Begin (l .before) .pre .0 .timed .over .size) (l .loop .i) (l .loop .inv .0)
           (now (a .work)) (a .pass) (l .loop .inv .2)),
     )
-
-same-length : tie.Need-same-length Inv-loop μ-loop
-same-length c = search needs
 
 returns : tie.Need-returns Inv-loop μ-loop
 returns c =
@@ -84,8 +75,8 @@ traverse-spec =
     μ-loop
     loop-holds
     update-row-requires
-    add-i
-    loop-less
+    (λ c. search needs)
+    (λ c. search needs)
     loop-again
-    same-length
+    (λ c. search needs)
     returns)

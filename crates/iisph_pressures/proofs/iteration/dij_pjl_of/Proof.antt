@@ -31,13 +31,10 @@ dij-sum-requires c κs =
     let p = Begin c .pre in
     ((p .0 .0 .over, p .1), (fluid c .kind, fluid c .ready))
 
-scale-requires : tie.Need-scale-requires
-scale-requires c κs = search needs
-
 returns : tie.Need-returns
 returns c =
     let l = c .before .before in
     dij-made (fluid l) _ (dt-is _ (Begin l .pre .0 .0 .clockIs)) (c .before .dij-sum .ensures) (c .scale .ensures)
 
 pub dij-pjl-of-spec : {M : Type 1} → statement M
-dij-pjl-of-spec = tie.close (tie.spec contacts-of-requires dij-sum-requires scale-requires returns)
+dij-pjl-of-spec = tie.close (tie.spec contacts-of-requires dij-sum-requires (λ c κs. search needs) returns)

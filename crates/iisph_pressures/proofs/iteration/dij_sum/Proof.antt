@@ -28,9 +28,6 @@ Inv-loop scene index work n kind count at sum₀ k₀ sum k =
 abbrev μ-loop : tie.MeasureT-loop
 μ-loop scene index work n kind count at sum₀ k₀ sum k = count - k
 
-zero-requires : tie.Need-zero-requires Inv-loop μ-loop
-zero-requires c κs = search needs
-
 loop-holds : tie.Need-loop-holds Inv-loop μ-loop
 unfolding contactList table fold
 loop-holds c = (omega arith, c .zero .ensures)
@@ -85,17 +82,8 @@ shared-slice-read-scale c =
     let t = c .before .before in
     omega (arith, below t, Begin (t .before) .pre .0 .1 .room)
 
-scale-requires : tie.Need-scale-requires Inv-loop μ-loop
-scale-requires c κs = search needs
-
-add-requires : tie.Need-add-requires Inv-loop μ-loop
-add-requires c κs = search needs
-
 add-k : tie.Need-add-k Inv-loop μ-loop
 add-k c = omega (arith, contact-room (here (c .before .before .before .before .before)))
-
-loop-less : tie.Need-loop-less Inv-loop μ-loop
-loop-less c = search needs
 
 loop-again : tie.Need-loop-again Inv-loop μ-loop
 unfolding contactAt
@@ -128,7 +116,7 @@ dij-sum-spec =
     (tie.spec
     Inv-loop
     μ-loop
-    zero-requires
+    (λ c κs. search needs)
     loop-holds
     mul-c
     add-c
@@ -139,9 +127,9 @@ dij-sum-spec =
     add-scale
     mul-scale-2
     shared-slice-read-scale
-    scale-requires
-    add-requires
+    (λ c κs. search needs)
+    (λ c κs. search needs)
     add-k
-    loop-less
+    (λ c. search needs)
     loop-again
     returns)

@@ -4,9 +4,6 @@ use Rattle.iisph_pressures.proofs.IterationTerms.{next-kept, next-clamp
 use Rattle.iisph_pressures.proofs.iteration.next_from.Statement.{statement}
 use Rattle.iisph_pressures.proofs.iteration.next_from.Tie as tie
 
-magnitude-requires : tie.Need-magnitude-requires
-magnitude-requires c κs = search needs
-
 returns : tie.Need-returns
 returns c = next-kept _ _ _ _ _ (c .before .before .magnitude .ensures) (c .before .if1 .taken) (c .if2 .taken)
 
@@ -20,7 +17,7 @@ pub next-from-spec : {M : Type 1} → statement M
 next-from-spec =
     tie.close
     (tie.spec
-    magnitude-requires
+    (λ c κs. search needs)
     returns
     returns-2
     returns-3)

@@ -135,9 +135,6 @@ shared-slice-read-next-from-2 c =
     let p = Begin (Row (c .before .before .before .before)) .pre in
     omega (arith, p .1 .room, p .0 .1)
 
-next-from-requires : tie.Need-next-from-requires
-next-from-requires c κs = search needs
-
 returns : tie.Need-returns
 returns c =
     let y = c .before .before .before in
@@ -175,5 +172,5 @@ next-pressure-of-spec =
     add-next-from-2
     mul-next-from-2
     shared-slice-read-next-from-2
-    next-from-requires
+    (λ c κs. search needs)
     returns)

@@ -53,9 +53,6 @@ term-requires c κs =
 add-k : tie.Need-add-k Inv-loop μ-loop
 add-k c = omega (arith, contact-room (here (c .before)))
 
-loop-less : tie.Need-loop-less Inv-loop μ-loop
-loop-less c = search needs
-
 loop-again : tie.Need-loop-again Inv-loop μ-loop
 loop-again c =
     let l = c .before .before .loop in
@@ -85,6 +82,6 @@ pressure-sum-spec =
     add-term
     term-requires
     add-k
-    loop-less
+    (λ c. search needs)
     loop-again
     returns)

@@ -27,9 +27,6 @@ add-vector c = omega (arith, contact-room (Begin c .pre .1))
 vector-requires : tie.Need-vector-requires
 vector-requires c κs = Begin c .pre .1 .doubles .gradient
 
-enum-told : tie.Need-enum-told
-enum-told c = search needs
-
 fluid : (c : tie.After-enum-told)
     → c .before .before .before .target-of .result < Begin (c .before .before .before) .args .n
 fluid c =
@@ -48,9 +45,6 @@ row-term-requires : tie.Need-row-term-requires
 row-term-requires c κs =
     let p = Begin (c .before .before .before) .pre in
     omega (arith, fluid c, p .0 .1 .room)
-
-enum-told-2 : tie.Need-enum-told-2
-enum-told-2 c = search needs
 
 mul-result : tie.Need-mul-result
 mul-result c =
@@ -71,9 +65,6 @@ shared-slice-read-result : tie.Need-shared-slice-read-result
 shared-slice-read-result c =
     let p = Begin (c .before .before .before .before .before) .pre in
     omega (arith, boundary (c .before .before), p .0 .1 .room)
-
-dot-requires : tie.Need-dot-requires
-dot-requires c κs = search needs
 
 returns : tie.Need-returns
 returns c =
@@ -98,13 +89,13 @@ term-spec =
     target-of-requires
     add-vector
     vector-requires
-    enum-told
+    (λ c. search needs)
     row-term-requires
-    enum-told-2
+    (λ c. search needs)
     mul-result
     add-result
     mul-result-2
     shared-slice-read-result
-    dot-requires
+    (λ c κs. search needs)
     returns
     returns-2)

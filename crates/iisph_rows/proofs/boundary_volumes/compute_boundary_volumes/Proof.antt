@@ -81,18 +81,12 @@ put-volumes-requires c κs =
 add-m : tie.Need-add-m Inv-loop μ-loop
 add-m c = omega (arith, turn (c .before .before .before .before) .0)
 
-loop-less : tie.Need-loop-less Inv-loop μ-loop
-loop-less c = search needs
-
 loop-again : tie.Need-loop-again Inv-loop μ-loop
 loop-again c =
     let p = c .before .before in
     let i = p .before .before in
     one-more-stored _ _ _ (i .before .loop .inv) (turn i .1) (boundaries-are (start i .pre .0 .1)) refl
     (p .put-volumes .ensures)
-
-same-length : tie.Need-same-length Inv-loop μ-loop
-same-length c = search needs
 
 returns : tie.Need-returns Inv-loop μ-loop
 returns c =
@@ -118,7 +112,7 @@ compute-boundary-volumes-spec =
     add-put-volumes
     put-volumes-requires
     add-m
-    loop-less
+    (λ c. search needs)
     loop-again
-    same-length
+    (λ c. search needs)
     returns)

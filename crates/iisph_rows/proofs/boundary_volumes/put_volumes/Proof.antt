@@ -20,38 +20,11 @@ abbrev μ-loop : tie.MeasureT-loop
 loop-holds : tie.Need-loop-holds Inv-loop μ-loop
 loop-holds c = none-stored _ _ _ _
 
-add-at : tie.Need-add-at Inv-loop μ-loop
-add-at c = search needs
-
-add-at-2 : tie.Need-add-at-2 Inv-loop μ-loop
-add-at-2 c = search needs
-
-mul-at : tie.Need-mul-at Inv-loop μ-loop
-mul-at c = search needs
-
-shared-slice-read-at : tie.Need-shared-slice-read-at Inv-loop μ-loop
-shared-slice-read-at c = search needs
-
 volume-requires : tie.Need-volume-requires Inv-loop μ-loop
 volume-requires c κs =
     let i = c .before in
     let p = i .before .before .before .before .before .pre in
     (p .1 .0 .bit, record-ok (p .0) (p .1 .0) _ (i .loop-test .taken))
-
-add-work : tie.Need-add-work Inv-loop μ-loop
-add-work c = search needs
-
-mul-work : tie.Need-mul-work Inv-loop μ-loop
-mul-work c = search needs
-
-slice-write-work : tie.Need-slice-write-work Inv-loop μ-loop
-slice-write-work c = search needs
-
-add-p : tie.Need-add-p Inv-loop μ-loop
-add-p c = search needs
-
-loop-less : tie.Need-loop-less Inv-loop μ-loop
-loop-less c = search needs
 
 loop-again : tie.Need-loop-again Inv-loop μ-loop
 loop-again c =
@@ -59,9 +32,6 @@ loop-again c =
     let p = i .before .before .before .before .before .pre in
     one-more-stored _ _ _ _ (i .before .loop .inv) (i .loop-test .taken)
     (c .volume .ensures ∙ volume-here (p .0) (p .1 .0) _ (i .loop-test .taken))
-
-same-length : tie.Need-same-length Inv-loop μ-loop
-same-length c = search needs
 
 returns : tie.Need-returns Inv-loop μ-loop
 returns c = all-stored _ _ _ _ (c .before .loop .inv) (c .loop-test .left) refl
@@ -73,16 +43,16 @@ put-volumes-spec =
     Inv-loop
     μ-loop
     loop-holds
-    add-at
-    add-at-2
-    mul-at
-    shared-slice-read-at
+    (λ c. search needs)
+    (λ c. search needs)
+    (λ c. search needs)
+    (λ c. search needs)
     volume-requires
-    add-work
-    mul-work
-    slice-write-work
-    add-p
-    loop-less
+    (λ c. search needs)
+    (λ c. search needs)
+    (λ c. search needs)
+    (λ c. search needs)
+    (λ c. search needs)
     loop-again
-    same-length
+    (λ c. search needs)
     returns)

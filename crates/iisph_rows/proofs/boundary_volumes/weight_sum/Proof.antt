@@ -38,12 +38,6 @@ add-double-2 c = omega (arith, here c)
 double-requires : tie.Need-double-requires Inv-loop μ-loop
 double-requires c κs = here c
 
-add-j : tie.Need-add-j Inv-loop μ-loop
-add-j c = search needs
-
-loop-less : tie.Need-loop-less Inv-loop μ-loop
-loop-less c = search needs
-
 loop-again : tie.Need-loop-again Inv-loop μ-loop
 loop-again c =
     let l = c .before .before .loop in
@@ -65,7 +59,7 @@ weight-sum-spec =
     add-double
     add-double-2
     double-requires
-    add-j
-    loop-less
+    (λ c. search needs)
+    (λ c. search needs)
     loop-again
     returns)

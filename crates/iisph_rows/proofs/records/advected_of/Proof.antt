@@ -17,26 +17,11 @@ here c = over-here (c .pre .0 .timed .over) (c .args .i) (c .pre .1)
 abbrev Begin : tie.After-velocity-change-of → tie.Start
 Begin c = c .before .before .before .before
 
-add-at : tie.Need-add-at
-add-at c = search needs
-
-mul-at : tie.Need-mul-at
-mul-at c = search needs
-
-shared-slice-read-at : tie.Need-shared-slice-read-at
-shared-slice-read-at c = search needs
-
-velocity-change-of-requires : tie.Need-velocity-change-of-requires
-velocity-change-of-requires c κs = search needs
-
 add-vector : tie.Need-add-vector
 add-vector c = omega (arith, here (Begin c) .own .counts)
 
 vector-requires : tie.Need-vector-requires
 vector-requires c κs = here (Begin c) .own .velocity
-
-add-requires : tie.Need-add-requires
-add-requires c κs = search needs
 
 returns : tie.Need-returns
 returns c =
@@ -48,11 +33,11 @@ pub advected-of-spec : {M : Type 1} → statement M
 advected-of-spec =
     tie.close
     (tie.spec
-    add-at
-    mul-at
-    shared-slice-read-at
-    velocity-change-of-requires
+    (λ c. search needs)
+    (λ c. search needs)
+    (λ c. search needs)
+    (λ c κs. search needs)
     add-vector
     vector-requires
-    add-requires
+    (λ c κs. search needs)
     returns)

@@ -14,15 +14,6 @@ here : (c : tie.Start)
     → FluidParticleOk (now (c .args .scene)) (indexedLocation (now (c .args .index)) (c .args .i)) (c .args .i)
 here c = over-here (c .pre .0) (c .args .i) (c .pre .1)
 
-add-at : tie.Need-add-at
-add-at c = search needs
-
-mul-at : tie.Need-mul-at
-mul-at c = search needs
-
-shared-slice-read-at : tie.Need-shared-slice-read-at
-shared-slice-read-at c = search needs
-
 add-double : tie.Need-add-double
 add-double c = omega (arith, here (c .before .before .before) .own .counts)
 
@@ -34,4 +25,4 @@ returns c = pressure-made (here (c .before .before .before .before)) (c .double 
 
 pub first-pressure-spec : {M : Type 1} → statement M
 first-pressure-spec =
-    tie.close (tie.spec add-at mul-at shared-slice-read-at add-double double-requires returns)
+    tie.close (tie.spec (λ c. search needs) (λ c. search needs) (λ c. search needs) add-double double-requires returns)

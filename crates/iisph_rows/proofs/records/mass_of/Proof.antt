@@ -14,24 +14,6 @@ here : (c : tie.Start)
     → FluidParticleOk (now (c .args .scene)) (indexedLocation (now (c .args .index)) (c .args .i)) (c .args .i)
 here c = over-here (c .pre .0) (c .args .i) (c .pre .1)
 
-add-at : tie.Need-add-at
-add-at c = search needs
-
-mul-at : tie.Need-mul-at
-mul-at c = search needs
-
-shared-slice-read-at : tie.Need-shared-slice-read-at
-shared-slice-read-at c = search needs
-
-add-head : tie.Need-add-head
-add-head c = search needs
-
-mul-head : tie.Need-mul-head
-mul-head c = search needs
-
-shared-slice-read-head : tie.Need-shared-slice-read-head
-shared-slice-read-head c = search needs
-
 add-double : tie.Need-add-double
 add-double c = omega (arith, here (c .before .before .before .before) .own .counts)
 
@@ -52,12 +34,12 @@ pub mass-of-spec : {M : Type 1} → statement M
 mass-of-spec =
     tie.close
     (tie.spec
-    add-at
-    mul-at
-    shared-slice-read-at
-    add-head
-    mul-head
-    shared-slice-read-head
+    (λ c. search needs)
+    (λ c. search needs)
+    (λ c. search needs)
+    (λ c. search needs)
+    (λ c. search needs)
+    (λ c. search needs)
     add-double
     double-requires
     add-double-2

@@ -16,32 +16,11 @@ here : (c : tie.Start)
     → FluidParticleOk (now (c .args .scene)) (indexedLocation (now (c .args .index)) (c .args .i)) (c .args .i)
 here c = over-here (c .pre .0 .timed .over) (c .args .i) (c .pre .1)
 
-add-at : tie.Need-add-at
-add-at c = search needs
-
-mul-at : tie.Need-mul-at
-mul-at c = search needs
-
-shared-slice-read-at : tie.Need-shared-slice-read-at
-shared-slice-read-at c = search needs
-
 add-vector : tie.Need-add-vector
 add-vector c = omega (arith, here (c .before .before .before) .own .counts)
 
 vector-requires : tie.Need-vector-requires
 vector-requires c κs = here (c .before .before .before) .own .acceleration
-
-add-requires : tie.Need-add-requires
-add-requires c κs = search needs
-
-zero-requires : tie.Need-zero-requires
-zero-requires c κs = search needs
-
-scale-requires : tie.Need-scale-requires
-scale-requires c κs = search needs
-
-add-requires-2 : tie.Need-add-requires-2
-add-requires-2 c κs = search needs
 
 returns : tie.Need-returns
 returns c =
@@ -59,13 +38,13 @@ pub velocity-change-of-spec : {M : Type 1} → statement M
 velocity-change-of-spec =
     tie.close
     (tie.spec
-    add-at
-    mul-at
-    shared-slice-read-at
+    (λ c. search needs)
+    (λ c. search needs)
+    (λ c. search needs)
     add-vector
     vector-requires
-    add-requires
-    zero-requires
-    scale-requires
-    add-requires-2
+    (λ c κs. search needs)
+    (λ c κs. search needs)
+    (λ c κs. search needs)
+    (λ c κs. search needs)
     returns)

@@ -23,21 +23,6 @@ abbrev μ-loop : tie.MeasureT-loop
 loop-holds : tie.Need-loop-holds Inv-loop μ-loop
 loop-holds c = (omega arith, λ j h. absurd (not-suc-le-zero h))
 
-mul-is-zero : tie.Need-mul-is-zero Inv-loop μ-loop
-mul-is-zero c = search needs
-
-add-is-zero : tie.Need-add-is-zero Inv-loop μ-loop
-add-is-zero c = search needs
-
-mul-is-zero-2 : tie.Need-mul-is-zero-2 Inv-loop μ-loop
-mul-is-zero-2 c = search needs
-
-shared-slice-read-is-zero : tie.Need-shared-slice-read-is-zero Inv-loop μ-loop
-shared-slice-read-is-zero c = search needs
-
-is-zero-requires : tie.Need-is-zero-requires Inv-loop μ-loop
-is-zero-requires c κs = search needs
-
 returns : tie.Need-returns Inv-loop μ-loop
 returns c =
     let l = c .before .before .before .before in
@@ -45,12 +30,6 @@ returns c =
     found-at (a .n) (λ j. getD (now (a .work)) (rowAt j + a .slot) nan) (l .loop .i)
     (c .before .before .before .loop-test .taken) (l .loop .inv .1)
     (sym (c .before .is-zero .ensures) ∙ c .if1 .taken)
-
-add-i : tie.Need-add-i Inv-loop μ-loop
-add-i c = search needs
-
-loop-less : tie.Need-loop-less Inv-loop μ-loop
-loop-less c = search needs
 
 loop-again : tie.Need-loop-again Inv-loop μ-loop
 loop-again c =
@@ -71,13 +50,13 @@ first-zero-spec =
     Inv-loop
     μ-loop
     loop-holds
-    mul-is-zero
-    add-is-zero
-    mul-is-zero-2
-    shared-slice-read-is-zero
-    is-zero-requires
+    (λ c. search needs)
+    (λ c. search needs)
+    (λ c. search needs)
+    (λ c. search needs)
+    (λ c κs. search needs)
     returns
-    add-i
-    loop-less
+    (λ c. search needs)
+    (λ c. search needs)
     loop-again
     returns-2)

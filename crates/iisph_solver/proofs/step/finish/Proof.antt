@@ -93,12 +93,6 @@ clear-requires c κs =
     let q = shared (p .1 .0 .0) (p .0 .0 .size) _ (p .1 .1) (k .pressure-solve .ensures) (t .traverse .ensures) in
     omega (arith, q .iteration .room, boundaries-total (p .1 .0 .0))
 
-same-length : tie.Need-same-length
-same-length c = search needs
-
-same-length-2 : tie.Need-same-length-2
-same-length-2 c = search needs
-
 returns : tie.Need-returns
 returns c =
     let l = c .before .before in
@@ -124,6 +118,6 @@ finish-spec =
     mul-clear
     add-clear
     clear-requires
-    same-length
-    same-length-2
+    (λ c. search needs)
+    (λ c. search needs)
     returns)

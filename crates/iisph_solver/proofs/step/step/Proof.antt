@@ -11,15 +11,6 @@ use Rattle.iisph_solver.proofs.step.step.Tie as tie
 bytes : (c : tie.After-check) → Bytes (now (c .before .before .before .before .args .scene))
 bytes c i = omega (arith, c .before .before .before .shared-slice-known .given i)
 
-check-requires : tie.Need-check-requires
-check-requires c κs = search needs
-
-enum-known-verdict : tie.Need-enum-known-verdict
-enum-known-verdict c = search needs
-
-enum-told : tie.Need-enum-told
-enum-told c = search needs
-
 step-accepted-requires : tie.Need-step-accepted-requires
 step-accepted-requires c κs =
     let t = c .before .before in
@@ -34,24 +25,15 @@ returns c =
     refused-steps (now (b .args .scene)) (now (b .args .answers)) (now (b .args .work))
     (verdict-refused _ (k .check .ensures) (v .verdict .given .1))
 
-same-length : tie.Need-same-length
-same-length c = search needs
-
-same-length-2 : tie.Need-same-length-2
-same-length-2 c = search needs
-
-returns-2 : tie.Need-returns-2
-returns-2 c = search needs
-
 pub step-spec : {M : Type 1} → statement M
 step-spec =
     tie.close
     (tie.spec
-    check-requires
-    enum-known-verdict
-    enum-told
+    (λ c κs. search needs)
+    (λ c. search needs)
+    (λ c. search needs)
     step-accepted-requires
     returns
-    same-length
-    same-length-2
-    returns-2)
+    (λ c. search needs)
+    (λ c. search needs)
+    (λ c. search needs))

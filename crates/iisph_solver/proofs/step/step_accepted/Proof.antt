@@ -67,14 +67,8 @@ room c = omega (arith, c .if2 .left, ap (λ n. n .work) (needed (Asked (Long c))
 step-header-requires : tie.Need-step-header-requires
 step-header-requires c κs = Start-of c .pre .walk
 
-slice-aggregate-fill : tie.Need-slice-aggregate-fill
-slice-aggregate-fill c = search needs
-
 fill-requires : tie.Need-fill-requires
 fill-requires c κs = (Start-of (c .before .before) .pre, long indexLength)
-
-slice-aggregate-prepare : tie.Need-slice-aggregate-prepare
-slice-aggregate-prepare c = search needs
 
 -- the index of the scene
 over : (c : tie.After-fill)
@@ -93,15 +87,6 @@ prepare-requires c κs =
       driven (over f) (h .step-header .ensures),
       (s .pre, omega (arith, room e, fluids-total (s .pre), work-needed (now (s .args .scene)))),
     )
-
-enum-known-readiness : tie.Need-enum-known-readiness
-enum-known-readiness c = search needs
-
-enum-told : tie.Need-enum-told
-enum-told c = search needs
-
-slice-aggregate-finish : tie.Need-slice-aggregate-finish
-slice-aggregate-finish c = search needs
 
 -- from the passes' answer back
 abbrev Filled : tie.After-prepare → tie.After-fill
@@ -124,9 +109,6 @@ finish-requires c κs =
       ),
     )
 
-same-length : tie.Need-same-length
-same-length c = search needs
-
 returns-3 : tie.Need-returns-3
 returns-3 c =
     let r = c .before in
@@ -138,12 +120,6 @@ returns-3 c =
     zero-steps b (now (s .args .answers)) w (s .pre .walk) (enough (Long e)) (room e)
     (sym (r .readiness .given .1) ∙ p .prepare .ensures .0)
     (p .prepare .ensures .1 ∙ ap (λ (x : Readiness). workPrepared b x w) (r .readiness .given .1))
-
-same-length-2 : tie.Need-same-length-2
-same-length-2 c = search needs
-
-same-length-3 : tie.Need-same-length-3
-same-length-3 c = search needs
 
 returns-4 : tie.Need-returns-4
 returns-4 c =
@@ -167,16 +143,16 @@ step-accepted-spec =
     returns
     returns-2
     step-header-requires
-    slice-aggregate-fill
+    (λ c. search needs)
     fill-requires
-    slice-aggregate-prepare
+    (λ c. search needs)
     prepare-requires
-    enum-known-readiness
-    enum-told
-    slice-aggregate-finish
+    (λ c. search needs)
+    (λ c. search needs)
+    (λ c. search needs)
     finish-requires
-    same-length
+    (λ c. search needs)
     returns-3
-    same-length-2
-    same-length-3
+    (λ c. search needs)
+    (λ c. search needs)
     returns-4)

@@ -19,9 +19,6 @@ header-numbers-requires c κs =
     let h = header (c .before) in
     (h .totalStepSize, h .remainingTime, h .maxDensityError)
 
-advance-requires : tie.Need-advance-requires
-advance-requires c κs = search needs
-
 vector-requires : tie.Need-vector-requires
 vector-requires c κs = header (c .before .before .before) .gravity
 
@@ -50,4 +47,4 @@ returns c =
 pub step-header-spec : {M : Type 1} → statement M
 step-header-spec =
     tie.close
-    (tie.spec header-numbers-requires advance-requires vector-requires byte-requires byte-requires-2 returns)
+    (tie.spec header-numbers-requires (λ c κs. search needs) vector-requires byte-requires byte-requires-2 returns)

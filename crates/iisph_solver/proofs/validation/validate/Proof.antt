@@ -11,15 +11,6 @@ use Rattle.iisph_solver.proofs.validation.validate.Tie as tie
 bytes : (c : tie.After-check) → Bytes (now (c .before .before .before .args .scene))
 bytes c i = omega (arith, c .before .before .shared-slice-known .given i)
 
-check-requires : tie.Need-check-requires
-check-requires c κs = search needs
-
-enum-known-verdict : tie.Need-enum-known-verdict
-enum-known-verdict c = search needs
-
-enum-told : tie.Need-enum-told
-enum-told c = search needs
-
 validate-accepted-requires : tie.Need-validate-accepted-requires
 validate-accepted-requires c κs =
     let k = c .before .before .before .before in
@@ -35,20 +26,14 @@ returns c =
     refused-validates (now (b .args .scene)) (now (b .args .work))
     (verdict-refused _ (k .check .ensures) (v .verdict .given .1))
 
-same-length : tie.Need-same-length
-same-length c = search needs
-
-returns-2 : tie.Need-returns-2
-returns-2 c = search needs
-
 pub validate-spec : {M : Type 1} → statement M
 validate-spec =
     tie.close
     (tie.spec
-    check-requires
-    enum-known-verdict
-    enum-told
+    (λ c κs. search needs)
+    (λ c. search needs)
+    (λ c. search needs)
     validate-accepted-requires
     returns
-    same-length
-    returns-2)
+    (λ c. search needs)
+    (λ c. search needs))

@@ -41,14 +41,8 @@ Start-of c = Begin (c .before)
 step-header-requires : tie.Need-step-header-requires
 step-header-requires c κs = Start-of c .pre .walk
 
-slice-aggregate-fill : tie.Need-slice-aggregate-fill
-slice-aggregate-fill c = search needs
-
 fill-requires : tie.Need-fill-requires
 fill-requires c κs = (Start-of (c .before .before) .pre, long indexLength)
-
-slice-aggregate-prepare : tie.Need-slice-aggregate-prepare
-slice-aggregate-prepare c = search needs
 
 -- the index of the scene
 over : (c : tie.After-fill)
@@ -72,12 +66,6 @@ prepare-requires c κs =
       ),
     )
 
-clear-requires : tie.Need-clear-requires
-clear-requires c κs = search needs
-
-same-length : tie.Need-same-length
-same-length c = search needs
-
 returns-2 : tie.Need-returns-2
 returns-2 c =
     let l = c .before .before in
@@ -98,10 +86,10 @@ validate-accepted-spec =
     lengths-of-requires
     returns
     step-header-requires
-    slice-aggregate-fill
+    (λ c. search needs)
     fill-requires
-    slice-aggregate-prepare
+    (λ c. search needs)
     prepare-requires
-    clear-requires
-    same-length
+    (λ c κs. search needs)
+    (λ c. search needs)
     returns-2)

@@ -6,20 +6,14 @@ use Rattle.iisph_words.proofs.Numbers.{length-decimal}
 use Rattle.iisph_words.proofs.digits.put_decimal.Statement.{statement}
 use Rattle.iisph_words.proofs.digits.put_decimal.Tie as tie
 
-places-requires : tie.Need-places-requires
-places-requires c κs = search needs
-
 put-digits-requires : tie.Need-put-digits-requires
 put-digits-requires c κs =
     let n = c .before .before .before .args .n in
     (omega arith, omega arith, omega (arith, length-decimal n, c .before .places .ensures))
-
-same-length : tie.Need-same-length
-same-length c = search needs
 
 returns : tie.Need-returns
 unfolding decimalOf
 returns c = rw (c .before .before .before .before .places .ensures) at (c .before .before .put-digits .ensures)
 
 pub put-decimal-spec : {M : Type 1} → statement M
-put-decimal-spec = tie.close (tie.spec places-requires put-digits-requires same-length returns)
+put-decimal-spec = tie.close (tie.spec (λ c κs. search needs) put-digits-requires (λ c. search needs) returns)

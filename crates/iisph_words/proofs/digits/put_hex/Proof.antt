@@ -4,18 +4,9 @@ use Rattle.iisph_words.specs.Digits.{hexOf}
 use Rattle.iisph_words.proofs.digits.put_hex.Statement.{statement}
 use Rattle.iisph_words.proofs.digits.put_hex.Tie as tie
 
-to-bits-requires : tie.Need-to-bits-requires
-to-bits-requires c κs = search needs
-
-put-digits-requires : tie.Need-put-digits-requires
-put-digits-requires c κs = search needs
-
-same-length : tie.Need-same-length
-same-length c = search needs
-
 returns : tie.Need-returns
 unfolding hexOf
 returns c = rw (c .before .before .before .to-bits .ensures) at (c .before .before .put-digits .ensures)
 
 pub put-hex-spec : {M : Type 1} → statement M
-put-hex-spec = tie.close (tie.spec to-bits-requires put-digits-requires same-length returns)
+put-hex-spec = tie.close (tie.spec (λ c κs. search needs) (λ c κs. search needs) (λ c. search needs) returns)

@@ -5,15 +5,6 @@ use borrow.Author.Needs.{needs}
 use Rattle.iisph_words.proofs.words.put_double.Statement.{statement}
 use Rattle.iisph_words.proofs.words.put_double.Tie as tie
 
-put-byte-requires : tie.Need-put-byte-requires
-put-byte-requires c κs = search needs
-
-put-hex-requires : tie.Need-put-hex-requires
-put-hex-requires c κs = search needs
-
-same-length : tie.Need-same-length
-same-length c = search needs
-
 returns : tie.Need-returns
 unfolding doubleText
 returns c =
@@ -22,4 +13,4 @@ returns c =
     w₁ .put-byte .ensures then w₂ .put-hex .ensures
 
 pub put-double-spec : {M : Type 1} → statement M
-put-double-spec = tie.close (tie.spec put-byte-requires put-hex-requires same-length returns)
+put-double-spec = tie.close (tie.spec (λ c κs. search needs) (λ c κs. search needs) (λ c. search needs) returns)

@@ -26,27 +26,12 @@ loop-holds : tie.Need-loop-holds Inv-loop μ-loop
 unfolding doublesText table flatten
 loop-holds c = (omega arith, none-written (omega (arith, c .before .before .pre .1)))
 
-add-put-double : tie.Need-add-put-double Inv-loop μ-loop
-add-put-double c = search needs
-
-mul-put-double : tie.Need-mul-put-double Inv-loop μ-loop
-mul-put-double c = search needs
-
-shared-slice-read-put-double : tie.Need-shared-slice-read-put-double Inv-loop μ-loop
-shared-slice-read-put-double c = search needs
-
 put-double-requires : tie.Need-put-double-requires Inv-loop μ-loop
 put-double-requires c κs =
     let l = c .before .before .before .loop in
     let a = c .before .before .before .before .before .before .args in
     let long = length-doubles (now (a .xs)) (a .k) in
     omega (arith, l .inv .1 .ends, l .inv .1 .long, long (l .e), long (a .w))
-
-add-e : tie.Need-add-e Inv-loop μ-loop
-add-e c = search needs
-
-loop-less : tie.Need-loop-less Inv-loop μ-loop
-loop-less c = search needs
 
 loop-again : tie.Need-loop-again Inv-loop μ-loop
 unfolding doublesText
@@ -57,9 +42,6 @@ loop-again c =
       omega arith,
       next-written (λ e. doubleText (getD (now (a .xs)) (a .k + e) nan)) (l .loop .inv .1) (w .put-double .ensures),
     )
-
-same-length : tie.Need-same-length Inv-loop μ-loop
-same-length c = search needs
 
 returns : tie.Need-returns Inv-loop μ-loop
 returns c =
@@ -73,12 +55,12 @@ put-doubles-spec =
     Inv-loop
     μ-loop
     loop-holds
-    add-put-double
-    mul-put-double
-    shared-slice-read-put-double
+    (λ c. search needs)
+    (λ c. search needs)
+    (λ c. search needs)
     put-double-requires
-    add-e
-    loop-less
+    (λ c. search needs)
+    (λ c. search needs)
     loop-again
-    same-length
+    (λ c. search needs)
     returns)

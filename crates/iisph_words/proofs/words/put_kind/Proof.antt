@@ -4,23 +4,11 @@ use borrow.Author.Needs.{needs}
 use Rattle.iisph_words.proofs.words.put_kind.Statement.{statement}
 use Rattle.iisph_words.proofs.words.put_kind.Tie as tie
 
-enum-told : tie.Need-enum-told
-enum-told c = search needs
-
-slice-aggregate-put-word : tie.Need-slice-aggregate-put-word
-slice-aggregate-put-word c = search needs
-
 put-word-requires : tie.Need-put-word-requires
 unfolding kindWord
 put-word-requires c κs =
     let m = c .before .before in
     rw (m .enum-told .given .1) at (m .before .before .before .pre)
-
-enum-told-2 : tie.Need-enum-told-2
-enum-told-2 c = search needs
-
-slice-aggregate-put-word-2 : tie.Need-slice-aggregate-put-word-2
-slice-aggregate-put-word-2 c = search needs
 
 put-word-requires-2 : tie.Need-put-word-requires-2
 unfolding kindWord
@@ -28,17 +16,11 @@ put-word-requires-2 c κs =
     let m = c .before .before in
     rw (m .enum-told2 .given .1) at (m .before .before .before .pre)
 
-same-length : tie.Need-same-length
-same-length c = search needs
-
 returns : tie.Need-returns
 unfolding kindWord
 returns c =
     let w = c .before .before in
     rw (w .before .before .before .enum-told .given .1) (w .put-word .ensures)
-
-same-length-2 : tie.Need-same-length-2
-same-length-2 c = search needs
 
 returns-2 : tie.Need-returns-2
 unfolding kindWord
@@ -50,13 +32,13 @@ pub put-kind-spec : {M : Type 1} → statement M
 put-kind-spec =
     tie.close
     (tie.spec
-    enum-told
-    slice-aggregate-put-word
+    (λ c. search needs)
+    (λ c. search needs)
     put-word-requires
-    enum-told-2
-    slice-aggregate-put-word-2
+    (λ c. search needs)
+    (λ c. search needs)
     put-word-requires-2
-    same-length
+    (λ c. search needs)
     returns
-    same-length-2
+    (λ c. search needs)
     returns-2)

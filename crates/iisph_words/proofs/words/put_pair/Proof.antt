@@ -22,9 +22,6 @@ put-decimal-requires-2 c κs =
     let a = c .before .before .before .before .before .before .before .before .before .before .args in
     omega (arith, length-pair (a .m) (a .n))
 
-same-length : tie.Need-same-length
-same-length c = search needs
-
 returns : tie.Need-returns
 unfolding pairText
 returns c =
@@ -36,4 +33,4 @@ returns c =
 pub put-pair-spec : {M : Type 1} → statement M
 put-pair-spec =
     tie.close
-    (tie.spec put-decimal-requires put-byte-requires put-decimal-requires-2 same-length returns)
+    (tie.spec put-decimal-requires put-byte-requires put-decimal-requires-2 (λ c. search needs) returns)

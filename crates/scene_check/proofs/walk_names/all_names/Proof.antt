@@ -27,12 +27,6 @@ models-names-requires c κs =
     let p = c .before .before .before .before .before .before .before .pre in
     (layout-counts _ (p .1), (fields-within _ (p .0) Fluid, (layout-fluids _ (p .1), refl)))
 
-enum-known-w : tie.Need-enum-known-w
-enum-known-w c = search needs
-
-enum-told : tie.Need-enum-told
-enum-told c = search needs
-
 returns : tie.Need-returns
 unfolding allNames _▹_
 returns c = let q = c .enum-told .given .1 in rw (sym (c .before .before .models-names .ensures) ∙ q) q
@@ -51,4 +45,4 @@ returns-2 c =
 
 pub all-names-spec : {M : Type 1} → statement M
 all-names-spec =
-    tie.close (tie.spec models-names-requires enum-known-w enum-told returns models-names-requires-2 returns-2)
+    tie.close (tie.spec models-names-requires (λ c. search needs) (λ c. search needs) returns models-names-requires-2 returns-2)

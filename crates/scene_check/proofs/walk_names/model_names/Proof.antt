@@ -20,12 +20,6 @@ Inv-loop s kind fluids boundaries head n from at₀ i₀ at i =
 abbrev μ-loop : tie.MeasureT-loop
 μ-loop s kind fluids boundaries head n from at₀ i₀ at i = n - i
 
-particles-requires : tie.Need-particles-requires Inv-loop μ-loop
-particles-requires c κs = search needs
-
-first-record-requires : tie.Need-first-record-requires Inv-loop μ-loop
-first-record-requires c κs = search needs
-
 loop-holds : tie.Need-loop-holds Inv-loop μ-loop
 loop-holds c = (
   none-done,
@@ -37,12 +31,6 @@ record-names-requires : tie.Need-record-names-requires Inv-loop μ-loop
 record-names-requires c κs =
     (c .before .before .before .before .before .pre .0, holds-here (c .before .loop .inv .1) (c .loop-test .taken))
 
-enum-known-w : tie.Need-enum-known-w Inv-loop μ-loop
-enum-known-w c = search needs
-
-enum-told : tie.Need-enum-told Inv-loop μ-loop
-enum-told c = search needs
-
 returns : tie.Need-returns Inv-loop μ-loop
 unfolding modelNamesOf
 returns c =
@@ -50,12 +38,6 @@ returns c =
     let l = t .before .before in
     turn-refused (l .loop .inv .0) (t .before .loop-test .taken) (t .record-names .ensures) (c .enum-told .given .1)
     ∙ rw (l .before .before .particles .ensures .0, l .before .first-record .ensures)
-
-add-i : tie.Need-add-i Inv-loop μ-loop
-add-i c = search needs
-
-loop-less : tie.Need-loop-less Inv-loop μ-loop
-loop-less c = search needs
 
 loop-again : tie.Need-loop-again Inv-loop μ-loop
 loop-again c =
@@ -79,14 +61,14 @@ model-names-spec =
     (tie.spec
     Inv-loop
     μ-loop
-    particles-requires
-    first-record-requires
+    (λ c κs. search needs)
+    (λ c κs. search needs)
     loop-holds
     record-names-requires
-    enum-known-w
-    enum-told
+    (λ c. search needs)
+    (λ c. search needs)
     returns
-    add-i
-    loop-less
+    (λ c. search needs)
+    (λ c. search needs)
     loop-again
     returns-2)

@@ -29,12 +29,6 @@ model-names-requires : tie.Need-model-names-requires Inv-loop μ-loop
 model-names-requires c κs =
     (c .before .before .before .pre .0, holds-here (c .before .loop .inv .2) (c .loop-test .taken))
 
-enum-known-w : tie.Need-enum-known-w Inv-loop μ-loop
-enum-known-w c = search needs
-
-enum-told : tie.Need-enum-told Inv-loop μ-loop
-enum-told c = search needs
-
 returns : tie.Need-returns Inv-loop μ-loop
 unfolding modelsNamesOf
 returns c =
@@ -42,12 +36,6 @@ returns c =
     rw (← t .before .before .loop .inv .0)
     (turn-refused (t .before .before .loop .inv .1) (t .before .loop-test .taken) (t .model-names .ensures)
     (c .enum-told .given .1))
-
-add-i : tie.Need-add-i Inv-loop μ-loop
-add-i c = search needs
-
-loop-less : tie.Need-loop-less Inv-loop μ-loop
-loop-less c = search needs
 
 loop-again : tie.Need-loop-again Inv-loop μ-loop
 loop-again c =
@@ -70,10 +58,10 @@ models-names-spec =
     μ-loop
     loop-holds
     model-names-requires
-    enum-known-w
-    enum-told
+    (λ c. search needs)
+    (λ c. search needs)
     returns
-    add-i
-    loop-less
+    (λ c. search needs)
+    (λ c. search needs)
     loop-again
     returns-2)

@@ -20,18 +20,9 @@ middle : (c : tie.After-w)
     ≡ Begin c .args .at + recordWidth axes + contactWidth axes * c .before .before .before .byte .result
 middle c = names-end _ _ _ _ _ _ (sym (c .before .before .names .ensures) ∙ c .w .given .1)
 
-enum-told : tie.Need-enum-told
-enum-told c = search needs
-
-add-byte : tie.Need-add-byte
-add-byte c = search needs
-
 byte-requires : tie.Need-byte-requires
 unfolding ownWidth
 byte-requires c κs = omega (arith, rw (c .enum-told .given .1) at (c .before .before .before .pre .1 .own))
-
-add-names : tie.Need-add-names
-add-names c = search needs
 
 names-requires : tie.Need-names-requires
 unfolding nextRecord ownWidth contactsWidth
@@ -41,12 +32,6 @@ names-requires c κs =
       omega
           (arith, c .byte .ensures .0, rw (p .enum-told .given .1) at (p .before .before .before .pre .1 .ends)),
     )
-
-enum-known-w : tie.Need-enum-known-w
-enum-known-w c = search needs
-
-enum-told-2 : tie.Need-enum-told-2
-enum-told-2 c = search needs
 
 returns : tie.Need-returns
 unfolding recordNamesOf _▹_
@@ -60,9 +45,6 @@ returns c =
       sym
           (r .names .ensures ∙ fluid-names-same (p .before .before .before .pre .0) _ _ _) ∙ q,
     ) q
-
-add-byte-2 : tie.Need-add-byte-2
-add-byte-2 c = search needs
 
 byte-requires-2 : tie.Need-byte-requires-2
 unfolding ownWidth
@@ -86,21 +68,6 @@ names-requires-2 c κs =
       ),
     )
 
-enum-told-3 : tie.Need-enum-told-3
-enum-told-3 c = search needs
-
-keeps-requires : tie.Need-keeps-requires
-keeps-requires c κs = search needs
-
-mul-count : tie.Need-mul-count
-mul-count c = search needs
-
-add-count : tie.Need-add-count
-add-count c = search needs
-
-add-byte-3 : tie.Need-add-byte-3
-add-byte-3 c = search needs
-
 byte-requires-3 : tie.Need-byte-requires-3
 unfolding ownWidth
 byte-requires-3 c κs =
@@ -110,12 +77,6 @@ byte-requires-3 c κs =
       rw (c .before .enum-told3 .given .1) at
           (c .before .before .before .before .pre .1 .own),
     )
-
-add-names-2 : tie.Need-add-names-2
-add-names-2 c = search needs
-
-add-names-3 : tie.Need-add-names-3
-add-names-3 c = search needs
 
 names-requires-3 : tie.Need-names-requires-3
 unfolding nextRecord ownWidth contactsWidth
@@ -150,25 +111,25 @@ pub record-names-spec : {M : Type 1} → statement M
 record-names-spec =
     tie.close
     (tie.spec
-    enum-told
-    add-byte
+    (λ c. search needs)
+    (λ c. search needs)
     byte-requires
-    add-names
+    (λ c. search needs)
     names-requires
-    enum-known-w
-    enum-told-2
+    (λ c. search needs)
+    (λ c. search needs)
     returns
-    add-byte-2
+    (λ c. search needs)
     byte-requires-2
     names-requires-2
-    enum-told-3
-    keeps-requires
-    mul-count
-    add-count
-    add-byte-3
+    (λ c. search needs)
+    (λ c κs. search needs)
+    (λ c. search needs)
+    (λ c. search needs)
+    (λ c. search needs)
     byte-requires-3
-    add-names-2
-    add-names-3
+    (λ c. search needs)
+    (λ c. search needs)
     names-requires-3
     returns-2
     returns-3)

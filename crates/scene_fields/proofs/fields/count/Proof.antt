@@ -9,15 +9,6 @@ use Rattle.scene_fields.proofs.Walks.{field-there, field-refused}
 use Rattle.scene_fields.proofs.fields.count.Statement.{statement}
 use Rattle.scene_fields.proofs.fields.count.Tie as tie
 
-plain-requires : tie.Need-plain-requires
-plain-requires c κs = search needs
-
-enum-known-w : tie.Need-enum-known-w
-enum-known-w c = search needs
-
-enum-told : tie.Need-enum-told
-enum-told c = search needs
-
 returns : tie.Need-returns
 unfolding count
 returns c = field-refused _ _ _ _ (c .before .before .plain .ensures) (c .enum-told .given .1)
@@ -41,4 +32,4 @@ returns-3 c =
     rw (field-there _ _ _ _ (h .1), ← c .before .particles .ensures .0, le-ltb _ _ (c .if1 .left), h .0)
 
 pub count-spec : {M : Type 1} → statement M
-count-spec = tie.close (tie.spec plain-requires enum-known-w enum-told returns particles-requires returns-2 returns-3)
+count-spec = tie.close (tie.spec (λ c κs. search needs) (λ c. search needs) (λ c. search needs) returns particles-requires returns-2 returns-3)

@@ -9,15 +9,6 @@ use Rattle.scene_fields.proofs.Walks.{field-there, field-refused}
 use Rattle.scene_fields.proofs.fields.double.Statement.{statement}
 use Rattle.scene_fields.proofs.fields.double.Tie as tie
 
-plain-requires : tie.Need-plain-requires
-plain-requires c κs = search needs
-
-enum-known-w : tie.Need-enum-known-w
-enum-known-w c = search needs
-
-enum-told : tie.Need-enum-told
-enum-told c = search needs
-
 returns : tie.Need-returns
 unfolding double
 returns c = field-refused _ _ _ _ (c .before .before .plain .ensures) (c .enum-told .given .1)
@@ -43,4 +34,4 @@ returns-3 c =
 pub double-spec : {M : Type 1} → statement M
 double-spec =
     tie.close
-    (tie.spec plain-requires enum-known-w enum-told returns exponent-requires returns-2 returns-3)
+    (tie.spec (λ c κs. search needs) (λ c. search needs) (λ c. search needs) returns exponent-requires returns-2 returns-3)

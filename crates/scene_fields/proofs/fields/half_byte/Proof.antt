@@ -6,15 +6,9 @@ use Rattle.scene_fields.specs.Fields.{refusedIf, halfByte}
 use Rattle.scene_fields.proofs.fields.half_byte.Statement.{statement}
 use Rattle.scene_fields.proofs.fields.half_byte.Tie as tie
 
-enum-known-rule : tie.Need-enum-known-rule
-enum-known-rule c = search needs
-
 returns : tie.Need-returns
 unfolding halfByte refusedIf choose
 returns c = rw (c .before .before .rule .given .1, ne-eqb _ _ (c .if1 .taken))
-
-enum-told : tie.Need-enum-told
-enum-told c = search needs
 
 returns-2 : tie.Need-returns-2
 unfolding halfByte refusedIf choose
@@ -30,4 +24,4 @@ returns-4 c = rw (c .before .enum-told .given .1, le-ltb _ _ (c .if2 .left))
 
 pub half-byte-spec : {M : Type 1} → statement M
 half-byte-spec =
-    tie.close (tie.spec enum-known-rule returns enum-told returns-2 returns-3 returns-4)
+    tie.close (tie.spec (λ c. search needs) returns (λ c. search needs) returns-2 returns-3 returns-4)

@@ -8,15 +8,6 @@ use Rattle.scene_fields.proofs.Walks.{field-there, field-refused}
 use Rattle.scene_fields.proofs.fields.halves.Statement.{statement}
 use Rattle.scene_fields.proofs.fields.halves.Tie as tie
 
-plain-requires : tie.Need-plain-requires
-plain-requires c κs = search needs
-
-enum-known-w : tie.Need-enum-known-w
-enum-known-w c = search needs
-
-enum-told : tie.Need-enum-told
-enum-told c = search needs
-
 returns : tie.Need-returns
 unfolding halves
 returns c = field-refused _ _ _ _ (c .before .before .plain .ensures) (c .enum-told .given .1)
@@ -26,12 +17,6 @@ byte-requires c κs =
     let p = c .before in
     let a = p .before .before .before .before .args in
     omega (arith, plain-steps (a .s .now) 1 (a .at) _ (sym (p .before .before .plain .ensures) ∙ p .w .given .1) .1)
-
-half-byte-requires : tie.Need-half-byte-requires
-half-byte-requires c κs = search needs
-
-half-byte-requires-2 : tie.Need-half-byte-requires-2
-half-byte-requires-2 c κs = search needs
 
 returns-2 : tie.Need-returns-2
 unfolding halves
@@ -45,11 +30,11 @@ pub halves-spec : {M : Type 1} → statement M
 halves-spec =
     tie.close
     (tie.spec
-    plain-requires
-    enum-known-w
-    enum-told
+    (λ c κs. search needs)
+    (λ c. search needs)
+    (λ c. search needs)
     returns
     byte-requires
-    half-byte-requires
-    half-byte-requires-2
+    (λ c κs. search needs)
+    (λ c κs. search needs)
     returns-2)

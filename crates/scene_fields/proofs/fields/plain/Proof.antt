@@ -9,12 +9,6 @@ use Rattle.scene_fields.proofs.Walks.{field-there, field-missing}
 use Rattle.scene_fields.proofs.fields.plain.Statement.{statement}
 use Rattle.scene_fields.proofs.fields.plain.Tie as tie
 
-sub-if2 : tie.Need-sub-if2
-sub-if2 c = search needs
-
-add-next : tie.Need-add-next
-add-next c = search needs
-
 returns : tie.Need-returns
 unfolding plain
 returns c =
@@ -37,4 +31,4 @@ returns-3 c =
     sym (field-missing _ _ _ _ h)
 
 pub plain-spec : {M : Type 1} → statement M
-plain-spec = tie.close (tie.spec sub-if2 add-next returns returns-2 returns-3)
+plain-spec = tie.close (tie.spec (λ c. search needs) (λ c. search needs) returns returns-2 returns-3)

@@ -22,9 +22,6 @@ finite-number n h = number-pattern n (below (leb (n % 0x8000_0000_0000_0000) 0x7
     below true e = leb-true _ _ e
     below false e = absurd (h (omega (arith, leb-false (n % 0x8000_0000_0000_0000) 0x7FF0_0000_0000_0000 e)))
 
-be64-requires : tie.Need-be64-requires
-be64-requires c κs = search needs
-
 float-from-bits-result : tie.Need-float-from-bits-result
 float-from-bits-result c = subst (λ (n : ℕ). T (not (nanBits binary64 n))) (sym (c .be64 .ensures))
     (finite-number _ (c .before .before .pre .finite))
@@ -34,4 +31,4 @@ unfolding doubleAt
 returns c = ap bits (c .be64 .ensures)
 
 pub double-spec : {M : Type 1} → statement M
-double-spec = tie.close (tie.spec be64-requires float-from-bits-result returns)
+double-spec = tie.close (tie.spec (λ c κs. search needs) float-from-bits-result returns)

@@ -32,13 +32,10 @@ exponent-front b at bytes =
     ) in
     rw (same, front (be16At b at) rest below)
 
-be16-requires : tie.Need-be16-requires
-be16-requires c κs = search needs
-
 returns : tie.Need-returns
 returns c =
     let e : _ ≡ be16At (c .before .before .args .s .now) (c .before .before .args .at) = c .be16 .ensures .0 in
     ap (λ (x : ℕ). x / 16 % 2048) e ∙ exponent-front _ _ (λ i. omega (arith, c .before .shared-slice-known .given i))
 
 pub exponent-spec : {M : Type 1} → statement M
-exponent-spec = tie.close (tie.spec be16-requires returns)
+exponent-spec = tie.close (tie.spec (λ c κs. search needs) returns)

@@ -16,24 +16,6 @@ here : (c : tie.After-shared-slice-known4)
     → let a = Begin c .args in FluidParticleOk (now (a .scene)) (indexedLocation (now (a .index)) (a .i)) (a .i)
 here c = particle-here (Begin c .pre .0) _ (Begin c .pre .1)
 
-add-at : tie.Need-add-at
-add-at c = search needs
-
-mul-at : tie.Need-mul-at
-mul-at c = search needs
-
-shared-slice-read-at : tie.Need-shared-slice-read-at
-shared-slice-read-at c = search needs
-
-add-head : tie.Need-add-head
-add-head c = search needs
-
-mul-head : tie.Need-mul-head
-mul-head c = search needs
-
-shared-slice-read-head : tie.Need-shared-slice-read-head
-shared-slice-read-head c = search needs
-
 add-double : tie.Need-add-double
 add-double c = omega (arith, here c .density0 .present)
 
@@ -46,14 +28,8 @@ add-byte c = omega (arith, here (c .before) .own .counts)
 byte-requires : tie.Need-byte-requires
 byte-requires c κs = omega (arith, here (c .before) .own .counts)
 
-enum-told : tie.Need-enum-told
-enum-told c = search needs
-
 add-t16 : tie.Need-add-t16
 add-t16 c = omega (arith, here (c .before .before .before .before) .own .counts)
-
-enum-told-2 : tie.Need-enum-told-2
-enum-told-2 c = search needs
 
 add-byte-2 : tie.Need-add-byte-2
 add-byte-2 c = omega (arith, here (c .before .before .before .before) .own .counts)
@@ -63,9 +39,6 @@ byte-requires-2 c κs = omega (arith, here (c .before .before .before .before) .
 
 add-t17 : tie.Need-add-t17
 add-t17 c = omega (arith, here (c .before .before .before .before .before) .own .counts)
-
-mul-t18 : tie.Need-mul-t18
-mul-t18 c = search needs
 
 add-t19 : tie.Need-add-t19
 add-t19 c =
@@ -92,23 +65,23 @@ pub contacts-of-spec : {M : Type 1} → statement M
 contacts-of-spec =
     tie.close
     (tie.spec
-    add-at
-    mul-at
-    shared-slice-read-at
-    add-head
-    mul-head
-    shared-slice-read-head
+    (λ c. search needs)
+    (λ c. search needs)
+    (λ c. search needs)
+    (λ c. search needs)
+    (λ c. search needs)
+    (λ c. search needs)
     add-double
     double-requires
     add-byte
     byte-requires
-    enum-told
+    (λ c. search needs)
     add-t16
-    enum-told-2
+    (λ c. search needs)
     add-byte-2
     byte-requires-2
     add-t17
-    mul-t18
+    (λ c. search needs)
     add-t19
     returns
     returns-2)

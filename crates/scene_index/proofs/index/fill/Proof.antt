@@ -65,9 +65,6 @@ fill-models-requires-3 c κs =
           (arith, locations-few p Boundary, k .before .pre .1, heads, records, starts, first),
     )
 
-same-length : tie.Need-same-length
-same-length c = search needs
-
 returns : tie.Need-returns
 returns c =
     let h = c .before .before .before in
@@ -90,5 +87,5 @@ fill-spec =
     fill-models-requires
     fill-models-requires-2
     fill-models-requires-3
-    same-length
+    (λ c. search needs)
     returns)

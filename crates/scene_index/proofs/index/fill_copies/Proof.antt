@@ -15,26 +15,8 @@ abbrev μ-loop : tie.MeasureT-loop
 loop-holds : tie.Need-loop-holds Inv-loop μ-loop
 loop-holds c = none-stored _ _ _ _
 
-add-index : tie.Need-add-index Inv-loop μ-loop
-add-index c = search needs
-
-mul-index : tie.Need-mul-index Inv-loop μ-loop
-mul-index c = search needs
-
-slice-write-index : tie.Need-slice-write-index Inv-loop μ-loop
-slice-write-index c = search needs
-
-add-i : tie.Need-add-i Inv-loop μ-loop
-add-i c = search needs
-
-loop-less : tie.Need-loop-less Inv-loop μ-loop
-loop-less c = search needs
-
 loop-again : tie.Need-loop-again Inv-loop μ-loop
 loop-again c = one-more-stored _ _ _ _ (c .before .loop .inv) (c .loop-test .taken) refl
-
-same-length : tie.Need-same-length Inv-loop μ-loop
-same-length c = search needs
 
 returns : tie.Need-returns Inv-loop μ-loop
 returns c = all-stored _ _ _ _ (c .before .loop .inv) (c .loop-test .left) (table-copies _ _)
@@ -46,11 +28,11 @@ fill-copies-spec =
     Inv-loop
     μ-loop
     loop-holds
-    add-index
-    mul-index
-    slice-write-index
-    add-i
-    loop-less
+    (λ c. search needs)
+    (λ c. search needs)
+    (λ c. search needs)
+    (λ c. search needs)
+    (λ c. search needs)
     loop-again
-    same-length
+    (λ c. search needs)
     returns)

@@ -4,26 +4,8 @@ use borrow.Author.Needs.{needs}
 use Rattle.scene_index.proofs.index.fill_model.Statement.{statement}
 use Rattle.scene_index.proofs.index.fill_model.Tie as tie
 
-enum-told : tie.Need-enum-told
-enum-told c = search needs
-
-fill-offsets-requires : tie.Need-fill-offsets-requires
-fill-offsets-requires c κs = search needs
-
-enum-told-2 : tie.Need-enum-told-2
-enum-told-2 c = search needs
-
-fill-copies-requires : tie.Need-fill-copies-requires
-fill-copies-requires c κs = search needs
-
-same-length : tie.Need-same-length
-same-length c = search needs
-
 returns : tie.Need-returns
 returns c = let f = c .before .before in rw (f .before .before .enum-told .given .1) (f .fill-offsets .ensures)
-
-same-length-2 : tie.Need-same-length-2
-same-length-2 c = search needs
 
 returns-2 : tie.Need-returns-2
 returns-2 c =
@@ -37,11 +19,11 @@ pub fill-model-spec : {M : Type 1} → statement M
 fill-model-spec =
     tie.close
     (tie.spec
-    enum-told
-    fill-offsets-requires
-    enum-told-2
-    fill-copies-requires
-    same-length
+    (λ c. search needs)
+    (λ c κs. search needs)
+    (λ c. search needs)
+    (λ c κs. search needs)
+    (λ c. search needs)
     returns
-    same-length-2
+    (λ c. search needs)
     returns-2)

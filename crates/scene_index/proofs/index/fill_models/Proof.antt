@@ -55,9 +55,6 @@ add-to c = omega (arith, room (c .before .before .before .before))
 add-m : tie.Need-add-m Inv-loop μ-loop
 add-m c = omega (arith, turn (c .before .before .before .before .before) .small)
 
-loop-less : tie.Need-loop-less Inv-loop μ-loop
-loop-less c = search needs
-
 loop-again : tie.Need-loop-again Inv-loop μ-loop
 loop-again c =
     let f = c .before .before in
@@ -65,9 +62,6 @@ loop-again c =
     let p = n .before in
     one-more-traversed _ _ _ _ _ (p .before .loop .inv) (turn p .below) (turn p .head) (n .particles .ensures .0)
     (f .fill-model .ensures)
-
-same-length : tie.Need-same-length Inv-loop μ-loop
-same-length c = search needs
 
 returns : tie.Need-returns Inv-loop μ-loop
 returns c =
@@ -87,7 +81,7 @@ fill-models-spec =
     fill-model-requires
     add-to
     add-m
-    loop-less
+    (λ c. search needs)
     loop-again
-    same-length
+    (λ c. search needs)
     returns)

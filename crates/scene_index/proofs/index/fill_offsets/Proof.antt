@@ -19,33 +19,15 @@ Inv-loop scene kind head n k index₀ at₀ i₀ index at i =
 abbrev μ-loop : tie.MeasureT-loop
 μ-loop scene kind head n k index₀ at₀ i₀ index at i = n - i
 
-first-record-requires : tie.Need-first-record-requires Inv-loop μ-loop
-first-record-requires c κs = search needs
-
 loop-holds : tie.Need-loop-holds Inv-loop μ-loop
 unfolding iter
 loop-holds c = (c .first-record .ensures, none-stored _ _ _ _)
-
-add-index : tie.Need-add-index Inv-loop μ-loop
-add-index c = search needs
-
-mul-index : tie.Need-mul-index Inv-loop μ-loop
-mul-index c = search needs
-
-slice-write-index : tie.Need-slice-write-index Inv-loop μ-loop
-slice-write-index c = search needs
 
 next-record-requires : tie.Need-next-record-requires Inv-loop μ-loop
 next-record-requires c κs =
     let l = c .before .loop in
     let b = c .before .before .before .before .before in
     rw (l .inv .0) (b .pre .0 .records (l .i) (omega arith))
-
-add-i : tie.Need-add-i Inv-loop μ-loop
-add-i c = search needs
-
-loop-less : tie.Need-loop-less Inv-loop μ-loop
-loop-less c = search needs
 
 loop-again : tie.Need-loop-again Inv-loop μ-loop
 loop-again c =
@@ -54,9 +36,6 @@ loop-again c =
       c .next-record .ensures ∙ rw (l .inv .0) (sym (iter-next _ _ _)),
       one-more-stored _ _ _ _ (l .inv .1) (p .loop-test .taken) (l .inv .0),
     )
-
-same-length : tie.Need-same-length Inv-loop μ-loop
-same-length c = search needs
 
 returns : tie.Need-returns Inv-loop μ-loop
 unfolding entryOf
@@ -71,14 +50,14 @@ fill-offsets-spec =
     (tie.spec
     Inv-loop
     μ-loop
-    first-record-requires
+    (λ c κs. search needs)
     loop-holds
-    add-index
-    mul-index
-    slice-write-index
+    (λ c. search needs)
+    (λ c. search needs)
+    (λ c. search needs)
     next-record-requires
-    add-i
-    loop-less
+    (λ c. search needs)
+    (λ c. search needs)
     loop-again
-    same-length
+    (λ c. search needs)
     returns)
