@@ -30,7 +30,8 @@ use Rattle.iisph_rules.specs.Iteration.{dijSum, dijPjl}
 use Rattle.iisph_rules.specs.Step.{boundaryAcceleration, finalVelocityChange, newVelocity, newPosition}
 use Rattle.iisph_rules.specs.Step.{fluidAnswer, forceFrom, boundaryForce, boundaryAnswer, answersFrom, answersOf}
 use Rattle.iisph_rules.specs.Answer.{answersAfter, workAfter}
-use Rattle.iisph_rules.proofs.EndToEnd.{length-rows, sum-same}
+use Rattle.lists.proofs.Numbering.{sum-same}
+use Rattle.lists.proofs.Rows.{length-rows}
 use Rattle.iisph_rules.proofs.Iterations.{chosen}
 
 -- ---- what a step needs of a fluid particle
