@@ -7,6 +7,7 @@ use mathlib.Core.Path.{_≡_, refl}
 use mathlib.Core.Bool.{Bool, true, false, _||_}
 use mathlib.Core.List.{List, _++_}
 use native.Mathlib.Omega.{arith}
+use lib.Dec.{ltb}
 use lib.ListN.{drop, replicate}
 use lib.Ieee.{Float}
 use borrow.Author.Tests.{ltb-false, le-ltb}
@@ -72,11 +73,15 @@ module _ (b : List ℕ) (answers work : ℕ) {r : Report} (q : stepAnswer b answ
   step-done =
       let (e, p, h) = walked (checked b) _ q in
       let (short, k) = not-refused _ _ _ h in
-      let n = neither _ _ short in
+      let n = neither (ltb answers (answersNeeded (sceneOf b))) (ltb work (workNeeded (sceneOf b))) short in
       record {
         end = e;
         accepted = p;
-        long = record { enoughAnswers = ltb-false _ _ (n .0); enoughWork = ltb-false _ _ (n .1) };
+        long =
+            record {
+              enoughAnswers = omega (arith, ltb-false answers (answersNeeded (sceneOf b)) (n .0));
+              enoughWork = omega (arith, ltb-false work (workNeeded (sceneOf b)) (n .1));
+            };
         scene = k;
         report = scene-done _ _ k;
       }
