@@ -9,7 +9,7 @@ use lib.Dec.{ltb}
 use borrow.Author.Tests.{ltb-true, ltb-false}
 use Rattle.lists.proofs.Lists.{in-table, table-in}
 use Rattle.scene_format.specs.Format.{axes, contactWidth, contactCount, contactsStart, startsOf, locationOf}
-use Rattle.scene_format.specs.Scene.{Contact, FluidParticle, noFluidParticle, fluidSize, particle}
+use Rattle.scene_format.specs.Scene.{Contact, FluidParticle, noFluidParticle, fluidSize}
 use Rattle.scene_format.specs.SceneOf.{targetAt, contactAt, contactList, fluidParticleAt, sceneOf}
 use Rattle.scene_format.specs.declared.Kind.{Kind}
 use Rattle.scene_format.specs.declared.Kind.the-variants.{Fluid, Boundary}

@@ -16,7 +16,7 @@ use Rattle.scene_check.proofs.OwnBytes.{same-scene-header, same-fluid-size, sam
 use Rattle.iisph_rules.specs.Coefficients.{coefficients}
 use Rattle.iisph_rules.specs.Step.{solution, fluidAnswer, answersFrom, answersOf, reportOf}
 use Rattle.iisph_rules.specs.Answer.{LongEnough, Accepted, answersAfter}
-use Rattle.iisph_rules.specs.Locality.{Matched, SameAround, SameValues, FluidLocality, SameNumberLocality}
+use Rattle.iisph_rules.specs.Locality.{Matched, SameAround, FluidLocality, SameNumberLocality}
 use Rattle.iisph_rules.specs.Locality.{MostIterations, answersFor, FluidAnswerLocality}
 use Rattle.iisph_rules.proofs.Iterations.{solution-max}
 use Rattle.iisph_rules.proofs.Near.{Near, SameSize}
