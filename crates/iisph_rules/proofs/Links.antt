@@ -1,4 +1,4 @@
--- A link is what the record's bytes say: fluid particle i of a packed scene names j exactly where one of the contacts in
+-- A link is what the record's bytes say: fluid particle i of a packed scene names j just where one of the contacts in
 -- its record does, by model and number. The scene's lists of contacts are tables over the record's, and a particle past
 -- the end has none. Assumes nothing.
 use Prim.Native.Nat.{ℕ, _+_, _*_, _<_}

@@ -1,6 +1,6 @@
 -- The claims of specs/Locality.antt: what two packed scenes have in common at a particle's own bytes, their scenes have
--- in common at the particle's number, so locality on scenes says it of the rules' values, and of the answer lists, which
--- hold these. The number of iterations is the most where the least plus one is at least that. Assumes nothing.
+-- in common at the particle's number, so locality on scenes says it of the rules' values, and with them of the answer
+-- lists. The number of iterations is the most where the least plus one is at least that. Assumes nothing.
 use Prim.Native.Nat.{ℕ, _+_, _*_, _<_}
 use mathlib.Core.Path.{_≡_, refl, sym, ap, _∙_}
 use mathlib.Core.List.{List, append-assoc}

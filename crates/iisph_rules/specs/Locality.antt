@@ -1,7 +1,7 @@
--- Locality (demand 3, METHOD 8): what is claimed of two packed scenes, each claim as one type, and what the claims speak
--- of. Links are those of the scene that the bytes stand for. Between two packed scenes particles are matched by model
--- and number, so with the same counts by their flat numbers; headers, records and rest densities are the same if their
--- bytes are (scene_check/specs/Same.antt). proofs/Locality.antt proves the claims. Definitions only.
+-- Locality (demand 3, METHOD 8): what is claimed of two packed scenes, each claim as one type, with what the claims
+-- speak of. Links are those of the scene that the bytes stand for. Between two packed scenes particles are matched by
+-- model and number, so with the same counts by their flat numbers; headers, records and rest densities are the same if
+-- their bytes are (scene_check/specs/Same.antt). proofs/Locality.antt proves the claims. Definitions only.
 use Prim.Native.Nat.{ℕ, suc, _+_, _*_, _<_, _≤_}
 use mathlib.Core.Path.{_≡_}
 use mathlib.Core.List.{List, _++_, List·Memᴰ}
@@ -98,8 +98,8 @@ FluidLocality =
     (k : ℕ) (b b′ : List ℕ) → Compared k b b′
     → (i : ℕ) → SameAround k b b′ i → SameValues (sceneOf b) (sceneOf b′) i
 
--- k need not be fixed before: whichever number of iterations one step takes, if the other takes the same, so it is.
--- What lies further off acts through that number alone
+-- k need not be fixed before: whichever number of iterations the steps take, if both take the same, the condition for
+-- that number gives the same values. So what lies further off acts through that number alone
 abbrev pub SameNumberLocality : Type 0
 SameNumberLocality =
     (b b′ : List ℕ) (m : Matched b b′) → m .accepted .report .iterations ≡ m .accepted′ .report .iterations
@@ -113,7 +113,7 @@ MostIterations =
 
 -- ---- the claims, of the answer lists
 
--- every call with long enough lists answers an accepted scene: the rules' values stand in front of what was behind them
+-- every call with long enough lists answers an accepted scene: the needed front part is then the rules' values
 abbrev pub AcceptedAnswered : Type 0
 AcceptedAnswered =
     (b : List ℕ) (a : Accepted b) (answers work : ℕ) → LongEnough b answers work → (old : List Float)

@@ -53,8 +53,8 @@ module _ {b c : List ℕ} (bytes : Bytes b) (bytes′ : Bytes c) (shape : SameSh
     {answers work answers′ work′ others spare others′ spare′ : List Float} {report report′ : Report}
     (s : Steps b answers work (Done report) answers′ work′) (t : Steps c others spare (Done report′) others′ spare′)
   where
-    -- For every k and two packed scenes with the same header and the same counts, and two calls of `step` on them that are
-    -- done after k iterations, whatever the lists held before: fluid particle i has the same position, velocity and
+    -- For every k and two packed scenes with the same header and the same counts, and two calls of `step` on them that
+    -- are done after k iterations, whatever the lists held before: fluid particle i has the same position, velocity and
     -- pressure in both answer lists, if every fluid particle within 2 k + 2 links of it has the same record and rest
     -- density, and every boundary particle that these name the same record.
     pub step-locality : {k : ℕ} → report .iterations ≡ k → report′ .iterations ≡ k
@@ -71,7 +71,7 @@ module _ {b c : List ℕ} (bytes : Bytes b) (bytes′ : Bytes c) (shape : SameSh
         _ _ _ _ (step-long s) (step-long t) answers others
         ∙ sym (ap (answersFor i) (t .answersThen))
 
-    -- k need not be fixed before: whichever number of iterations one call takes, if the other takes the same, so it is
+    -- k need not be fixed before: whichever number of iterations the calls take, if both take the same, it is their k
     pub step-same-number : report .iterations ≡ report′ .iterations
         → (i : ℕ) → i < fluidSize (sceneOf b) → SameAround (report .iterations) b c i
         → answersFor i answers′ ≡ answersFor i others′

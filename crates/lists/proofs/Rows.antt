@@ -1,5 +1,5 @@
--- Rows laid end to end in a list: how long they are, one row more, one row found, read, stored into. By induction on the
--- rows before; a run of stores within another run is a store into what the other stores. Assumes nothing.
+-- Rows laid end to end in a list: how long they are; one row more, found, read, stored into. By induction on the rows
+-- before; a run of stores within another run is a store into what the other stores. Assumes nothing.
 use Prim.Native.Nat.{ℕ, zero, suc, _+_, _<_, _≤_}
 use mathlib.Core.Path.{_≡_, refl, sym, ap, _∙_}
 use mathlib.Core.List.{List, [], _∷_, _++_, flatten, append-nil, append-assoc}

@@ -1,5 +1,5 @@
--- An instance of locality (METHOD 8): two packed scenes that differ in a second fluid that nothing links to, and what is
--- claimed of them. Two particles of the first fluid name each other, and one of them a boundary particle. The second
+-- An instance of locality (METHOD 8): two packed scenes that differ in a second fluid that nothing links to, and what
+-- is claimed of them. Two particles of the first fluid name each other, and one of them a boundary particle. The second
 -- fluid's record is longer in one scene, so the boundary's stands at another offset. Definitions only.
 use Prim.Native.Nat.{ℕ, _<_}
 use mathlib.Core.Path.{_≡_}
