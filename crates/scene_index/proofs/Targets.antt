@@ -11,9 +11,8 @@ use Rattle.lists.proofs.Numbering.{getD-map}
 use Rattle.scene_check.proofs.Accepted.{accepted}
 use Rattle.scene_check.proofs.Records.{boundary-particle-ok}
 use Rattle.scene_format.specs.Bytes.{AllFinite, vectorAt}
-use Rattle.scene_format.specs.Format.{axes, mostOfAKind, nameableParticles, startsOf, Location}
-use Rattle.scene_format.specs.Format.{nowhere}
-use Rattle.scene_format.specs.Format.{locationsOf, locationOf}
+use Rattle.scene_format.specs.Format.{axes, mostOfAKind, nameableParticles, startsOf, Location, nowhere, locationsOf}
+use Rattle.scene_format.specs.Format.{locationOf}
 use Rattle.scene_format.specs.Scene.{fluidSize, boundarySize, sizeOf, boundary}
 use Rattle.scene_format.specs.SceneOf.{targetAt, boundaryParticleAt, sceneOf}
 use Rattle.scene_format.specs.Within.{NameIs}
@@ -23,8 +22,8 @@ use Rattle.scene_format.specs.declared.Kind.the-variants.{Fluid, Boundary}
 use Rattle.scene_layout.proofs.Locations.{size-locations}
 use Rattle.scene_walk.specs.Accepted.{HeaderOk}
 use Rattle.scene_index.specs.Contacts.{ContactReady}
-use Rattle.scene_index.specs.Index.{blockSize, modelBlocks}
-use Rattle.scene_index.specs.Index.{basesLength, basesAt, headsAt, recordsAt, baseOf, basesOf, entryOf, Indexed}
+use Rattle.scene_index.specs.Index.{blockSize, modelBlocks, basesLength, basesAt, headsAt, recordsAt, baseOf}
+use Rattle.scene_index.specs.Index.{basesOf, entryOf, Indexed}
 use Rattle.scene_index.specs.declared.index.Entry.{Entry}
 use Rattle.scene_index.specs.declared.index.Entry.the-variants.{Offset, Head}
 
