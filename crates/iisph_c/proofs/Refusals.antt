@@ -6,8 +6,8 @@ use Rattle.scene_format.specs.Refusals.{numberOf}
 use Rattle.scene_format.specs.declared.Refusal.{Refusal}
 use Rattle.iisph_rules.specs.declared.StepAnswer.{StepAnswer}
 use Rattle.iisph_rules.specs.declared.StepAnswer.the-variants as answer
-use Rattle.iisph_passes.specs.Prepare.{readiness}
-use Rattle.iisph_passes.specs.declared.prepare.Readiness.the-variants as verdict
+use Rattle.iisph_preparation.specs.Prepare.{readiness}
+use Rattle.iisph_preparation.specs.declared.Readiness.the-variants as verdict
 use Rattle.iisph_c.specs.Numbers.{refusalNumber}
 
 pub ready-number : (a : StepAnswer) → verdict.Ready ≡ readiness a → 0 ≡ refusalNumber a

@@ -5,7 +5,7 @@ use crate::write::write_kernel;
 use crate::write::write_lengths;
 use crate::write::write_refusal;
 use crate::write::write_report;
-use iisph_passes::prepare::Readiness;
+use iisph_preparation::Readiness;
 use iisph_rules::StepAnswer;
 use scene_lengths::Needs;
 use scene_lengths::lengths_needed;
@@ -62,7 +62,7 @@ pub extern "C" fn iisph_needed(scene: &[u8], counts: &mut [u64]) -> u64
 pub extern "C" fn iisph_validate(scene: &[u8], work: &mut [f64]) -> usize
     ensures { λ n. ⌜ ValidatesTo (now (scene .entry)) (now (work .entry)) n (now (work .exit)) ⌝ }
 {
-    match iisph_solver::validation::validate(scene, work) {
+    match iisph_validation::validate(scene, work) {
         Readiness::Ready => 0,
         Readiness::Refused(refusal) => scene_format::number(refusal),
     }

@@ -34,7 +34,7 @@ use Rattle.iisph_iterations.specs.PressureSolve.{iterated, iteratedTimes
 use Rattle.iisph_passes.specs.Traverse.{slotOf, rowOf, nextList}
 use Rattle.iisph_passes.specs.declared.traverse.Pass.{Pass}
 use Rattle.iisph_passes.specs.declared.traverse.Pass.the-variants.{Quotients, DijPjl, NextPressures, Exchange}
-use Rattle.iisph_passes.proofs.RowsFilled.{pass-rows, pass-drop}
+use Rattle.iisph_passes.proofs.Passes.{pass-rows, pass-drop}
 use Rattle.lists.proofs.RowParts.{rows-one, rows-column, rows-same}
 use Rattle.iisph_passes.proofs.Traversal.{pass-kept, length-kept, pressures-kept, iteration-kept, iteration-same}
 

@@ -1,4 +1,3 @@
 pub mod Averages
-pub mod IterationStart
 pub mod Iterated
 pub mod Solving

@@ -1,10 +1,10 @@
 -- What the iterations make of the work list and report: one iteration's passes, some of them after each other, and how
 -- they end. Scaffolding: no promise rests on it. Definitions only.
-use Prim.Native.Nat.{ℕ, zero, suc, _<_}
+use Prim.Native.Nat.{ℕ, zero, suc}
 use mathlib.Core.Path.{_≡_}
 use mathlib.Core.List.{List}
 use lib.Ieee.{Float}
-use Rattle.iisph_passes.specs.Prepare.{afterPass}
+use Rattle.iisph_passes.specs.Traverse.{afterPass}
 use Rattle.iisph_passes.specs.declared.traverse.Pass.the-variants.{Quotients, DijPjl, NextPressures, Exchange}
 use Rattle.iisph_pressures.specs.IterationRows.{pressuresIn}
 use Rattle.iisph_rules.specs.Coefficients.{coefficients}
@@ -14,14 +14,6 @@ use Rattle.iisph_rules.specs.declared.Ending.{Ending}
 use Rattle.iisph_rules.specs.declared.Ending.the-variants.{Unswept, RanOut}
 use Rattle.scene_format.specs.Scene.{Scene, fluidSize}
 use Rattle.iisph_iterations.specs.declared.«pressure_solve».Solved.{Solved}
-use Rattle.iisph_iterations.specs.declared.«pressure_solve».Stopping.{Stopping}
-
--- the code's stopping numbers are the header's, of which the counts are bytes
-pub record StoppingIs (s : Scene) (stopping : Stopping) : Type 0 where
-  pub least : stopping .«min_pressure_iter» ≡ s .header .minPressureIter
-  pub most : stopping .«max_pressure_iter» ≡ s .header .maxPressureIter
-  pub limit : stopping .«max_density_error» ≡ s .header .maxDensityError
-  pub few : stopping .«max_pressure_iter» < 256
 
 -- the passes of one iteration
 unfoldable pub iterated : Scene → List Float → List Float

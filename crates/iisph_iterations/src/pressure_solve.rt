@@ -1,6 +1,7 @@
 // The iterations over the pressures (the Rust's `pressure_solve`): the passes of one, its error, and the loop with its
 // early end.
 use crate::errors::max_error;
+use iisph_header::Stopping;
 use iisph_passes::traverse::Pass;
 use iisph_passes::traverse::traverse;
 use iisph_rules::Ending;
@@ -8,19 +9,13 @@ use math::Vec3;
 use scene_layout::Layout;
 use timestep_manager::Clock;
 ghost use mathlib.Core.Path.{_≡_};
+ghost use Rattle.iisph_header.specs.Header.{StoppingIs};
 ghost use Rattle.iisph_pressures.specs.IterationRows.{pressuresIn, Iterating};
 ghost use Rattle.iisph_rows.specs.Passes.{DrivenPass};
 ghost use Rattle.iisph_rules.specs.Step.{firstPressures};
 ghost use Rattle.scene_check.specs.Check.{Passed};
 ghost use Rattle.scene_format.specs.SceneOf.{sceneOf};
-ghost use Rattle.iisph_iterations.specs.PressureSolve.{StoppingIs, Iterates, endingAfter, Solves};
-
-// When the iterations stop, as the header says it.
-pub struct Stopping {
-    pub min_pressure_iter: usize,
-    pub max_pressure_iter: usize,
-    pub max_density_error: f64,
-}
+ghost use Rattle.iisph_iterations.specs.PressureSolve.{Iterates, endingAfter, Solves};
 
 // How many iterations were carried out, and how they ended.
 pub struct Solved {

@@ -1,3 +1,2 @@
 pub mod Traversal
-pub mod RowsFilled
-pub mod ZeroRefusals
+pub mod Passes

@@ -1,6 +1,6 @@
 -- The passes over the fluid particles, case by case: how many values each stores in a row, that its turn stores them,
 -- and that what it needs of the list stays while it stores. Each case cites the laws of stores. Assumes nothing.
-use Prim.Native.Nat.{ℕ, suc, _+_, _*_, _<_, _≤_}
+use Prim.Native.Nat.{ℕ, suc, _+_, _<_, _≤_}
 use mathlib.Core.Path.{_≡_, refl, sym, ap, _∙_, subst}
 use mathlib.Core.Logic.{_⊎_, inl, inr}
 use mathlib.Core.List.{List, [], _∷_, _++_}

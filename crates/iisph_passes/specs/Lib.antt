@@ -1,2 +1,1 @@
 pub mod Traverse
-pub mod Prepare

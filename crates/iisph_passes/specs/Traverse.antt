@@ -7,7 +7,7 @@ use Rattle.iisph_coefficients.specs.Neighbours.{coefficientRow}
 use Rattle.iisph_coefficients.specs.declared.coefficients.CoefficientsOf.{CoefficientsOf}
 use Rattle.iisph_pressures.specs.IterationRows.{pressuresIn, dijsIn, rowQuotient, rowShare, DijReady, Iterating}
 use Rattle.iisph_rows.specs.Passes.{massRow, advectedRow, CoefficientsReady}
-use Rattle.iisph_rows.specs.Rows.{rowAt, elementAt}
+use Rattle.iisph_rows.specs.Rows.{rowAt, elementAt, stored}
 use Rattle.iisph_rows.specs.Rows.{densitySlot, pressureSlot, dijSlot, massSlot, quotientSlot, nextPressureSlot}
 use Rattle.iisph_rules.specs.Coefficients.{coefficients}
 use Rattle.iisph_rules.specs.Iteration.{NextPressure, dijPjl, nextPressure}
@@ -52,6 +52,10 @@ rowOf s work NextPressures i =
     nextList (nextPressure s (coefficients s) (pressuresIn (fluidSize s) work) (dijsIn (fluidSize s) work) i)
 rowOf s work Exchange i = rowNext work i ∷ []
 rowOf s work Shares i = rowShare work i ∷ []
+
+-- the list after the pass
+abbrev pub afterPass : Scene → Pass → List Float → List Float
+afterPass s p work = stored (fluidSize s) (slotOf p) (rowOf s work p) work
 
 -- of the list before the pass, of n rows
 unfoldable pub Ready : Scene → ℕ → List Float → Pass → Type 0

@@ -5,3 +5,4 @@ pub mod SceneLocality
 pub mod Reports
 pub mod Sizes
 pub mod Locality
+pub mod Cases

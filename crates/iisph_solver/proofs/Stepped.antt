@@ -3,11 +3,9 @@
 use Prim.Native.Nat.{ℕ, _≤_, _<_}
 use mathlib.Core.Path.{_≡_, sym, ap, _∙_}
 use mathlib.Core.List.{List}
-use native.Mathlib.Omega.{arith}
 use lib.Ieee.{Float}
 use lib.ListN.{length}
 use Rattle.scene_format.specs.Format.{locationOf}
-use Rattle.scene_format.specs.Scene.{fluidSize}
 use Rattle.scene_format.specs.SceneOf.{sceneOf}
 use Rattle.scene_lengths.specs.Lengths.{answersNeeded, workNeeded}
 use Rattle.scene_check.specs.Walk.{checked}
@@ -16,21 +14,17 @@ use Rattle.scene_format.specs.declared.Refusal.{Refusal}
 use Rattle.scene_format.specs.declared.Refusal.the-variants.{ShortList}
 use Rattle.scene_format.specs.declared.Walk.the-variants as walk
 use Rattle.iisph_rules.specs.Answer.{stepAnswer}
-use Rattle.iisph_rules.specs.Step.{firstPressures, sceneAnswer}
+use Rattle.iisph_rules.specs.Step.{sceneAnswer}
 use Rattle.iisph_rules.specs.declared.Report.{Report}
 use Rattle.iisph_rules.specs.declared.StepAnswer.the-variants.{Done, Refused}
 use Rattle.iisph_rules.proofs.Reports.{answers-refused, answers-done, work-done}
-use Rattle.iisph_pressures.specs.IterationRows.{IterationReady}
-use Rattle.iisph_passes.specs.Prepare.{workPrepared, readiness}
+use Rattle.iisph_preparation.specs.Prepare.{workPrepared, readiness}
 use Rattle.iisph_solver.specs.Step.{Steps, Finishes}
-use Rattle.iisph_passes.specs.declared.prepare.Readiness.{Readiness}
-use Rattle.iisph_passes.specs.declared.prepare.Readiness.the-variants as before
-use Rattle.iisph_solver.proofs.Cases.{refused-answer, short-answers, short-work, scene-answer, work-refused}
-use Rattle.iisph_solver.proofs.Cases.{work-short, work-cleared}
-use Rattle.iisph_iterations.proofs.IterationStart.{iteration-ready}
-use Rattle.iisph_passes.proofs.ZeroRefusals.{refused-step, ready-step}
-use Rattle.scene_lengths.proofs.Needed.{work-needed}
-use Rattle.iisph_solver.proofs.Validated.{beyond}
+use Rattle.iisph_preparation.specs.declared.Readiness.the-variants as before
+use Rattle.iisph_rules.proofs.Cases.{refused-answer, short-answers, short-work, scene-answer, work-refused}
+use Rattle.iisph_rules.proofs.Cases.{work-short, work-cleared}
+use Rattle.iisph_preparation.proofs.ZeroRefusals.{refused-step, ready-step}
+use Rattle.iisph_preparation.proofs.Prepared.{beyond}
 
 module _ (b : List ℕ) (answers work : List Float) where
   -- refusals 1 to 7
@@ -93,11 +87,3 @@ module _ (b : List ℕ) (answers work : List Float) where
               workThen = f .workThen
                   ∙ rw (p, beyond b work before.Ready) (sym (work-done b (length answers) (length work) a work));
             }
-
--- what the iterations find, once the passes before them have refused nothing
-pub prepared-ready : (b : List ℕ) {n : ℕ} → n ≡ fluidSize (sceneOf b) → (work : List Float)
-    → workNeeded (sceneOf b) ≤ length work
-    → {r : Readiness} {x : List Float} → r ≡ before.Ready → x ≡ workPrepared b r work
-    → IterationReady (sceneOf b) (firstPressures (sceneOf b)) n x
-unfolding workPrepared
-prepared-ready b size work h e q = rw (q, e, size) (iteration-ready b work (omega (arith, work-needed b)))

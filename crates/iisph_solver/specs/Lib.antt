@@ -1,2 +1,1 @@
-pub mod Validate
 pub mod Step

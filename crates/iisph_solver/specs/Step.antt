@@ -6,17 +6,12 @@ use mathlib.Core.List.{List, _++_}
 use lib.Ieee.{Float}
 use lib.ListN.{length, drop, replicate}
 use Rattle.math.specs.Real.{+0}
-use Rattle.math.specs.Vector.{coordinates}
-use Rattle.scene_format.specs.Scene.{Scene}
 use Rattle.scene_format.specs.SceneOf.{sceneOf}
 use Rattle.scene_lengths.specs.Lengths.{answersNeeded, workNeeded}
-use Rattle.iisph_iterations.specs.PressureSolve.{StoppingIs}
 use Rattle.iisph_rules.specs.Answer.{stepAnswer, answersAfter, workAfter}
-use Rattle.iisph_rules.specs.Coefficients.{clockOf}
 use Rattle.iisph_rules.specs.Step.{answersOf, reportOf}
 use Rattle.iisph_rules.specs.declared.Report.{Report}
 use Rattle.iisph_rules.specs.declared.StepAnswer.{StepAnswer}
-use Rattle.iisph_solver.specs.declared.«step_header».StepHeader.{StepHeader}
 
 -- of the bytes b and the two lists: the answer r, and the lists afterwards
 pub record Steps (b : List ℕ) (answers work : List Float) (r : StepAnswer) (answers′ work′ : List Float) : Type 0 where
@@ -29,9 +24,3 @@ pub record Finishes (b : List ℕ) (answers work : List Float) (r : Report) (ans
   pub report : r ≡ reportOf (sceneOf b)
   pub answersThen : answers′ ≡ answersOf (sceneOf b) ++ drop (answersNeeded (sceneOf b)) answers
   pub workThen : work′ ≡ replicate (workNeeded (sceneOf b)) +0 ++ drop (workNeeded (sceneOf b)) work
-
--- the code's header is that of the scene s, with the clock that the step has advanced
-pub record StepHeaderIs (s : Scene) (header : StepHeader) : Type 0 where
-  pub clockIs : header .clock ≡ clockOf s
-  pub gravityIs : coordinates (header .gravity) ≡ s .header .gravity
-  pub stoppingIs : StoppingIs s (header .stopping)

@@ -1,13 +1,13 @@
 // One pressure step (the Rust's compute_densities and step): refusals 1 to 10, the iterations, then answers and forces.
-use crate::step_header::StepHeader;
-use crate::step_header::step_header;
 use iisph_forces::boundary_answers;
+use iisph_header::StepHeader;
+use iisph_header::step_header;
 use iisph_iterations::pressure_solve::pressure_solve;
 use iisph_motion::answers::update_velocities_and_positions;
-use iisph_passes::prepare::Readiness;
-use iisph_passes::prepare::prepare;
 use iisph_passes::traverse::Pass;
 use iisph_passes::traverse::traverse;
+use iisph_preparation::Readiness;
+use iisph_preparation::prepare;
 use iisph_rows::rows::ROW;
 use iisph_rows::zeros::clear;
 use iisph_rules::Report;
@@ -16,18 +16,18 @@ use scene_check::Verdict;
 use scene_check::check;
 use scene_format::Refusal;
 use scene_index::index::INDEX_LENGTH;
-use scene_index::index::fill;
 use scene_layout::Layout;
 use scene_lengths::lengths_of;
 ghost use Prim.Native.Nat.{_≤_};
 ghost use lib.ListN.{length};
+ghost use Rattle.iisph_header.specs.Header.{StepHeaderIs};
 ghost use Rattle.iisph_pressures.specs.IterationRows.{IterationReady};
 ghost use Rattle.iisph_rows.specs.Passes.{PassOver};
 ghost use Rattle.iisph_rules.specs.Step.{firstPressures};
 ghost use Rattle.scene_check.specs.Check.{Passed};
 ghost use Rattle.scene_format.specs.SceneOf.{sceneOf};
 ghost use Rattle.scene_lengths.specs.Lengths.{answersNeeded};
-ghost use Rattle.iisph_solver.specs.Step.{StepHeaderIs, Steps, Finishes};
+ghost use Rattle.iisph_solver.specs.Step.{Steps, Finishes};
 
 // The iterations and what follows them. Nothing is refused any more, so the answer list is written; the work list is
 // left cleared.
@@ -87,8 +87,7 @@ pub fn step_accepted(
     let header = step_header(scene);
     let n = layout.fluids.total;
     let mut index = [0usize; INDEX_LENGTH];
-    fill(scene, layout, &mut index);
-    let readiness = prepare(scene, layout, &index, n, header.clock, header.gravity, work);
+    let readiness = prepare(scene, layout, header, &mut index, work);
     match readiness {
         Readiness::Refused(refusal) => StepAnswer::Refused(refusal),
         Readiness::Ready => {

@@ -10,7 +10,7 @@ use Rattle.scene_format.specs.Format.{mostOfAKind}
 use Rattle.scene_lengths.proofs.Needed.{boundaries-total}
 use Rattle.iisph_solver.proofs.Finished.{first-pressures, first-ready, solved-ready, shared, finished}
 use Rattle.iisph_solver.proofs.Finished.{answers-room, report-made}
-use Rattle.iisph_solver.proofs.StepHeaders.{driven}
+use Rattle.iisph_preparation.proofs.Prepared.{driven}
 use Rattle.iisph_solver.proofs.step.finish.Statement.{statement}
 use Rattle.iisph_solver.proofs.step.finish.Tie as tie
 

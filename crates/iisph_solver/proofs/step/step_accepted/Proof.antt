@@ -1,27 +1,22 @@
 -- `iisph_solver::step::step_accepted` meets its contract: lists that are too short are 8; else the index is filled, the
 -- passes prepare the work list and may refuse, and what follows finishes the step. Assumes nothing.
-use Prim.Native.Nat.{ℕ, _≤_}
+use Prim.Native.Nat.{_≤_}
 use mathlib.Core.Path.{_≡_, sym, ap, _∙_}
 use native.Mathlib.Omega.{arith}
 use denote.Ref.{now}
-use lib.ListN.{length, replicate, length-replicate}
+use lib.ListN.{length}
 use borrow.Author.Needs.{needs}
-use Rattle.iisph_passes.specs.Prepare.{workPrepared}
-use Rattle.iisph_passes.specs.declared.prepare.Readiness.{Readiness}
-use Rattle.iisph_rows.specs.Passes.{PassOver}
+use Rattle.iisph_preparation.specs.Prepare.{workPrepared}
+use Rattle.iisph_preparation.specs.declared.Readiness.{Readiness}
 use Rattle.scene_format.specs.SceneOf.{sceneOf}
 use Rattle.scene_index.proofs.Indexes.{indexed}
 use Rattle.scene_index.specs.Index.{indexLength}
-use Rattle.scene_lengths.proofs.Needed.{few-in, fluids-total, work-needed}
+use Rattle.scene_lengths.proofs.Needed.{few-in, fluids-total}
 use Rattle.scene_lengths.specs.Lengths.{answersNeeded, workNeeded, lengthsNeeded}
-use Rattle.iisph_solver.proofs.StepHeaders.{driven}
+use Rattle.iisph_preparation.proofs.Prepared.{long, prepared-ready}
 use Rattle.iisph_solver.proofs.Stepped.{short-answers-steps, short-work-steps, zero-steps, done-steps}
-use Rattle.iisph_solver.proofs.Stepped.{prepared-ready}
 use Rattle.iisph_solver.proofs.step.step_accepted.Statement.{statement}
 use Rattle.iisph_solver.proofs.step.step_accepted.Tie as tie
-
-long : (n : ℕ) → n ≤ length (replicate {A = ℕ} n 0)
-long n = omega (arith, length-replicate {A = ℕ} n 0)
 
 abbrev Begin : tie.After-lengths-of → tie.Start
 Begin c = c .before .before .before .before
@@ -67,72 +62,57 @@ room c = omega (arith, c .if2 .left, ap (λ n. n .work) (needed (Asked (Long c))
 step-header-requires : tie.Need-step-header-requires
 step-header-requires c κs = Start-of c .pre .walk
 
-fill-requires : tie.Need-fill-requires
-fill-requires c κs = (Start-of (c .before .before) .pre, long indexLength)
-
--- the index of the scene
-over : (c : tie.After-fill)
-    → let s = Start-of (c .before .before .before) in
-    PassOver (now (s .args .scene)) (c .fill .last .1 .1 .0) (s .args .layout .fluids .total)
-over c =
-    let p = Start-of (c .before .before .before) .pre in
-    record { indexed = rw (c .fill .ensures) (indexed p _ (long indexLength)); size = fluids-total p }
-
 prepare-requires : tie.Need-prepare-requires
 prepare-requires c κs =
-    let f = c .before .before .before in
-    let h = f .before .before in
-    let e = h .before in
-    let s = Start-of e in (
-      driven (over f) (h .step-header .ensures),
-      (s .pre, omega (arith, room e, fluids-total (s .pre), work-needed (now (s .args .scene)))),
-    )
+    let h = c .before .before in
+    ((Start-of (h .before) .pre, h .step-header .ensures), (long indexLength, room (h .before)))
 
--- from the passes' answer back
-abbrev Filled : tie.After-prepare → tie.After-fill
-Filled c = c .before .before .before .before
+-- from the preparation back
+abbrev Header : tie.After-prepare → tie.After-step-header
+Header c = c .before .before .before
+
+abbrev Enough : tie.After-prepare → tie.Else2
+Enough c = Header c .before
 
 finish-requires : tie.Need-finish-requires
 finish-requires c κs =
     let t = c .before .before .before in
-    let p = t .before .before .before .before in
-    let f = Filled p in
-    let h = f .before .before in
-    let e = h .before in
-    let s = Start-of e in (
-      (over f, h .step-header .ensures),
+    let p = t .before .before .before .before .before in
+    let e = Enough p in
+    let s = Start-of e in
+    let size = fluids-total (s .pre) in (
+      (record { indexed = p .prepare .ensures .indexed; size = size }, Header p .step-header .ensures),
       (
         (s .pre, enough (Long e)),
-        prepared-ready (now (s .args .scene)) (fluids-total (s .pre)) (now (s .args .work)) (room e)
-            (t .enum-told .given .1)
-            (p .prepare .ensures .1),
+        prepared-ready (now (s .args .scene)) size (now (s .args .work)) (room e) (t .enum-told .given .1)
+            (p .prepare .ensures .list),
       ),
     )
 
 returns-3 : tie.Need-returns-3
 returns-3 c =
     let r = c .before in
-    let p = r .before .before .before .before in
-    let e = Filled p .before .before .before in
+    let p = r .before .before .before .before .before in
+    let e = Enough p in
     let s = Start-of e in
     let b = now (s .args .scene) in
     let w = now (s .args .work) in
     zero-steps b (now (s .args .answers)) w (s .pre .walk) (enough (Long e)) (room e)
-    (sym (r .readiness .given .1) ∙ p .prepare .ensures .0)
-    (p .prepare .ensures .1 ∙ ap (λ (x : Readiness). workPrepared b x w) (r .readiness .given .1))
+    (sym (r .readiness .given .1) ∙ p .prepare .ensures .answer)
+    (p .prepare .ensures .list ∙ ap (λ (x : Readiness). workPrepared b x w) (r .readiness .given .1))
 
 returns-4 : tie.Need-returns-4
 returns-4 c =
     let f = c .before .before .before .before in
     let t = f .before .before .before .before in
-    let p = t .before .before .before .before in
-    let e = Filled p .before .before .before in
+    let p = t .before .before .before .before .before in
+    let e = Enough p in
     let s = Start-of e in
     let b = now (s .args .scene) in
     let w = now (s .args .work) in
     done-steps b (now (s .args .answers)) w (s .pre .walk) (enough (Long e)) (room e)
-    (sym (t .enum-told .given .1) ∙ p .prepare .ensures .0)
-    (p .prepare .ensures .1 ∙ ap (λ (x : Readiness). workPrepared b x w) (t .enum-told .given .1))
+    (sym (t .enum-told .given .1) ∙ p .prepare .ensures .answer)
+    (p .prepare .ensures .list ∙ ap (λ (x : Readiness). workPrepared b x w) (t .enum-told .given .1))
     (f .finish .ensures)
 
 pub step-accepted-spec : {M : Type 1} → statement M
@@ -143,8 +123,6 @@ step-accepted-spec =
     returns
     returns-2
     step-header-requires
-    (λ c. search needs)
-    fill-requires
     (λ c. search needs)
     prepare-requires
     (λ c. search needs)

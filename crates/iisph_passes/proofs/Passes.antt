@@ -1,0 +1,54 @@
+-- What a pass leaves in the work list: its rows, beside other slots and what stands behind the rows, and all else as it
+-- was. From the laws of stores, for every pass at once. Assumes nothing.
+use Prim.Native.Nat.{ℕ, _+_, _<_, _≤_}
+use mathlib.Core.Path.{_≡_}
+use mathlib.Core.List.{List}
+use mathlib.Core.Logic.{_⊎_}
+use native.Mathlib.Omega.{arith}
+use lib.Ieee.{Float, nan}
+use lib.ListN.{length, getD, drop, length-drop}
+use lib.Seq.{ext-getD, getD-drop}
+use Rattle.scene_format.specs.Format.{axes}
+use Rattle.scene_format.specs.Scene.{fluidSize}
+use Rattle.scene_format.specs.SceneOf.{sceneOf}
+use Rattle.scene_lengths.specs.Lengths.{workWidth}
+use Rattle.iisph_rows.specs.Rows.{rowAt, stored, Rows, Behind}
+use Rattle.iisph_passes.specs.Traverse.{slotOf, rowOf}
+use Rattle.iisph_passes.specs.declared.traverse.Pass.{Pass}
+use Rattle.lists.proofs.Stores.{stored-beyond, stored-rows}
+use Rattle.iisph_passes.proofs.Traversal.{rowLength, row-fits, row-length, pass-kept, volumes-kept, length-kept}
+
+-- equal lengths, and equal elements from k on
+pub drop-same : (k : ℕ) (x y : List Float) → length x ≡ length y → ((j : ℕ) → k ≤ j → getD x j nan ≡ getD y j nan)
+    → drop k x ≡ drop k y
+drop-same k x y l h =
+    ext-getD nan (drop k x) (drop k y) (simp length-drop (omega arith))
+    (λ j m. rw (getD-drop k x, getD-drop k y) (h (k + j) (omega arith)))
+
+module _ (b : List ℕ) {n : ℕ} (size : n ≡ fluidSize (sceneOf b)) (pass : Pass) (l : List Float) where
+  pub pass-rows : rowAt n ≤ length l
+      → Rows n (slotOf pass) (rowOf (sceneOf b) l pass) (stored n (slotOf pass) (rowOf (sceneOf b) l pass) l)
+  pass-rows room = stored-rows nan (workWidth axes) (slotOf pass) (rowOf (sceneOf b) l pass) l n (rowLength pass)
+      (row-length b size l pass) (row-fits pass) room
+
+  pub pass-keeps : (k c : ℕ) {g : ℕ → List Float} → ((i : ℕ) → i < n → length (g i) ≡ c) → k + c ≤ workWidth axes
+      → (k + c ≤ slotOf pass) ⊎ (slotOf pass + rowLength pass ≤ k) → Rows n k g l
+      → Rows n k g (stored n (slotOf pass) (rowOf (sceneOf b) l pass) l)
+  pass-keeps k c wide fits apart q = pass-kept b size pass n (omega arith) l k c wide fits apart q
+
+  pub pass-part : {xs : List Float} → Behind n xs l
+      → Behind n xs (stored n (slotOf pass) (rowOf (sceneOf b) l pass) l)
+  pass-part q = volumes-kept b size pass n (omega arith) l q
+
+  pub room-kept : (m : ℕ) {x : List Float} → rowAt n + m ≤ length l
+      → x ≡ stored n (slotOf pass) (rowOf (sceneOf b) l pass) l → rowAt n + m ≤ length x
+  room-kept m h e = rw (e, length-kept b size pass n (omega arith) l) h
+
+  pub pass-beyond : (j : ℕ) → rowAt n ≤ j → getD (stored n (slotOf pass) (rowOf (sceneOf b) l pass) l) j nan
+      ≡ getD l j nan
+  pass-beyond j h =
+      stored-beyond nan (workWidth axes) (slotOf pass) (rowOf (sceneOf b) l pass) l n (rowLength pass)
+      (row-length b size l pass) (row-fits pass) n (omega arith) j h
+
+  pub pass-drop : (k : ℕ) → rowAt n ≤ k → drop k (stored n (slotOf pass) (rowOf (sceneOf b) l pass) l) ≡ drop k l
+  pass-drop k h = drop-same k _ l (length-kept b size pass n (omega arith) l) (λ j m. pass-beyond j (omega arith))

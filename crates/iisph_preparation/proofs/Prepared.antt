@@ -1,0 +1,58 @@
+-- What a step goes on with once its rows are prepared: a pass's premises from the step's header and index, what the
+-- iterations find, and what stands behind the needed part. From the definitions. Assumes nothing.
+use Prim.Native.Nat.{ℕ, _≤_}
+use mathlib.Core.Path.{_≡_}
+use mathlib.Core.List.{List}
+use native.Mathlib.Omega.{arith}
+use lib.Ieee.{Float}
+use lib.ListN.{length, drop, replicate, length-replicate}
+use lib.Seq.{drop-at}
+use Rattle.math.specs.Real.{+0}
+use Rattle.scene_format.specs.Scene.{fluidSize}
+use Rattle.scene_format.specs.SceneOf.{sceneOf}
+use Rattle.scene_check.specs.Check.{Passed}
+use Rattle.scene_layout.specs.declared.Layout.{Layout}
+use Rattle.scene_index.specs.Index.{indexLength, indexOf}
+use Rattle.scene_index.proofs.Indexes.{indexed}
+use Rattle.scene_lengths.specs.Lengths.{workNeeded}
+use Rattle.scene_lengths.proofs.Needed.{fluids-total, work-needed}
+use Rattle.iisph_rules.specs.Step.{firstPressures}
+use Rattle.iisph_header.specs.Header.{StepHeaderIs}
+use Rattle.iisph_header.specs.declared.StepHeader.{StepHeader}
+use Rattle.iisph_rows.specs.Passes.{PassOver, DrivenPass}
+use Rattle.iisph_pressures.specs.IterationRows.{IterationReady}
+use Rattle.iisph_preparation.specs.Prepare.{workPrepared}
+use Rattle.iisph_preparation.specs.declared.Readiness.{Readiness}
+use Rattle.iisph_preparation.specs.declared.Readiness.the-variants.{Ready, Refused}
+use Rattle.iisph_preparation.proofs.IterationStart.{iteration-ready}
+use Rattle.iisph_preparation.proofs.RowsFilled.{drop-prepared}
+
+-- the filled index and the layout's number of fluid particles are what a pass goes over
+pub indexed-over : {b : List ℕ} {layout : Layout} → Passed b layout → (l : List ℕ) {index : List ℕ}
+    → indexLength ≤ length l → index ≡ indexOf b l → PassOver b index (layout .fluids .total)
+indexed-over passed l room e = record { indexed = rw e (indexed passed l room); size = fluids-total passed }
+
+-- what a pass may rely on, with the header's clock and gravity
+pub driven : {b index : List ℕ} {n : ℕ} {header : StepHeader} → PassOver b index n → StepHeaderIs (sceneOf b) header
+    → DrivenPass b index n (header .clock) (header .gravity)
+driven over h = record { timed = record { over = over; clockIs = h .clockIs }; gravityIs = h .gravityIs }
+
+-- behind the needed part the passes leave the list as it was
+pub beyond : (b : List ℕ) (work : List Float) (r : Readiness) → drop (workNeeded (sceneOf b)) (workPrepared b r work)
+    ≡ drop (workNeeded (sceneOf b)) work
+unfolding workPrepared
+beyond b work Ready = drop-prepared b work (workNeeded (sceneOf b)) (omega (arith, work-needed b))
+beyond b work (Refused r) = drop-at (replicate (workNeeded (sceneOf b)) +0) (drop (workNeeded (sceneOf b)) work)
+    (workNeeded (sceneOf b)) (length-replicate (workNeeded (sceneOf b)) +0)
+
+-- what the iterations find, once the passes before them have refused nothing
+pub prepared-ready : (b : List ℕ) {n : ℕ} → n ≡ fluidSize (sceneOf b) → (work : List Float)
+    → workNeeded (sceneOf b) ≤ length work
+    → {r : Readiness} {x : List Float} → r ≡ Ready → x ≡ workPrepared b r work
+    → IterationReady (sceneOf b) (firstPressures (sceneOf b)) n x
+unfolding workPrepared
+prepared-ready b size work h e q = rw (q, e, size) (iteration-ready b work (omega (arith, work-needed b)))
+
+-- a local list of n zeros has room for n
+pub long : (n : ℕ) → n ≤ length (replicate {A = ℕ} n 0)
+long n = omega (arith, length-replicate {A = ℕ} n 0)

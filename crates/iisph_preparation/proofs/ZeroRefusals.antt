@@ -1,0 +1,150 @@
+-- What is answered before the iterations is the step's: the work list's columns are the rules' coefficients, so
+-- refusals 9 and 10 over them are the rules', and where they refuse the cleared list is that of the step. From the rows
+-- of the list, one law for both columns. Assumes nothing.
+use Prim.Native.Nat.{ℕ, _+_, _<_, _≤_}
+use mathlib.Core.Path.{_≡_, refl, sym, ap, _∙_}
+use mathlib.Core.Bool.{Bool, true, false}
+use mathlib.Core.List.{List, _++_, map}
+use native.Mathlib.Nat.{zero-add}
+use native.Mathlib.Omega.{arith}
+use lib.Ieee.{Float, nan}
+use lib.ListN.{length, length-map, getD, drop, replicate}
+use lib.Seq.{sets, length-sets}
+use Rattle.math.specs.Real.{+0}
+use Rattle.lists.specs.Lists.{choose}
+use Rattle.lists.proofs.Lists.{length-table, map-table}
+use Rattle.scene_format.specs.Format.{locationOf}
+use Rattle.scene_format.specs.Scene.{Scene, fluidSize, boundarySize, particle}
+use Rattle.scene_format.specs.SceneOf.{sceneOf}
+use Rattle.scene_lengths.specs.Lengths.{workNeeded}
+use Rattle.scene_format.specs.declared.Kind.the-variants.{Fluid}
+use Rattle.scene_format.specs.declared.Refusal.{Refusal}
+use Rattle.scene_format.specs.declared.Refusal.the-variants.{ZeroDensity, ZeroPredictedDensity}
+use Rattle.iisph_rules.specs.Coefficients.{Coefficients, coefficientsOf, coefficients}
+use Rattle.scene_index.specs.Index.{recordsAt, Indexed}
+use Rattle.iisph_rows.specs.Passes.{volumes}
+use Rattle.iisph_coefficients.specs.Neighbours.{coefficientRow}
+use Rattle.iisph_preparation.specs.Prepare.{rowsFilled, prepared, workPrepared, readiness, zeroAnswer}
+use Rattle.iisph_rules.specs.Step.{reportOf, unlessZero, sceneAnswer}
+use Rattle.iisph_rows.specs.Rows.{densitySlot, predictedSlot, rowAt, column, Behind}
+use Rattle.iisph_rules.specs.declared.Report.{Report}
+use Rattle.iisph_rules.specs.declared.StepAnswer.{StepAnswer}
+use Rattle.iisph_rules.specs.declared.StepAnswer.the-variants as answer
+use Rattle.iisph_preparation.specs.declared.Readiness.{Readiness}
+use Rattle.iisph_preparation.specs.declared.Readiness.the-variants.{Ready, Refused}
+use Rattle.scene_index.proofs.Targets.{fluid-record-at}
+use Rattle.scene_lengths.proofs.Needed.{work-needed}
+use Rattle.lists.proofs.RowParts.{rows-column}
+use Rattle.iisph_preparation.proofs.RowsFilled.{part-stored, drop-prepared, coefficient-rows}
+use Rattle.iisph_rows.proofs.FirstZero.{unless-same}
+
+-- ---- the list, call by call
+
+module _ (b : List ℕ) {n : ℕ} (size : n ≡ fluidSize (sceneOf b)) (l : List Float) where
+  -- the volumes, then the rows
+  pub prepared-made : {x z : List Float} → x ≡ sets l (rowAt n) (volumes (sceneOf b)) → z ≡ rowsFilled (sceneOf b) x
+      → z ≡ prepared (sceneOf b) l
+  unfolding prepared
+  prepared-made e q = rw (q, e, size)
+
+  -- the volumes are there
+  pub volumes-there : {x : List Float} → rowAt n + boundarySize (sceneOf b) ≤ length l
+      → x ≡ sets l (rowAt n) (volumes (sceneOf b))
+      → (rowAt n + boundarySize (sceneOf b) ≤ length x) × Behind n (volumes (sceneOf b)) x
+  volumes-there room e =
+      let v : length (volumes (sceneOf b)) ≡ boundarySize (sceneOf b) = length-table (boundarySize (sceneOf b)) _ in
+      rw e (
+        omega (arith, length-sets l (rowAt n) (volumes (sceneOf b))),
+        part-stored (rowAt n) (volumes (sceneOf b)) l
+            (omega arith),
+      )
+
+  -- a refused scene
+  pub work-cleared : (m : ℕ) (r : Refusal) {y z : List Float} → m ≡ boundarySize (sceneOf b)
+      → z ≡ prepared (sceneOf b) l
+      → y ≡ replicate (rowAt n + m) +0 ++ drop (rowAt n + m) z → y ≡ workPrepared b (Refused r) l
+  unfolding workPrepared
+  work-cleared m r {y} {z} few e q =
+      let needed : rowAt n + m ≡ workNeeded (sceneOf b) = omega (arith, work-needed b) in
+      q
+      ∙ ap (λ (t : List Float). replicate (rowAt n + m) +0 ++ drop (rowAt n + m) t) e
+      ∙ rw (needed, drop-prepared b l (workNeeded (sceneOf b)) (omega (arith, needed)))
+
+-- ---- columns
+
+module _ (b : List ℕ) (l : List Float)
+    (room : rowAt (fluidSize (sceneOf b)) + boundarySize (sceneOf b) ≤ length l) where
+  coefficient-column : (e : ℕ) (x : Coefficients → Float)
+      → ((i : ℕ) → (e < length (coefficientRow (sceneOf b) i))
+      × (getD (coefficientRow (sceneOf b) i) e nan ≡ x (coefficientsOf (sceneOf b) (particle (sceneOf b) i))))
+      → column (fluidSize (sceneOf b)) e (prepared (sceneOf b) l) ≡ map x (coefficients (sceneOf b))
+  unfolding coefficients
+  coefficient-column e x h =
+      ap (λ (k : ℕ). column (fluidSize (sceneOf b)) k (prepared (sceneOf b) l)) (sym (zero-add e))
+      ∙ rows-column e (λ i. x (coefficientsOf (sceneOf b) (particle (sceneOf b) i))) (coefficient-rows b l room)
+      (λ i m. h i)
+      ∙ sym (map-table x (fluidSize (sceneOf b)) (λ i. coefficientsOf (sceneOf b) (particle (sceneOf b) i)))
+
+  -- the two that refusals look at
+  columns : (column (fluidSize (sceneOf b)) densitySlot (prepared (sceneOf b) l)
+      ≡ map (λ k. k .density) (coefficients (sceneOf b)))
+      × (column (fluidSize (sceneOf b)) predictedSlot (prepared (sceneOf b) l)
+      ≡ map (λ k. k .predictedDensity) (coefficients (sceneOf b)))
+  unfolding coefficientRow
+  columns = (
+    coefficient-column densitySlot (λ k. k .density) (λ i. (omega arith, refl)),
+    coefficient-column predictedSlot
+        (λ k. k .predictedDensity) (λ i. (omega arith, refl)),
+  )
+
+  -- the index gives the offset of each particle's record
+  offsets-same : {index : List ℕ} → Indexed b index → (x : Coefficients → Float) (i : ℕ)
+      → i < length (map x (coefficients (sceneOf b)))
+      → getD index (recordsAt Fluid + i) 0 ≡ locationOf Fluid b i .at
+  unfolding coefficients
+  offsets-same ix x i m =
+      let n = length-map (coefficients (sceneOf b)) x in
+      fluid-record-at ix i
+      (omega (
+        arith,
+        n,
+        length-table (fluidSize (sceneOf b))
+            (λ i. coefficientsOf (sceneOf b) (particle (sceneOf b) i)),
+      ))
+
+  -- refusals 9 and 10 over the columns are the step's
+  pub answer-made : {index : List ℕ} {n : ℕ} {z : List Float} {r : Readiness} → Indexed b index
+      → n ≡ fluidSize (sceneOf b) → z ≡ prepared (sceneOf b) l
+      → ((report : Report)
+      → r ≡ readiness
+      (zeroAnswer (λ i. getD index (recordsAt Fluid + i) 0) (column n densitySlot z) (column n predictedSlot z) report))
+      → r ≡ readiness (sceneAnswer (λ i. locationOf Fluid b i .at) (sceneOf b))
+  unfolding sceneAnswer
+  answer-made {index} {n} {z} {r} ix size e h =
+      let at : ℕ → ℕ = λ i. getD index (recordsAt Fluid + i) 0 in
+      let place : ℕ → ℕ = λ i. locationOf Fluid b i .at in
+      let given = rw (size, e, columns .0, columns .1) at (h (reportOf (sceneOf b))) in
+      given
+      ∙ ap readiness
+      (unless-same at place ZeroDensity _ (offsets-same ix (λ k. k .density))
+      (unless-same at place ZeroPredictedDensity _ (offsets-same ix (λ k. k .predictedDensity)) refl))
+
+-- ---- what the answer says of the step's
+
+pub refused-step : (a : StepAnswer) {r : Refusal} → Refused r ≡ readiness a → a ≡ answer.Refused r
+unfolding readiness
+refused-step (answer.Done report) e = let z : _≡_ {A = ℕ} 0 1 = cc in absurd (omega arith)
+refused-step (answer.Refused r) e = cc
+
+done-go : (t u : Bool) (r r′ : Refusal) (report : Report)
+    → Ready ≡ readiness (choose t (answer.Refused r) (choose u (answer.Refused r′) (answer.Done report)))
+    → choose t (answer.Refused r) (choose u (answer.Refused r′) (answer.Done report)) ≡ answer.Done report
+unfolding readiness choose
+done-go true u r r′ report e = let z : _≡_ {A = ℕ} 0 1 = cc in absurd (omega arith)
+done-go false true r r′ report e = let z : _≡_ {A = ℕ} 0 1 = cc in absurd (omega arith)
+done-go false false r r′ report e = refl
+
+pub ready-step : (at : ℕ → ℕ) (s : Scene) → Ready ≡ readiness (sceneAnswer at s)
+    → sceneAnswer at s ≡ answer.Done (reportOf s)
+unfolding sceneAnswer unlessZero
+ready-step at s e = done-go _ _ _ _ (reportOf s) e
