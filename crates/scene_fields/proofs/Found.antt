@@ -4,17 +4,20 @@
 use Prim.Native.Nat.{ℕ, _+_}
 use mathlib.Core.Path.{_≡_, refl, _∙_}
 use mathlib.Core.List.{List}
+use native.Mathlib.Omega.{arith}
 use borrow.Author.Tests.{ne-eqb}
 use Rattle.lists.specs.Lists.{choose}
 use Rattle.scene_format.specs.Bytes.{doubleWidth, FiniteAt}
 use Rattle.scene_format.specs.Format.{totalStepSizeOffset, remainingTimeOffset, maxDensityErrorOffset}
+use Rattle.scene_format.specs.declared.Refusal.{Refusal}
 use Rattle.scene_format.specs.declared.Walk.{Walk}
 use Rattle.scene_format.specs.declared.Walk.the-variants.{At, Refused}
 use Rattle.scene_fields.specs.Fields.{refusedIf, double}
 use Rattle.scene_fields.specs.Reading.{readAs, doubleRead, reached, behindDouble, numbersOf, headerNumbersOf}
 use Rattle.scene_fields.specs.Reading.{headerRead}
+use Rattle.scene_fields.specs.declared.reader.HeaderNumbers.{HeaderNumbers}
 use Rattle.scene_fields.specs.declared.reader.HeaderRead.{HeaderRead}
-use Rattle.scene_fields.specs.declared.reader.HeaderRead.the-variants.{Numbers}
+use Rattle.scene_fields.specs.declared.reader.HeaderRead.the-variants.{Numbers, Refused as NoNumbers}
 use Rattle.scene_fields.proofs.Reached.{double-steps}
 use Rattle.scene_fields.proofs.Walks.{field-there}
 
@@ -47,3 +50,10 @@ module _ (b : List ℕ) where
       first : (w : Walk) → double b totalStepSizeOffset ≡ w → readInTurn ≡ headerRead b
       first (Refused r) p = rw p
       first (At x) p = second p (double b remainingTimeOffset) refl
+
+-- numbers that are found are not refused, and are those
+pub not-refused : {A : Type 0} {n : HeaderNumbers} {r : Refusal} → Numbers n ≡ NoNumbers r → A
+not-refused q = let z : _≡_ {A = ℕ} 0 1 = cc in absurd (omega arith)
+
+pub found-numbers : {m n : HeaderNumbers} → Numbers m ≡ Numbers n → m ≡ n
+found-numbers q = cc
