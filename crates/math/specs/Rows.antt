@@ -1,0 +1,47 @@
+-- The edges of the functions on doubles: zeros of either sign, not-a-numbers, and the order of rounding. Each row is what
+-- a definition yields, by its bits, and the bits that it must be. Definitions only.
+use Prim.Native.Nat.{ℕ}
+use mathlib.Core.Bool.{cond}
+use mathlib.Core.List.{List, [], _∷_}
+use lib.Ieee.{Float}
+use Rattle.math.specs.Real.{⊝, bits, bitsOf, +0, one, isZero, magnitude, larger}
+use Rattle.math.specs.Vector.{_·_}
+
+pub record Row : Type 0 where
+  pub yields : ℕ
+  pub value : ℕ
+
+abbrev pub double : Float → ℕ → Row
+double x v = record { yields = bitsOf x; value = v }
+
+-- whether a double is a zero: 1 for yes
+abbrev pub zeroTest : Float → ℕ → Row
+zeroTest x v = record { yields = cond (isZero x) 1 0; value = v }
+
+abbrev pub notANumber : Float
+notANumber = bits 0x7FF8000000000000
+
+-- half the last place of 1
+abbrev pub tiny : Float
+tiny = bits 0x3CA0000000000000
+
+abbrev pub rows : List Row
+rows =
+    -- both zeros are zero, and no other double is
+    zeroTest +0 1
+    ∷ zeroTest (⊝ +0) 1
+    ∷ zeroTest (⊝ one) 0
+    ∷ zeroTest notANumber 0
+    -- a magnitude has no sign
+    ∷ double (magnitude (⊝ +0)) 0
+    ∷ double (magnitude (⊝ one)) 0x3FF0000000000000
+    -- a not-a-number is passed over, and of equals the first stays
+    ∷ double (larger one notANumber) 0x3FF0000000000000
+    ∷ double (larger +0 (⊝ +0)) 0
+    ∷ double (larger (⊝ +0) +0) 0x8000000000000000
+    -- every pattern above infinity's is a not-a-number
+    ∷ double (bits 0xFFF0000000000001) 0x7FF8000000000000
+    -- products are added from the left, and the first one as it is
+    ∷ double ((one ∷ tiny ∷ tiny ∷ []) · (one ∷ one ∷ one ∷ [])) 0x3FF0000000000000
+    ∷ double ((⊝ +0 ∷ ⊝ +0 ∷ ⊝ +0 ∷ []) · (one ∷ one ∷ one ∷ [])) 0x8000000000000000
+    ∷ []
