@@ -1,8 +1,9 @@
--- The edges of the functions on doubles: zeros of either sign, not-a-numbers, and the order of rounding. Each row is what
--- a definition yields, by its bits, and the bits that it must be. Definitions only.
+-- Rows: what a definition yields, and the number that it must be. Here the edges of the functions on doubles: zeros of
+-- either sign, not-a-numbers, and the order of rounding. Definitions only.
 use Prim.Native.Nat.{ℕ}
+use mathlib.Core.Path.{_≡_}
 use mathlib.Core.Bool.{cond}
-use mathlib.Core.List.{List, [], _∷_}
+use mathlib.Core.List.{List, [], _∷_, map}
 use lib.Ieee.{Float}
 use Rattle.math.specs.Real.{⊝, bits, bitsOf, +0, one, isZero, magnitude, larger}
 use Rattle.math.specs.Vector.{_·_}
@@ -11,12 +12,22 @@ pub record Row : Type 0 where
   pub yields : ℕ
   pub value : ℕ
 
+abbrev pub number : ℕ → ℕ → Row
+number n v = record { yields = n; value = v }
+
+-- a double, by its bits
 abbrev pub double : Float → ℕ → Row
-double x v = record { yields = bitsOf x; value = v }
+double x v = number (bitsOf x) v
+
+-- the definitions yield every row
+abbrev pub Yielded : List Row → Type 0
+Yielded rs = map (λ (r : Row). r .yields) rs ≡ map (λ (r : Row). r .value) rs
+
+-- ---- the edges of doubles
 
 -- whether a double is a zero: 1 for yes
 abbrev pub zeroTest : Float → ℕ → Row
-zeroTest x v = record { yields = cond (isZero x) 1 0; value = v }
+zeroTest x v = number (cond (isZero x) 1 0) v
 
 abbrev pub notANumber : Float
 notANumber = bits 0x7FF8000000000000

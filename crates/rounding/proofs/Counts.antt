@@ -98,10 +98,10 @@ at-most-zero {x} {a} {c} C X = go (X .sign) (X .signed) (X .value)
 
 -- ---- a finite double that is at least 0
 
-abbrev pub -0 : Float
--0 = fin true 0 (pos 0)
+abbrev pub minus-zero : Float
+minus-zero = fin true 0 (pos 0)
 
-pub minus-zero-or-fraction : (P : Float → Type 0) → P -0 → ((x : Float) → Fraction false x (count x) unit → P x)
+pub minus-zero-or-fraction : (P : Float → Type 0) → P minus-zero → ((x : Float) → Fraction false x (count x) unit → P x)
     → (x : Float) → T (fits binary64 x) → T (finite x) → T (le +0 x) → P x
 unfolding le ofBits
 minus-zero-or-fraction P z p nan t i h = absurd i
