@@ -2,20 +2,8 @@
 -- in `count` is exact. A finite double that is at least 0 is -0, or the fraction of its count. Assumes nothing.
 use mathlib.Core.Path.{_≡_, refl, sym, ap, _∙_, subst}
 use Prim.Native.Nat.{ℕ, zero, suc, _+_, _-_, _*_, _/_, _%_, _^_, _≤_, _<_, zero-le}
-use native.Mathlib.Nat.{
-  le-trans,
-  le-of-eq,
-  le-of-suc-le-suc,
-  lt-of-not-le,
-  not-le-of-lt,
-  mul-le-mul-right,
-  mul-one,
-  one-mul,
-  zero-mul,
-  mul-assoc,
-  mul-div-cancel,
-  div-one,
-}
+use native.Mathlib.Nat.{le-trans, le-of-eq, le-of-suc-le-suc, lt-of-not-le, not-le-of-lt, mul-le-mul-right, mul-one}
+use native.Mathlib.Nat.{one-mul, zero-mul, mul-assoc, mul-div-cancel, div-one}
 use native.Mathlib.Omega.{arith}
 use mathlib.Core.Bool.{Bool, true, false, _&&_, _||_}
 use lib.IntN.{ℤ, pos, negsuc}
