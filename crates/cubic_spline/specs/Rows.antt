@@ -1,5 +1,5 @@
--- The specification's examples of the kernel: the starred values of the two shapes (METHOD 1.2, 1.3), refusals 11 and 12
--- (FORMAT 2.1), and the edges beside them. Doubles by their bits. Definitions only.
+-- The specification's examples of the kernel: the starred values of the two shapes (METHOD 1.2, 1.3), refusals 11 and
+-- 12 (FORMAT 2.1), and the edges beside them. Doubles by their bits. Definitions only.
 use Prim.Native.Nat.{ℕ}
 use mathlib.Core.List.{List, [], _∷_}
 use lib.Ieee.{Float}

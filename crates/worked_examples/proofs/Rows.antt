@@ -51,4 +51,5 @@ pub rows-hold : All Holds rows
 unfolding rows
 rows-hold =
     both (each math.rows doubles-hold)
-    (both (each kernel.rows kernel-holds) (both refusals-hold (both starred-hold (both refused-steps-hold further-hold))))
+    (both (each kernel.rows kernel-holds)
+    (both refusals-hold (both starred-hold (both refused-steps-hold further-hold))))

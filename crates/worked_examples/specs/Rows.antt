@@ -1,4 +1,5 @@
--- The worked examples of doubles, kernel, check and step, as one list; worked_texts has the texts too. Definitions only.
+-- The worked examples of doubles, kernel, check and step, as one list; that of worked_texts has the texts too.
+-- Definitions only.
 use mathlib.Core.List.{List, _++_, map}
 use Rattle.math.specs.Rows as math
 use Rattle.cubic_spline.specs.Rows as kernel

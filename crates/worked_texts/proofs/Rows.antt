@@ -1,5 +1,5 @@
--- The definitions yield every worked example: those of worked_examples by its theorem, the texts by evaluation, for which
--- `writing` opens every definition that a text goes through. Assumes nothing.
+-- The definitions yield every worked example: those of worked_examples by its theorem, the texts by evaluation, for
+-- which `writing` opens every definition that a text goes through. Assumes nothing.
 use Prim.Native.Nat.{ℕ}
 use mathlib.Core.Path.{refl}
 use mathlib.Core.List.{List, map}
