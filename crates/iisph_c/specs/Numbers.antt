@@ -19,9 +19,13 @@ refusedBy n = 100 + n
 abbrev pub refusedCode : Refusal → ℕ
 refusedCode r = refusedBy (numberOf r)
 
--- `counts` has two elements; a refusal's offset goes to the second
-abbrev pub countsRoom : List ℕ → Bool
-countsRoom counts = leb 2 (length counts)
+-- how many elements `counts` must have
+abbrev pub countsNeeded : ℕ
+countsNeeded = 2
 
+abbrev pub countsRoom : List ℕ → Bool
+countsRoom counts = leb countsNeeded (length counts)
+
+-- a refusal's offset is the second
 abbrev pub refusedCounts : Refusal → List ℕ → List ℕ
 refusedCounts r old = set old 1 (placeOf r)

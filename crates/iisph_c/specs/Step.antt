@@ -38,9 +38,13 @@ countsAfter (Refused r) old = refusedCounts r old
 
 -- ---- the call
 
+-- how many elements `numbers` must have
+abbrev pub numbersNeeded : ℕ
+numbersNeeded = 4
+
 -- whether `numbers` and `counts` are long enough
 unfoldable pub hasRoom : List Float → List ℕ → Bool
-hasRoom numbers counts = leb 4 (length numbers) && countsRoom counts
+hasRoom numbers counts = leb numbersNeeded (length numbers) && countsRoom counts
 
 -- of the bytes b and the four lists: the result r, and the lists afterwards
 pub record StepsTo (b : List ℕ) (answers work numbers : List Float) (counts : List ℕ) (r : ℕ)

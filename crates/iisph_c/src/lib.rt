@@ -1,6 +1,8 @@
 // The C interface (include/iisph.h). A slice is a pointer and a length.
 mod write;
 
+use crate::write::COUNTS;
+use crate::write::NUMBERS;
 use crate::write::TOO_SHORT;
 use crate::write::write_kernel;
 use crate::write::write_lengths;
@@ -31,10 +33,10 @@ pub extern "C" fn iisph_step(
         (now (counts .entry)) r (now (answers .exit)) (now (work .exit)) (now (numbers .exit)) (now (counts .exit))
         ⌝ }
 {
-    if numbers.len() < 4 {
+    if numbers.len() < NUMBERS {
         return TOO_SHORT;
     }
-    if counts.len() < 2 {
+    if counts.len() < COUNTS {
         return TOO_SHORT;
     }
     match iisph_solver::step::step(scene, answers, work) {
@@ -48,7 +50,7 @@ pub extern "C" fn iisph_step(
 pub extern "C" fn iisph_needed(scene: &[u8], counts: &mut [u64]) -> u64
     ensures { λ r. ⌜ NeedsTo (now (scene .entry)) (now (counts .entry)) r (now (counts .exit)) ⌝ }
 {
-    if counts.len() < 2 {
+    if counts.len() < COUNTS {
         return TOO_SHORT;
     }
     match lengths_needed(scene) {
@@ -65,7 +67,7 @@ pub extern "C" fn iisph_validate(scene: &[u8], work: &mut [f64], counts: &mut [u
         (now (counts .exit))
         ⌝ }
 {
-    if counts.len() < 2 {
+    if counts.len() < COUNTS {
         return TOO_SHORT;
     }
     match iisph_solver::validation::validate(scene, work) {

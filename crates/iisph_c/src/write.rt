@@ -11,19 +11,24 @@ ghost use Prim.Native.Nat.{_≤_};
 ghost use lib.ListN.{length, set};
 ghost use lib.Seq.{sets};
 ghost use Rattle.iisph_rules.specs.Endings.{endingNumber};
-ghost use Rattle.iisph_c.specs.Numbers.{refusedCode, refusedCounts};
-ghost use Rattle.iisph_c.specs.Step.{reportNumbers};
+ghost use Rattle.iisph_c.specs.Numbers.{countsNeeded, refusedCode, refusedCounts};
+ghost use Rattle.iisph_c.specs.Step.{numbersNeeded, reportNumbers};
 ghost use Rattle.iisph_c.specs.Kernel.{refusalCode, Gives};
 
 // What a call returns that a list is too short for.
 pub const TOO_SHORT: u64 = 99;
+
+// How many elements `counts` and `numbers` must have.
+pub const COUNTS: usize = 2;
+
+pub const NUMBERS: usize = 4;
 
 // What is added to the number of a refusal.
 const REFUSED: u64 = 100;
 
 // A refusal's offset.
 pub fn write_refusal(refusal: Refusal, counts: &mut [u64]) -> u64
-    requires { ⌜ 2 ≤ length (now counts) ⌝ }
+    requires { ⌜ countsNeeded ≤ length (now counts) ⌝ }
     ensures { λ n. ⌜
         (n ≡ refusedCode refusal) × (now (counts .exit) ≡ refusedCounts refusal (now (counts .entry)))
         ⌝ }
@@ -34,7 +39,7 @@ pub fn write_refusal(refusal: Refusal, counts: &mut [u64]) -> u64
 
 // How long the lists must be.
 pub fn write_lengths(lengths: Lengths, counts: &mut [u64]) -> u64
-    requires { ⌜ 2 ≤ length (now counts) ⌝ }
+    requires { ⌜ countsNeeded ≤ length (now counts) ⌝ }
     ensures { λ n. ⌜
         (n ≡ 0) × (now (counts .exit) ≡ sets (now (counts .entry)) 0 (lengths .answers ∷ lengths .work ∷ []))
         ⌝ }
@@ -46,7 +51,7 @@ pub fn write_lengths(lengths: Lengths, counts: &mut [u64]) -> u64
 
 // A report: its error and clock, and its iterations.
 pub fn write_report(report: Report, numbers: &mut [f64], counts: &mut [u64]) -> u64
-    requires { ⌜ (4 ≤ length (now numbers)) × (2 ≤ length (now counts)) ⌝ }
+    requires { ⌜ (numbersNeeded ≤ length (now numbers)) × (countsNeeded ≤ length (now counts)) ⌝ }
     ensures { λ n. ⌜
         (n ≡ endingNumber (report .ending)) × (now (numbers .exit) ≡ sets (now (numbers .entry)) 0 (reportNumbers report))
         × (now (counts .exit) ≡ set (now (counts .entry)) 0 (report .iterations))

@@ -7,7 +7,7 @@ use Rattle.iisph_c.proofs.iisph_validate.Statement.{statement}
 use Rattle.iisph_c.proofs.iisph_validate.Tie as tie
 
 returns : tie.Need-returns
-returns c = validate-short _ _ _ (c .if1 .taken)
+returns c = validate-short _ _ _ (omega (arith, c .if1 .taken))
 
 returns-2 : tie.Need-returns-2
 returns-2 c =
