@@ -3,6 +3,7 @@
 use Prim.Native.Nat.{ℕ}
 use mathlib.Core.Path.{refl}
 use mathlib.Core.List.{List, map}
+use Rattle.iisph_rules.specs.Endings
 use Rattle.iisph_words.specs.Digits
 use Rattle.iisph_words.specs.Words
 use Rattle.iisph_lines.specs.Lines
@@ -20,8 +21,9 @@ writing : ℕ
 unfolding evaluation
     Layout.padded Layout.layoutModels Layout.layoutOf Lengths.answerWidth Lengths.answersBefore
     Digits.digits Digits.hexOf Digits.placesWithin Digits.decimalOf
-    Words.pairText Words.doubleText Words.doublesText Lines.sweptText Lines.endingText Lines.stepLine Lines.clockLine
-    Words.kindWord Lines.particleLine Lines.modelText Lines.modelsUpto Lines.particlesText Lines.refusedLine
+    Words.pairText Words.doubleText Words.doublesText Words.kindWord Words.endingWord
+    Endings.endingNumber Endings.endingValues Lines.endingText Lines.stepLine Lines.clockLine
+    Lines.particleLine Lines.modelText Lines.modelsUpto Lines.particlesText Lines.refusedLine
     Text.answerText Text.tooLong Text.textWith Text.textOf
 writing = 0
 

@@ -1,14 +1,15 @@
--- `cases_texts::print_text` meets its contract: the buffer has room for every text. Assumes nothing.
+-- `iisph_print::print_text` meets its contract: the buffer has room for every text. Assumes nothing.
 use Prim.Native.Nat.{ℕ, _≤_}
 use mathlib.Core.Path.{sym}
 use native.Mathlib.Omega.{arith}
 use denote.Ref.{now}
 use lib.ListN.{length, replicate, length-replicate}
 use lib.Seq.{length-take-le}
+use Rattle.iisph_text.specs.Run.{textRoom}
 use Rattle.iisph_text.proofs.Ran.{text-in-front}
 use borrow.Author.Needs.{needs}
-use Rattle.cases_texts.proofs.print_text.Statement.{statement}
-use Rattle.cases_texts.proofs.print_text.Tie as tie
+use Rattle.iisph_print.proofs.print_text.Statement.{statement}
+use Rattle.iisph_print.proofs.print_text.Tie as tie
 
 long : (n : ℕ) → n ≤ length (replicate {A = ℕ} n 0)
 long n = omega (arith, length-replicate {A = ℕ} n 0)
@@ -19,7 +20,7 @@ slice-aggregate-write-all c =
     sym (length-take-le _ _ (t .within))
 
 returns : tie.Need-returns
-returns c = text-in-front (now (c .before .before .before .before .before .before .args .scene)) _ (long 65536)
+returns c = text-in-front (now (c .before .before .before .before .before .before .args .scene)) _ (long textRoom)
     (c .before .before .before .text .ensures) .0
 
 pub print-text-spec : {M : Type 1} → statement M
