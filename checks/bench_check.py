@@ -35,16 +35,17 @@ def library(folder):
 
 def main():
     argparse.ArgumentParser(description=__doc__, formatter_class=argparse.RawDescriptionHelpFormatter).parse_args()
-    data, none = scene(), (ctypes.c_double * 1)()
+    data, none, counts = scene(), (ctypes.c_double * 1)(), (ctypes.c_uint64 * 2)()
     with tempfile.TemporaryDirectory() as folder:
         lib = library(folder)
-        lib.iisph_validate.restype = ctypes.c_size_t
+        lib.iisph_validate.restype = ctypes.c_uint64
+        size = ctypes.c_size_t
         times = []
         for _ in range(21):
             start = time.perf_counter()
-            number = lib.iisph_validate(data, ctypes.c_size_t(len(data)), none, ctypes.c_size_t(0))
+            number = lib.iisph_validate(data, size(len(data)), none, size(0), counts, size(2))
             times.append(1000 * (time.perf_counter() - start))
-            assert number == 8
+            assert number == 108
     print("%d bytes: median %.2f ms, least %.2f ms" % (len(data), sorted(times)[10], min(times)))
 
 

@@ -1,13 +1,14 @@
 #!/usr/bin/env python3
 """The whole step, read from the specification alone: packs scenes, checks them, runs the step and prints the program's lines.
 
-  checks/cases_step.py              writes data/scenes and stdout of crates/cases_step, data/scene and stdout of crates/cases_short_lists, and examples/scene-a.bin
+  checks/cases_step.py              writes what crates/cases_step, cases_short_lists and cases_input are run on and must write, and examples/scene-a.bin
   checks/cases_step.py --check      says whether these files are what it would write (status 1 if not)
   checks/cases_step.py --self-test  holds the cases against what the specification says of them in words (status 1 if one differs)
   checks/cases_step.py --run FILE   prints the lines for one packed scene (status 2 if the file can't be read)
 
 data/scenes has for each case the scene's length in four bytes, most significant first, and the scene; stdout has the lines of all cases in the same order.
 cases_short_lists runs scene A with an answer list one too short, with a work list one too short, and with both just long enough.
+cases_input reads a scene of 32,769 bytes from standard input and one of 32,768 from the file data/longest.
 Python's floats are IEEE 754 doubles and each operation stands in METHOD's order; `div` adds the division by zero that Python refuses.
 """
 import math
@@ -387,10 +388,15 @@ def faults():
         (scene([pair(speed=-0.5)]), 62), (scene([pair(speed=-0.5)], most=0), 62), (scene([pair(), pair(1, speed=-0.5)]), 320)]
 
 
-def sizes():
+def most_particles():
+    """32,768 bytes with the most fluid particles."""
     many = fluid(1.0, *[particle([to(0, (k + 1) % 263, 1.0 + k % 7 / 8.0, (0.5, 0.125 * (k % 5), -0.25))] * (2 if k < 2 else 1),
                                  velocity=(k % 11 / 4.0, k % 3 / 2.0, 0.0), volume=1.0 + k % 4 / 16.0) for k in range(263)])
-    rows = scene([many, fluid(1.0)], [wall()] * 8, most=12, dt=0.25)
+    return scene([many, fluid(1.0)], [wall()] * 8, most=12, dt=0.25)
+
+
+def sizes():
+    rows = most_particles()
     stones = wall(*[stone(velocity=X, force=(k / 3.0, -k / 7.0, 1e-3 * k)) for k in range(667)], keeps=1)
     longest = scene([], [stones, wall(stone()), wall(), wall()], least=254, most=255)
     assert len(rows) == len(longest) == LONGEST
@@ -476,6 +482,9 @@ def files():
             ROOT / "crates/cases_step/stdout": "".join(map(lines, scenes)).encode(),
             ROOT / "crates/cases_short_lists/data/scene": scene_a(),
             ROOT / "crates/cases_short_lists/stdout": "".join(lines(scene_a(), answers=a, work=w) for a, w in ((6, 14), (7, 13), (7, 14))).encode(),
+            ROOT / "crates/cases_input/stdin": most_particles() + b"\0",
+            ROOT / "crates/cases_input/data/longest": most_particles(),
+            ROOT / "crates/cases_input/stdout": "".join(lines(most_particles() + more) for more in (b"\0", b"")).encode(),
             ROOT / "examples/scene-a.bin": scene_a()}
 
 

@@ -4,25 +4,43 @@
        rt staticlib iisph_c
        gcc -Iinclude program.c target/staticlib/libiisph_c.a -o program
 
-   Every function is total: it takes any bytes, any doubles and any lengths, and ends. A list of n elements is passed as a pointer and n; the pointer may be null
-   if n is 0, and is aligned for its type. Lists that a call writes must not overlap each other or the scene. Nothing is allocated and nothing is kept between calls,
-   so calls with lists of their own may run at the same time. iisph_step and iisph_validate take up to 1 MiB of stack.
+   Every function is total: it takes any bytes, any doubles and any lengths, and ends. A list of n
+   elements is passed as a pointer and n; the pointer may be null if n is 0, and is aligned for its
+   type. Lists that a call writes must not overlap each other or the scene. Nothing is allocated and
+   nothing is kept between calls, so calls with lists of their own may run at the same time.
+   iisph_step and iisph_validate take up to 1 MiB of stack.
 
    A packed scene has its fields most significant bit first, doubles as their 64 bits:
-       header      version (4 bits, 1), fluids (4 bits, 0 to 8); boundaries (4 bits, 0 to 8), 4 zero bits; least iterations (1 byte); most iterations (1 byte);
-                   step length, remaining time, error limit, gravity (3): 52 bytes in all
-       each fluid  count (2 bytes, 0 to 4096), rest density; then records: position, velocity, acceleration (3 doubles each), volume, warm pressure, the numbers of
-                   fluid and of boundary contacts (1 byte each), and those contacts: model (4 bits), particle (12 bits), weight, gradient (3)
-       each boundary  keeps forces (1 bit), count (15 bits, 0 to 4096); then records: velocity, force (only if kept), the number of contacts (1 byte), and those
-                   contacts, to boundaries: model (4 bits), particle (12 bits), weight
+       header      version (4 bits, 1), fluids (4 bits, 0 to 8); boundaries (4 bits, 0 to 8), 4 zero
+                   bits; least iterations (1 byte); most iterations (1 byte); step length,
+                   remaining time, error limit, gravity (3): 52 bytes in all
+       each fluid  count (2 bytes, 0 to 4096), rest density; then records: position, velocity,
+                   acceleration (3 doubles each), volume, warm pressure, the numbers of fluid and of
+                   boundary contacts (1 byte each), and those contacts: model (4 bits), particle
+                   (12 bits), weight, gradient (3)
+       each boundary  keeps forces (1 bit), count (15 bits, 0 to 4096); then records: velocity,
+                   force (only if kept), the number of contacts (1 byte), and those contacts, to
+                   boundaries: model (4 bits), particle (12 bits), weight
 
-   A refusal has a number and an offset in the scene, that of the byte where the field or record in question begins:
-       1 a field is not wholly there                    6 a double that is not finite
-       2 version not 1, or the 4 zero bits not zero     7 a contact that names nobody
-       3 more than 8 fluids or boundaries               8 the answer or the work list is shorter than needed (offset 0)
-       4 a count above 4096                             9 a density is zero (the particle's record)
-       5 bytes follow the last record                  10 a predicted density is zero (the particle's record)
-   and of the kernel, 11 a distance that is negative (-0 is not) or not finite, 12 a radius that is zero, negative or not finite. */
+   A refusal has a number and an offset in the scene, that of the byte where the field, contact or
+   record in question begins:
+        1  a field is not wholly there
+        2  version not 1, or the 4 zero bits not zero
+        3  more than 8 fluids or boundaries
+        4  a count above 4096
+        5  bytes follow the last record
+        6  a double that is not finite
+        7  a contact that names nobody
+        8  the answer or the work list is shorter than needed (offset 0)
+        9  a density is zero (the particle's record)
+       10  a predicted density is zero (the particle's record)
+   and of the kernel, without an offset,
+       11  a distance that is negative (-0 is not) or not finite
+       12  a radius that is zero, negative or not finite
+
+   What the functions return: 99 where a list is too short for what every answer writes, and then
+   nothing at all is written; 100 + n for refusal n, of a packed scene with its offset in counts[1];
+   otherwise what each says below. Elements that are not named are never touched. */
 #ifndef IISPH_H
 #define IISPH_H
 
@@ -33,32 +51,35 @@
 extern "C" {
 #endif
 
-/* One step.
-   answers: per fluid particle, fluid by fluid, position, velocity (3 doubles each) and pressure; then of each boundary particle the volume, and the force (3) where forces are kept.
-   work: scratch, 14 doubles for a fluid particle, 1 for a boundary particle; what it holds before does not matter. iisph_needed tells both lengths.
-   numbers: at least 4 elements. counts: at least 2 elements.
-   Returns
-       0   done with no iteration (the scene's most is 0), 1 settled, 2 ran out of iterations. Then answers is written, the needed part of work is all +0,
-           numbers[0] is the last iteration's error (+0 if there was none), numbers[1] dt, numbers[2] 1 / dt (0 for a dt of 0), numbers[3] the remaining time,
-           and counts[0] the number of iterations.
-     100 + n  refused, n from 1 to 10. Then counts[1] is the offset; answers, numbers and counts[0] are unchanged; the needed part of work is all +0 after 9 and 10,
-           and work is unchanged after 1 to 8.
-      99   numbers or counts is too short. Then nothing at all is written or looked at.
-   Elements beyond those named are never touched. */
-uint64_t iisph_step(const uint8_t *scene, size_t scene_len, double *answers, size_t answers_len, double *work, size_t work_len,
-                    double *numbers, size_t numbers_len, uint64_t *counts, size_t counts_len);
+/* One step. numbers: at least 4 elements. counts: at least 2 elements.
+   answers: per fluid particle, fluid by fluid, position, velocity (3 doubles each) and pressure;
+       then of each boundary particle the volume, and the force (3) where forces are kept.
+   work: scratch, 14 doubles for a fluid particle, 1 for a boundary particle; what it holds before
+       does not matter. iisph_needed tells both lengths.
+   Returns 0 if there was no iteration (the scene's most is 0), 1 if the iterations settled, 2 if
+   they ran out. Then the needed part of answers is written, that of work is all +0, numbers[0] is
+   the last iteration's error (+0 if there was none), numbers[1] dt, numbers[2] 1 / dt (0 for a dt
+   of 0), numbers[3] the remaining time, and counts[0] the number of iterations.
+   Refused by 1 to 10. Then answers, numbers and counts[0] are unchanged; the needed part of work is
+   all +0 after 9 and 10, and work is unchanged after 1 to 8. */
+uint64_t iisph_step(const uint8_t *scene, size_t scene_len, double *answers, size_t answers_len,
+                    double *work, size_t work_len, double *numbers, size_t numbers_len,
+                    uint64_t *counts, size_t counts_len);
 
 /* How long the lists of a step must be. counts: at least 2 elements.
-   Returns 0 with counts[0] the length that the answer list needs and counts[1] that of the work list; 100 + n for refusal n, 1 to 7, with counts[1] the offset and
-   counts[0] unchanged; 99 where counts is too short, which is then unchanged. */
+   Returns 0 with counts[0] the length that the answer list needs and counts[1] that of the work
+   list. Refused by 1 to 7; then counts[0] is unchanged. */
 uint64_t iisph_needed(const uint8_t *scene, size_t scene_len, uint64_t *counts, size_t counts_len);
 
-/* The number of the refusal (1 to 10) that a step on the packed scene would give with a long enough answer list, 0 if none. The needed part of the work list is all +0
-   afterwards, but for refusals 1 to 8, which leave it as it was. */
-size_t iisph_validate(const uint8_t *scene, size_t scene_len, double *work, size_t work_len);
+/* Whether a step with a long enough answer list would be refused. counts: at least 2 elements.
+   Returns 0 if not, with counts unchanged and the needed part of work all +0. Refused by 1 to 10,
+   as that step; then counts[0] is unchanged, and work is as that step leaves it. */
+uint64_t iisph_validate(const uint8_t *scene, size_t scene_len, double *work, size_t work_len,
+                        uint64_t *counts, size_t counts_len);
 
-/* The cubic spline at the distance r with the radius h, and its derivative there. out: at least 1 element.
-   Returns 0 with out[0] the value; 111 for a bad distance, 112 for a bad radius, 99 for an empty out; then out is unchanged.
+/* The cubic spline at the distance r with the radius h, and its derivative there. out: at least 1
+   element.
+   Returns 0 with out[0] the value. Refused by 11, then by 12; then out is unchanged.
    Where h is so small that h * h * h rounds to 0, the value may be infinite or not a number. */
 uint64_t iisph_weight(double r, double h, double *out, size_t out_len);
 uint64_t iisph_slope(double r, double h, double *out, size_t out_len);

@@ -40,6 +40,7 @@ int main(void) {
     SAME(iisph_step(scene, len, answers, 8, work, 15, numbers, 3, counts, 3) == 99);
     SAME(iisph_step(scene, len, answers, 8, work, 15, numbers, 5, counts, 1) == 99);
     SAME(iisph_needed(scene, len, counts, 1) == 99);
+    SAME(iisph_validate(scene, len, work, 15, counts, 1) == 99);
     SAME(iisph_weight(0.5, 1, out, 0) == 99 && iisph_slope(0.5, 1, NULL, 0) == 99);
     SAME(answers[0] == 7 && work[0] == 7 && numbers[0] == 7 && counts[0] == 7 && counts[1] == 7 && out[0] == 7);
 
@@ -49,10 +50,14 @@ int main(void) {
     SAME(iisph_step(scene, 51, NULL, 0, NULL, 0, numbers, 5, counts, 3) == 101 && counts[1] == 44);
     SAME(iisph_step(NULL, 0, NULL, 0, NULL, 0, numbers, 5, counts, 3) == 101 && counts[1] == 0);
     SAME(iisph_needed(scene, 51, counts, 3) == 101 && counts[0] == 7 && counts[1] == 44);
+    SAME(iisph_validate(scene, 51, work, 15, counts, 3) == 101 && counts[0] == 7 && counts[1] == 44);
+    SAME(iisph_validate(scene, len, work, 13, counts, 3) == 108 && counts[0] == 7 && counts[1] == 0);
+    SAME(work[0] == 7);
 
     /* done */
     SAME(iisph_needed(scene, len, counts, 3) == 0 && counts[0] == 7 && counts[1] == 14 && counts[2] == 7);
-    SAME(iisph_validate(scene, len, work, 15) == 0 && work[0] == 0 && work[14] == 7);
+    SAME(iisph_validate(scene, len, work, 15, counts, 3) == 0 && work[0] == 0 && work[14] == 7);
+    SAME(counts[0] == 7 && counts[1] == 14 && counts[2] == 7);
     SAME(iisph_step(scene, len, answers, 8, work, 15, numbers, 5, counts, 3) == 1);
     static const double expected[8] = {0, 0, -1, 0, 0, -2, 0, 7};
     SAME(memcmp(answers, expected, sizeof expected) == 0);

@@ -26,7 +26,7 @@
 //! # Ok::<(), Box<dyn std::error::Error>>(())
 //! ```
 //!
-//! [`step`] takes up to 1 MiB of stack: give a thread of your own at least 2 MiB, the standard library's default.
+//! [`step`] and [`validate`] take up to 1 MiB of stack: give a thread of your own at least 2 MiB, the standard library's default.
 #![warn(missing_docs)]
 
 use std::error::Error;
@@ -52,6 +52,14 @@ mod c {
             counts_len: usize,
         ) -> u64;
         pub fn iisph_needed(scene: *const u8, scene_len: usize, counts: *mut u64, counts_len: usize) -> u64;
+        pub fn iisph_validate(
+            scene: *const u8,
+            scene_len: usize,
+            work: *mut f64,
+            work_len: usize,
+            counts: *mut u64,
+            counts_len: usize,
+        ) -> u64;
         pub fn iisph_weight(r: f64, h: f64, out: *mut f64, out_len: usize) -> u64;
         pub fn iisph_slope(r: f64, h: f64, out: *mut f64, out_len: usize) -> u64;
     }
@@ -204,6 +212,17 @@ pub fn needed(scene: &[u8]) -> Result<Lengths, Refusal> {
     let code = unsafe { c::iisph_needed(scene.as_ptr(), scene.len(), counts.as_mut_ptr(), counts.len()) };
     match code {
         0 => Ok(Lengths { answers: counts[0] as usize, work: counts[1] as usize }),
+        _ => Err(refusal(code, counts[1])),
+    }
+}
+
+/// Whether a step with a long enough answer list would be refused, numbers 1 to 10. The work list is scratch: it is left as that step would leave it.
+pub fn validate(scene: &[u8], work: &mut [f64]) -> Result<(), Refusal> {
+    let mut counts = [0u64; 2];
+    // SAFETY: pointers and lengths of slices; those that are written are lent by `&mut`, so none overlaps another.
+    let code = unsafe { c::iisph_validate(scene.as_ptr(), scene.len(), work.as_mut_ptr(), work.len(), counts.as_mut_ptr(), counts.len()) };
+    match code {
+        0 => Ok(()),
         _ => Err(refusal(code, counts[1])),
     }
 }

@@ -315,6 +315,18 @@ fn short_lists_are_refused() {
 }
 
 #[test]
+fn validation_refuses_as_a_step_does() {
+    let validated = |scene: &[u8], work: &mut [f64]| (validate(scene, work), work.to_vec());
+    let (whole, mut sevens) = (packed(whole_scene_a()), vec![7.0; 13]);
+    assert_eq!(validated(&whole[..51], &mut sevens), (refused(Reason::Missing, 44), vec![7.0; 13]));
+    assert_eq!(validated(&whole, &mut sevens), (refused(Reason::ShortList, 0), vec![7.0; 13]));
+    let cleared = [vec![0.0; 14], vec![7.0]].concat();
+    assert_eq!(validated(&whole, &mut [7.0; 15]), (Ok(()), cleared.clone()));
+    assert_eq!(validated(&packed(scene_a(Vec::new())), &mut [7.0; 15]), (refused(Reason::ZeroDensity, 62), cleared));
+    assert_eq!(validated(&packed(scene_b(-0.5)), &mut [7.0; 28]).0, refused(Reason::ZeroPredictedDensity, 62));
+}
+
+#[test]
 fn refusals_say_what_and_where() {
     let refusal = needed(&packed(empty(50))[..51]).unwrap_err();
     assert_eq!(refusal.to_string(), "refused 1 at byte 44: a field is not wholly there");

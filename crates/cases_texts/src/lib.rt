@@ -1,21 +1,10 @@
 // Writes the text of each packed scene of a list, one after the other. Of each the list has its length in four bytes,
 // the most significant first, and its bytes.
-use libc::STDOUT_FILENO;
+use iisph_print::INPUT_ROOM;
+use iisph_print::print_text;
 ghost use Prim.Native.Nat.{_≤_};
 ghost use mathlib.Core.Path.{_≡_};
-ghost use lib.ListN.{length};
-ghost use Rattle.iisph_text.specs.Text.{textOf};
 ghost use Rattle.cases_texts.specs.Written.{writtenFor, FromRead, FromScene};
-
-// Writes a scene's text and hands back its length.
-fn print_text(scene: &[u8]) -> usize
-    ensures { λ n. ⌜ n ≡ length (textOf (now (scene .entry))) ⌝ }
-{
-    let mut out = [0u8; 65536];
-    let n = iisph_text::text(scene, &mut out);
-    io::write_all(STDOUT_FILENO, &out[..n]);
-    n
-}
 
 // Writes the text of a scene of n bytes if they are all there, and hands back its length, or else 0.
 fn print_whole(scene: &[u8], n: usize) -> usize
@@ -41,12 +30,12 @@ fn print_next(fd: i32) -> usize
     ensures { λ r. ⌜ FromScene r ⌝ }
 {
     let mut head = [0u8; 4];
-    let mut scene = [0u8; 32769];
+    let mut scene = [0u8; INPUT_ROOM];
     if io::read_full(fd, &mut head) < 4 {
         return 0;
     }
     let n = scene_format::read::be16(&head, 0) * 65536 + scene_format::read::be16(&head, 2);
-    if n > 32769 {
+    if n > INPUT_ROOM {
         return 0;
     }
     print_scene(fd, &mut scene[..n])

@@ -14,24 +14,32 @@ use Rattle.cubic_spline.specs.declared.KernelAnswer.{KernelAnswer}
 use Rattle.cubic_spline.specs.declared.KernelAnswer.the-variants as kernel
 use Rattle.cubic_spline.specs.declared.KernelRefusal.{KernelRefusal}
 use Rattle.scene_format.specs.SceneOf.{sceneOf}
-use Rattle.scene_format.specs.Refusals.{numberOf, placeOf}
+use Rattle.scene_format.specs.Refusals.{numberOf}
 use Rattle.scene_check.specs.Walk.{checked}
 use Rattle.scene_format.specs.declared.Refusal.{Refusal}
 use Rattle.scene_format.specs.declared.Refusal.the-variants as refusal
 use Rattle.scene_format.specs.declared.Walk.{Walk}
 use Rattle.scene_format.specs.declared.Walk.the-variants as walk
+use Rattle.iisph_preparation.specs.Prepare.{readiness}
+use Rattle.iisph_preparation.specs.declared.Readiness.{Readiness}
+use Rattle.iisph_preparation.specs.declared.Readiness.the-variants as readiness
 use Rattle.iisph_rules.specs.Answer.{stepAnswer}
+use Rattle.iisph_rules.specs.Endings.{endingNumber}
 use Rattle.iisph_rules.specs.declared.Report.{Report}
 use Rattle.iisph_rules.specs.declared.StepAnswer.{StepAnswer}
 use Rattle.iisph_rules.specs.declared.StepAnswer.the-variants.{Done, Refused}
 use Rattle.scene_lengths.specs.Lengths.{lengthsNeeded, needsAfter, needsOf}
 use Rattle.iisph_solver.specs.Step.{Steps}
+use Rattle.iisph_validation.specs.Validate.{Validates}
 use Rattle.scene_lengths.specs.declared.Lengths.{Lengths}
 use Rattle.scene_lengths.specs.declared.Needs.{Needs}
 use Rattle.scene_lengths.specs.declared.Needs.the-variants as needs
 use Rattle.iisph_c.specs.Kernel.{refusalCode, kernelCode, valueAfter, Gives}
 use Rattle.iisph_c.specs.Needs.{needsCode, lengthsAfter, NeedsTo}
-use Rattle.iisph_c.specs.Step.{endingCode, reportNumbers, stepCode, numbersAfter, countsAfter, hasRoom, StepsTo}
+use Rattle.iisph_c.specs.Numbers.{tooShort, countsNeeded, refusedCode, refusedCounts}
+use Rattle.iisph_c.specs.Step.{numbersNeeded, reportNumbers, stepCode, numbersAfter, countsAfter}
+use Rattle.iisph_c.specs.Step.{hasRoom, StepsTo}
+use Rattle.iisph_c.specs.Validate.{validateCode, validateCounts, ValidatesTo}
 
 -- a refusal's number is small
 pub number-few : (r : Refusal) → numberOf r ≤ 10
@@ -50,28 +58,28 @@ number-few (refusal.ZeroPredictedDensity at) = omega arith
 
 module _ (b : List ℕ) (answers work numbers : List Float) (counts : List ℕ) where
   -- 99
-  unchanged : hasRoom numbers counts ≡ false → StepsTo b answers work numbers counts 99 answers work numbers counts
+  unchanged : hasRoom numbers counts ≡ false → StepsTo b answers work numbers counts tooShort answers work numbers counts
   unfolding choose
   unchanged h = record { result = rw h; answersThen = rw h; workThen = rw h; numbersThen = rw h; countsThen = rw h }
 
-  pub numbers-short : length numbers < 4 → StepsTo b answers work numbers counts 99 answers work numbers counts
+  pub numbers-short : length numbers < numbersNeeded → StepsTo b answers work numbers counts tooShort answers work numbers counts
   unfolding hasRoom
-  numbers-short h = unchanged (rw (lt-leb 4 (length numbers) h))
+  numbers-short h = unchanged (rw (lt-leb numbersNeeded (length numbers) h))
 
-  pub counts-short : 4 ≤ length numbers → length counts < 2
-      → StepsTo b answers work numbers counts 99 answers work numbers counts
+  pub counts-short : numbersNeeded ≤ length numbers → length counts < countsNeeded
+      → StepsTo b answers work numbers counts tooShort answers work numbers counts
   unfolding hasRoom
-  counts-short l h = unchanged (rw (le-leb 4 (length numbers) l, lt-leb 2 (length counts) h))
+  counts-short l h = unchanged (rw (le-leb numbersNeeded (length numbers) l, lt-leb countsNeeded (length counts) h))
 
-  module _ (l : 4 ≤ length numbers) (m : 2 ≤ length counts) where
+  module _ (l : numbersNeeded ≤ length numbers) (m : countsNeeded ≤ length counts) where
     room : hasRoom numbers counts ≡ true
     unfolding hasRoom
-    room = rw (le-leb 4 (length numbers) l, le-leb 2 (length counts) m)
+    room = rw (le-leb numbersNeeded (length numbers) l, le-leb countsNeeded (length counts) m)
 
     module _ {a : StepAnswer} {answers′ work′ : List Float} (s : Steps b answers work a answers′ work′) {n : ℕ}
         {counts′ : List ℕ} where
       -- 0, 1, 2
-      pub done-to : {r : Report} {numbers′ : List Float} → a ≡ Done r → n ≡ endingCode (r .ending)
+      pub done-to : {r : Report} {numbers′ : List Float} → a ≡ Done r → n ≡ endingNumber (r .ending)
           → numbers′ ≡ sets numbers 0 (reportNumbers r) → counts′ ≡ set counts 0 (r .iterations)
           → StepsTo b answers work numbers counts n answers′ work′ numbers′ counts′
       unfolding choose stepCode numbersAfter countsAfter
@@ -87,7 +95,7 @@ module _ (b : List ℕ) (answers work numbers : List Float) (counts : List ℕ) 
           }
 
       -- 100 + n
-      pub refused-to : {r : Refusal} → a ≡ Refused r → n ≡ 100 + numberOf r → counts′ ≡ set counts 1 (placeOf r)
+      pub refused-to : {r : Refusal} → a ≡ Refused r → n ≡ refusedCode r → counts′ ≡ refusedCounts r counts
           → StepsTo b answers work numbers counts n answers′ work′ numbers counts′
       unfolding choose stepCode numbersAfter countsAfter
       refused-to {r} q e g =
@@ -100,6 +108,49 @@ module _ (b : List ℕ) (answers work numbers : List Float) (counts : List ℕ) 
             numbersThen = rw (room, t);
             countsThen = rw (room, t) g;
           }
+
+-- ---- whether a step would be refused
+
+module _ (a : StepAnswer) where
+  ready-code : readiness.Ready ≡ readiness a → (0 ≡ validateCode a) × ((counts : List ℕ) → counts ≡ validateCounts a counts)
+  unfolding readiness validateCode validateCounts
+  ready-code q = go a q
+    where
+      go : (a : StepAnswer) → readiness.Ready ≡ readiness a
+          → (0 ≡ validateCode a) × ((counts : List ℕ) → counts ≡ validateCounts a counts)
+      go (Done r) p = (refl, λ _. refl)
+      go (Refused r) p = let z : _≡_ {A = ℕ} 0 1 = cc in absurd (omega arith)
+
+  refused-code : {r : Refusal} → readiness.Refused r ≡ readiness a → a ≡ Refused r
+  unfolding readiness
+  refused-code q = go a q
+    where
+      go : {r : Refusal} (a : StepAnswer) → readiness.Refused r ≡ readiness a → a ≡ Refused r
+      go (Done r) p = let z : _≡_ {A = ℕ} 0 1 = cc in absurd (omega arith)
+      go (Refused r) p = cc
+
+module _ (b : List ℕ) (work : List Float) (counts : List ℕ) where
+  pub validate-short : length counts < countsNeeded → ValidatesTo b work counts tooShort work counts
+  unfolding choose
+  validate-short h =
+      let f = lt-leb countsNeeded (length counts) h in
+      record { result = rw f; workThen = rw f; countsThen = rw f }
+
+  module _ (m : countsNeeded ≤ length counts) {a : Readiness} {work′ : List Float} (v : Validates b work a work′) where
+    pub ready-to : a ≡ readiness.Ready → ValidatesTo b work counts 0 work′ counts
+    unfolding choose
+    ready-to q =
+        let t = le-leb countsNeeded (length counts) m in
+        let c = ready-code _ (sym q ∙ v .answer) in
+        record { result = rw t (c .0); workThen = rw t (v .list); countsThen = rw t (c .1 counts) }
+
+    pub unready-to : {r : Refusal} {n : ℕ} {counts′ : List ℕ} → a ≡ readiness.Refused r → n ≡ refusedCode r
+        → counts′ ≡ refusedCounts r counts → ValidatesTo b work counts n work′ counts′
+    unfolding choose validateCode validateCounts
+    unready-to q e g =
+        let t = le-leb countsNeeded (length counts) m in
+        let c = refused-code _ (sym q ∙ v .answer) in
+        record { result = rw (t, c) e; workThen = rw t (v .list); countsThen = rw (t, c) g }
 
 -- ---- what a step needs
 
@@ -128,16 +179,16 @@ module _ (b : List ℕ) where
       go (walk.Refused r) t p = let z : _≡_ {A = ℕ} 0 1 = cc in absurd (omega arith)
 
   module _ (counts : List ℕ) where
-    pub needs-short : length counts < 2 → NeedsTo b counts 99 counts
+    pub needs-short : length counts < countsNeeded → NeedsTo b counts tooShort counts
     unfolding choose
-    needs-short h = let f = lt-leb 2 (length counts) h in record { result = rw f; countsThen = rw f }
+    needs-short h = let f = lt-leb countsNeeded (length counts) h in record { result = rw f; countsThen = rw f }
 
-    module _ (m : 2 ≤ length counts) {s : Needs} (is : s ≡ needsOf b) {n : ℕ} {counts′ : List ℕ} where
-      pub needs-refused : {r : Refusal} → s ≡ needs.Refused r → n ≡ 100 + numberOf r
-          → counts′ ≡ set counts 1 (placeOf r) → NeedsTo b counts n counts′
+    module _ (m : countsNeeded ≤ length counts) {s : Needs} (is : s ≡ needsOf b) {n : ℕ} {counts′ : List ℕ} where
+      pub needs-refused : {r : Refusal} → s ≡ needs.Refused r → n ≡ refusedCode r
+          → counts′ ≡ refusedCounts r counts → NeedsTo b counts n counts′
       unfolding choose needsCode lengthsAfter
       needs-refused q e g =
-          let t = le-leb 2 (length counts) m in
+          let t = le-leb countsNeeded (length counts) m in
           let w = refused-check (sym q ∙ is) in
           record { result = rw (t, w) e; countsThen = rw (t, w) g }
 
@@ -145,7 +196,7 @@ module _ (b : List ℕ) where
           → NeedsTo b counts n counts′
       unfolding choose needsCode lengthsAfter
       needs-lists q e g =
-          let t = le-leb 2 (length counts) m in
+          let t = le-leb countsNeeded (length counts) m in
           let w = lists-check (sym q ∙ is) in
           record {
             result = rw (t, w .ended) e;
@@ -155,8 +206,11 @@ module _ (b : List ℕ) where
 
 -- ---- the kernel
 
+pub answered : {a a′ : KernelAnswer} {out out′ : List Float} {n : ℕ} → a ≡ a′ → Gives a out n out′ → Gives a′ out n out′
+answered e g = rw e at g
+
 module _ (a : KernelAnswer) (out : List Float) where
-  pub out-empty : length out < 1 → Gives a out 99 out
+  pub out-empty : length out < 1 → Gives a out tooShort out
   unfolding choose
   out-empty h = let f = lt-leb 1 (length out) h in record { result = rw f; outThen = rw f }
 

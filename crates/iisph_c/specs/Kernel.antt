@@ -1,5 +1,5 @@
 -- What `iisph_weight` and `iisph_slope` return, and every element of their list afterwards. Definitions only.
-use Prim.Native.Nat.{ℕ, _+_}
+use Prim.Native.Nat.{ℕ}
 use mathlib.Core.Path.{_≡_}
 use mathlib.Core.List.{List}
 use lib.Dec.{leb}
@@ -10,9 +10,10 @@ use Rattle.cubic_spline.specs.Answer.{number, kernelAnswer}
 use Rattle.cubic_spline.specs.declared.KernelAnswer.{KernelAnswer}
 use Rattle.cubic_spline.specs.declared.KernelRefusal.{KernelRefusal}
 use Rattle.cubic_spline.specs.declared.KernelAnswer.the-variants.{Value, Refused}
+use Rattle.iisph_c.specs.Numbers.{tooShort, refusedBy}
 
 unfoldable pub refusalCode : KernelRefusal → ℕ
-refusalCode k = 100 + number k
+refusalCode k = refusedBy (number k)
 
 unfoldable pub kernelCode : KernelAnswer → ℕ
 kernelCode (Value x) = 0
@@ -23,9 +24,9 @@ unfoldable pub valueAfter : KernelAnswer → List Float → List Float
 valueAfter (Value x) old = set old 0 x
 valueAfter (Refused k) old = old
 
--- of a kernel's answer and the list: the result n, and the list afterwards; 99 where it is empty
+-- of a kernel's answer and the list: the result n, and the list afterwards
 pub record Gives (a : KernelAnswer) (out : List Float) (n : ℕ) (out′ : List Float) : Type 0 where
-  pub result : n ≡ choose (leb 1 (length out)) (kernelCode a) 99
+  pub result : n ≡ choose (leb 1 (length out)) (kernelCode a) tooShort
   pub outThen : out′ ≡ choose (leb 1 (length out)) (valueAfter a out) out
 
 -- at the distance r, with the radius h, where the kernel's value is x

@@ -1,4 +1,5 @@
 pub mod Numbers
 pub mod Step
 pub mod Needs
+pub mod Validate
 pub mod Kernel

@@ -1,22 +1,31 @@
--- What `iisph_validate` answers: the numbers of FORMAT 2.1. Definitions only.
-use Prim.Native.Nat.{ℕ}
-use mathlib.Core.Path.{_≡_}
+-- What the calls of the C interface share: the numbers that they return, and what a refusal writes. Definitions only.
+use Prim.Native.Nat.{ℕ, _+_}
+use mathlib.Core.Bool.{Bool}
 use mathlib.Core.List.{List}
-use lib.Ieee.{Float}
-use lib.ListN.{length}
-use Rattle.scene_lengths.specs.Lengths.{answersNeeded}
-use Rattle.scene_format.specs.SceneOf.{sceneOf}
-use Rattle.scene_format.specs.Refusals.{numberOf}
-use Rattle.iisph_rules.specs.Answer.{stepAnswer, workAfter}
-use Rattle.iisph_rules.specs.declared.StepAnswer.{StepAnswer}
-use Rattle.iisph_rules.specs.declared.StepAnswer.the-variants.{Done, Refused}
+use lib.Dec.{leb}
+use lib.ListN.{length, set}
+use Rattle.scene_format.specs.Refusals.{numberOf, placeOf}
+use Rattle.scene_format.specs.declared.Refusal.{Refusal}
 
--- a refusal's number, 0 for a step that is done
-unfoldable pub refusalNumber : StepAnswer → ℕ
-refusalNumber (Done r) = 0
-refusalNumber (Refused r) = numberOf r
+-- a list is too short for what is written of every answer; then nothing is written
+abbrev pub tooShort : ℕ
+tooShort = 99
 
--- of the bytes b and a work list, which is left as a step with a long enough answer list leaves it
-pub record ValidatesTo (b : List ℕ) (work : List Float) (n : ℕ) (after : List Float) : Type 0 where
-  pub answer : n ≡ refusalNumber (stepAnswer b (answersNeeded (sceneOf b)) (length work))
-  pub list : after ≡ workAfter b (answersNeeded (sceneOf b)) (length work) work
+-- refusal n, 1 to 12
+abbrev pub refusedBy : ℕ → ℕ
+refusedBy n = 100 + n
+
+-- a packed scene's refusal
+abbrev pub refusedCode : Refusal → ℕ
+refusedCode r = refusedBy (numberOf r)
+
+-- how many elements `counts` must have
+abbrev pub countsNeeded : ℕ
+countsNeeded = 2
+
+abbrev pub countsRoom : List ℕ → Bool
+countsRoom counts = leb countsNeeded (length counts)
+
+-- a refusal's offset is the second
+abbrev pub refusedCounts : Refusal → List ℕ → List ℕ
+refusedCounts r old = set old 1 (placeOf r)

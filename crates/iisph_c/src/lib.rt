@@ -1,6 +1,9 @@
 // The C interface (include/iisph.h). A slice is a pointer and a length.
 mod write;
 
+use crate::write::COUNTS;
+use crate::write::NUMBERS;
+use crate::write::TOO_SHORT;
 use crate::write::write_kernel;
 use crate::write::write_lengths;
 use crate::write::write_refusal;
@@ -10,9 +13,9 @@ use iisph_rules::StepAnswer;
 use scene_lengths::Needs;
 use scene_lengths::lengths_needed;
 ghost use Rattle.cubic_spline.specs.Shape.{weight, slope};
-ghost use Rattle.iisph_c.specs.Numbers.{ValidatesTo};
 ghost use Rattle.iisph_c.specs.Step.{StepsTo};
 ghost use Rattle.iisph_c.specs.Needs.{NeedsTo};
+ghost use Rattle.iisph_c.specs.Validate.{ValidatesTo};
 ghost use Rattle.iisph_c.specs.Kernel.{KernelTo};
 
 // One step: 0 unswept, 1 settled, 2 ran out, 100 + n for refusal n, 99 where `numbers` or `counts` is too short. Takes
@@ -30,11 +33,11 @@ pub extern "C" fn iisph_step(
         (now (counts .entry)) r (now (answers .exit)) (now (work .exit)) (now (numbers .exit)) (now (counts .exit))
         ⌝ }
 {
-    if numbers.len() < 4 {
-        return 99;
+    if numbers.len() < NUMBERS {
+        return TOO_SHORT;
     }
-    if counts.len() < 2 {
-        return 99;
+    if counts.len() < COUNTS {
+        return TOO_SHORT;
     }
     match iisph_solver::step::step(scene, answers, work) {
         StepAnswer::Done(report) => write_report(report, numbers, counts),
@@ -47,8 +50,8 @@ pub extern "C" fn iisph_step(
 pub extern "C" fn iisph_needed(scene: &[u8], counts: &mut [u64]) -> u64
     ensures { λ r. ⌜ NeedsTo (now (scene .entry)) (now (counts .entry)) r (now (counts .exit)) ⌝ }
 {
-    if counts.len() < 2 {
-        return 99;
+    if counts.len() < COUNTS {
+        return TOO_SHORT;
     }
     match lengths_needed(scene) {
         Needs::Lists(lengths) => write_lengths(lengths, counts),
@@ -56,15 +59,20 @@ pub extern "C" fn iisph_needed(scene: &[u8], counts: &mut [u64]) -> u64
     }
 }
 
-// The number of the refusal that a step with a long enough answer list would give, 0 if none. Takes up to 1 MiB of
-// stack.
+// Whether a step with a long enough answer list would be refused: 0, or as there. Takes up to 1 MiB of stack.
 #[no_mangle]
-pub extern "C" fn iisph_validate(scene: &[u8], work: &mut [f64]) -> usize
-    ensures { λ n. ⌜ ValidatesTo (now (scene .entry)) (now (work .entry)) n (now (work .exit)) ⌝ }
+pub extern "C" fn iisph_validate(scene: &[u8], work: &mut [f64], counts: &mut [u64]) -> u64
+    ensures { λ r. ⌜
+        ValidatesTo (now (scene .entry)) (now (work .entry)) (now (counts .entry)) r (now (work .exit))
+        (now (counts .exit))
+        ⌝ }
 {
+    if counts.len() < COUNTS {
+        return TOO_SHORT;
+    }
     match iisph_validation::validate(scene, work) {
         Readiness::Ready => 0,
-        Readiness::Refused(refusal) => scene_format::number(refusal),
+        Readiness::Refused(refusal) => write_refusal(refusal, counts),
     }
 }
 

@@ -1,33 +1,45 @@
 // What the C interface writes, and the number that it returns with it.
 use cubic_spline::KernelAnswer;
 use cubic_spline::KernelRefusal;
-use iisph_rules::Ending;
 use iisph_rules::Report;
+use iisph_rules::endings::tell;
 use scene_format::Refusal;
 use scene_lengths::Lengths;
 ghost use mathlib.Core.Path.{_≡_};
 ghost use mathlib.Core.List.{[], _∷_};
-ghost use Prim.Native.Nat.{_+_, _≤_};
+ghost use Prim.Native.Nat.{_≤_};
 ghost use lib.ListN.{length, set};
 ghost use lib.Seq.{sets};
-ghost use Rattle.scene_format.specs.Refusals.{numberOf, placeOf};
-ghost use Rattle.iisph_c.specs.Step.{endingCode, errorOf, reportNumbers};
+ghost use Rattle.iisph_rules.specs.Endings.{endingNumber};
+ghost use Rattle.iisph_c.specs.Numbers.{countsNeeded, refusedCode, refusedCounts};
+ghost use Rattle.iisph_c.specs.Step.{numbersNeeded, reportNumbers};
 ghost use Rattle.iisph_c.specs.Kernel.{refusalCode, Gives};
+
+// What a call returns that a list is too short for.
+pub const TOO_SHORT: u64 = 99;
+
+// How many elements `counts` and `numbers` must have.
+pub const COUNTS: usize = 2;
+
+pub const NUMBERS: usize = 4;
+
+// What is added to the number of a refusal.
+const REFUSED: u64 = 100;
 
 // A refusal's offset.
 pub fn write_refusal(refusal: Refusal, counts: &mut [u64]) -> u64
-    requires { ⌜ 2 ≤ length (now counts) ⌝ }
+    requires { ⌜ countsNeeded ≤ length (now counts) ⌝ }
     ensures { λ n. ⌜
-        (n ≡ 100 + numberOf refusal) × (now (counts .exit) ≡ set (now (counts .entry)) 1 (placeOf refusal))
+        (n ≡ refusedCode refusal) × (now (counts .exit) ≡ refusedCounts refusal (now (counts .entry)))
         ⌝ }
 {
     counts[1] = scene_format::place(refusal) as u64;
-    100 + scene_format::number(refusal) as u64
+    REFUSED + scene_format::number(refusal) as u64
 }
 
 // How long the lists must be.
 pub fn write_lengths(lengths: Lengths, counts: &mut [u64]) -> u64
-    requires { ⌜ 2 ≤ length (now counts) ⌝ }
+    requires { ⌜ countsNeeded ≤ length (now counts) ⌝ }
     ensures { λ n. ⌜
         (n ≡ 0) × (now (counts .exit) ≡ sets (now (counts .entry)) 0 (lengths .answers ∷ lengths .work ∷ []))
         ⌝ }
@@ -37,42 +49,23 @@ pub fn write_lengths(lengths: Lengths, counts: &mut [u64]) -> u64
     0
 }
 
-fn error_of(ending: Ending) -> f64
-    ensures { λ r. ⌜ r ≡ errorOf ending ⌝ }
-{
-    match ending {
-        Ending::Unswept => 0.0,
-        Ending::Settled(error) => error,
-        Ending::RanOut(error) => error,
-    }
-}
-
-fn ending_code(ending: Ending) -> u64
-    ensures { λ n. ⌜ n ≡ endingCode ending ⌝ }
-{
-    match ending {
-        Ending::Unswept => 0,
-        Ending::Settled(_) => 1,
-        Ending::RanOut(_) => 2,
-    }
-}
-
 // A report: its error and clock, and its iterations.
 pub fn write_report(report: Report, numbers: &mut [f64], counts: &mut [u64]) -> u64
-    requires { ⌜ (4 ≤ length (now numbers)) × (2 ≤ length (now counts)) ⌝ }
+    requires { ⌜ (numbersNeeded ≤ length (now numbers)) × (countsNeeded ≤ length (now counts)) ⌝ }
     ensures { λ n. ⌜
-        (n ≡ endingCode (report .ending)) × (now (numbers .exit) ≡ sets (now (numbers .entry)) 0 (reportNumbers report))
+        (n ≡ endingNumber (report .ending)) × (now (numbers .exit) ≡ sets (now (numbers .entry)) 0 (reportNumbers report))
         × (now (counts .exit) ≡ set (now (counts .entry)) 0 (report .iterations))
         ⌝ }
 {
     let ending = report.ending;
     let clock = report.clock;
-    numbers[0] = error_of(ending);
+    let told = tell(ending);
+    numbers[0] = told.error;
     numbers[1] = clock.dt;
     numbers[2] = clock.inv_dt;
     numbers[3] = clock.remaining_time;
     counts[0] = report.iterations as u64;
-    ending_code(ending)
+    told.number
 }
 
 fn refusal_code(refusal: KernelRefusal) -> u64
@@ -89,7 +82,7 @@ pub fn write_kernel(answer: KernelAnswer, out: &mut [f64]) -> u64
     ensures { λ n. ⌜ Gives answer (now (out .entry)) n (now (out .exit)) ⌝ }
 {
     if out.len() < 1 {
-        return 99;
+        return TOO_SHORT;
     }
     match answer {
         KernelAnswer::Value(x) => {

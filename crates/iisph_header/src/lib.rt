@@ -1,6 +1,7 @@
 // The header of an accepted scene, decoded once for a whole step. `step_header` is for the crates above, which show that
 // the scene passed the check.
 use math::Vec3;
+use scene_fields::reader::HeaderRead;
 use scene_fields::reader::header_numbers;
 use scene_format::format::GRAVITY;
 use scene_format::format::MAX_PRESSURE_ITER;
@@ -34,7 +35,10 @@ pub fn step_header(scene: &[u8]) -> StepHeader
     requires { ⌜ checked (now scene) ≡ Walk.At (length (now scene)) ⌝ }
     ensures { λ r. ⌜ StepHeaderIs (sceneOf (now (scene .entry))) r ⌝ }
 {
-    let numbers = header_numbers(scene);
+    // A scene that passed the check has its numbers, so the loop is never entered.
+    let HeaderRead::Numbers(numbers) = header_numbers(scene) else {
+        loop {}
+    };
     let clock = advance(Clock {
         total_step_size: numbers.total_step_size,
         dt: 0.0,

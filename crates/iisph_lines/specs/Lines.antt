@@ -1,7 +1,7 @@
 -- The lines of the text that the program writes, byte by byte in ASCII (FORMAT 4.2). Every line ends with a newline.
 -- Definitions only.
 use Prim.Native.Nat.{ℕ, _+_, _*_}
-use mathlib.Core.List.{List, [], _∷_, _++_, flatten}
+use mathlib.Core.List.{List, [], _∷_, _++_, map, flatten}
 use lib.ListN.{getD}
 use lib.Ieee.{Float}
 use Rattle.lists.specs.Lists.{table}
@@ -14,23 +14,17 @@ use Rattle.scene_format.specs.declared.Refusal.{Refusal}
 use Rattle.scene_layout.specs.declared.Layout.{Layout}
 use Rattle.scene_layout.specs.declared.Models.{Models}
 use Rattle.scene_lengths.specs.Lengths.{fluidAnswerWidth, widthIn, answersBefore}
+use Rattle.iisph_rules.specs.Endings.{endingNumber, endingValues}
 use Rattle.iisph_rules.specs.declared.Ending.{Ending}
-use Rattle.iisph_rules.specs.declared.Ending.the-variants.{Unswept, Settled, RanOut}
 use Rattle.iisph_rules.specs.declared.Report.{Report}
 use Rattle.iisph_words.specs.Digits.{decimalOf, mostDigits}
-use Rattle.iisph_words.specs.Words.{newline, pairText, doubleText, doublesText, kindWord}
+use Rattle.iisph_words.specs.Words.{newline, pairText, doubleText, doublesText, kindWord, endingWord}
 
 -- ---- the first two lines of a step that is done
 
--- how the iterations ended, how many there were, and the last one's error
-unfoldable pub sweptText : List ℕ → ℕ → Float → List ℕ
-sweptText word n error = word ++ decimalOf n ++ doubleText error
-
--- "unswept ", which has no error, "settled ", "ranout "
+-- how the iterations ended, how many there were, and the values of the ending
 unfoldable pub endingText : ℕ → Ending → List ℕ
-endingText n Unswept = (117 ∷ 110 ∷ 115 ∷ 119 ∷ 101 ∷ 112 ∷ 116 ∷ 32 ∷ []) ++ decimalOf n
-endingText n (Settled error) = sweptText (115 ∷ 101 ∷ 116 ∷ 116 ∷ 108 ∷ 101 ∷ 100 ∷ 32 ∷ []) n error
-endingText n (RanOut error) = sweptText (114 ∷ 97 ∷ 110 ∷ 111 ∷ 117 ∷ 116 ∷ 32 ∷ []) n error
+endingText n e = endingWord (endingNumber e) ++ decimalOf n ++ flatten (map doubleText (endingValues e))
 
 -- "step ", then the ending
 unfoldable pub stepLine : Report → List ℕ

@@ -1,10 +1,12 @@
 // The lines of the text (FORMAT 4.2). As in digits.rt, each function answers the position after what it writes.
 use iisph_rules::Ending;
 use iisph_rules::Report;
+use iisph_rules::endings::tell;
 use iisph_words::digits::put_decimal;
 use iisph_words::words::put_byte;
 use iisph_words::words::put_double;
 use iisph_words::words::put_doubles;
+use iisph_words::words::put_ending_word;
 use iisph_words::words::put_kind;
 use iisph_words::words::put_pair;
 use iisph_words::words::put_word;
@@ -21,34 +23,21 @@ ghost use Rattle.lists.specs.Stores.{Writes};
 ghost use Rattle.scene_format.specs.Format.{nameableModels};
 ghost use Rattle.scene_lengths.specs.Lengths.{answersIn};
 ghost use Rattle.iisph_words.specs.Words.{doublesText};
-ghost use Rattle.iisph_lines.specs.Lines.{sweptText, endingText, stepLine, clockLine, refusedRoom, refusedLine};
+ghost use Rattle.iisph_lines.specs.Lines.{endingText, stepLine, clockLine, refusedRoom, refusedLine};
 ghost use Rattle.iisph_lines.specs.Lines.{particleLine, modelText, modelsText};
 
-// The ending of a step with iterations: its word, how many there were, and the last one's error.
-fn put_swept(out: &mut [u8], at: usize, word: &[u8], iterations: u64, error: f64) -> usize
-    requires { ⌜ at + length (sweptText (now word) iterations error) ≤ length (now out) ⌝ }
-    ensures { λ r. ⌜
-        Writes (now (out .entry)) at (sweptText (now (word .entry)) iterations error) (now (out .exit)) r
-        ⌝ }
-{
-    let count = put_word(out, at, word);
-    let next = put_decimal(out, count, iterations);
-    put_double(out, next, error)
-}
-
-// How the iterations ended, and how many there were. A step without any has no error.
+// How the iterations ended, how many there were, and the last one's error. A step without any has no error.
 fn put_ending(out: &mut [u8], at: usize, iterations: u64, ending: Ending) -> usize
     requires { ⌜ at + length (endingText iterations ending) ≤ length (now out) ⌝ }
     ensures { λ r. ⌜ Writes (now (out .entry)) at (endingText iterations ending) (now (out .exit)) r ⌝ }
 {
-    match ending {
-        Ending::Unswept => {
-            let count = put_word(out, at, b"unswept ");
-            put_decimal(out, count, iterations)
-        }
-        Ending::Settled(error) => put_swept(out, at, b"settled ", iterations, error),
-        Ending::RanOut(error) => put_swept(out, at, b"ranout ", iterations, error),
+    let told = tell(ending);
+    let count = put_ending_word(out, at, told.number);
+    let next = put_decimal(out, count, iterations);
+    if told.number == 0 {
+        return next;
     }
+    put_double(out, next, told.error)
 }
 
 // The first line of a step that is done.

@@ -2,4 +2,5 @@ pub mod Coefficients
 pub mod Iteration
 pub mod Step
 pub mod Answer
+pub mod Endings
 pub mod Locality

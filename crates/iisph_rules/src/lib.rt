@@ -1,4 +1,6 @@
 // One IISPH pressure step over a packed scene (iisph_solver.rs): what it reports and answers.
+pub mod endings;
+
 use scene_format::Refusal;
 use timestep_manager::Clock;
 

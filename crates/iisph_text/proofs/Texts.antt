@@ -5,7 +5,7 @@ use mathlib.Core.Path.{_≡_, refl, ap}
 use mathlib.Core.Bool.{Bool, true, false}
 use mathlib.Core.List.{List, [], _∷_, map}
 use native.Mathlib.Omega.{arith}
-use lib.Dec.{ltb, lit≤}
+use lib.Dec.{ltb}
 use lib.ListN.{length}
 use lib.Ieee.{Float}
 use borrow.Author.Tests.{le-ltb, ltb-false}
@@ -26,13 +26,13 @@ use Rattle.iisph_rules.specs.Coefficients.{Coefficients}
 use Rattle.iisph_rules.specs.Iteration.{iteration}
 use Rattle.iisph_rules.specs.Step.{Solution, iterateFrom, solution, reportOf}
 use Rattle.iisph_rules.specs.declared.Ending.{Ending}
-use Rattle.iisph_rules.specs.declared.Ending.the-variants.{Unswept, Settled, RanOut}
+use Rattle.iisph_rules.specs.declared.Ending.the-variants.{RanOut}
 use Rattle.iisph_rules.specs.declared.Report.{Report}
 use Rattle.iisph_rules.proofs.Iterations.{chosen}
 use Rattle.iisph_words.specs.Words.{doubleTextWidth}
-use Rattle.iisph_lines.specs.Lines.{sweptText, endingText, stepLine, clockLine, modelsText}
+use Rattle.iisph_lines.specs.Lines.{stepLine, clockLine, modelsText}
 use Rattle.iisph_words.proofs.Numbers.{few-digits}
-use Rattle.iisph_lines.proofs.Widths.{length-swept, length-unswept, length-step, length-clock}
+use Rattle.iisph_lines.proofs.Widths.{ending-most, length-step, length-clock}
 use Rattle.iisph_text.specs.Text.{answerText, tooLong, mostBytes, textWith, textOf}
 use Rattle.iisph_text.specs.Run.{enoughAnswers, enoughWork, Reported}
 use Rattle.iisph_text.proofs.Room.{particles-room, answers-few}
@@ -61,23 +61,18 @@ report-iterations b y =
 abbrev endingRoom : ℕ
 endingRoom = 8 + 3 + doubleTextWidth
 
-swept-most : (word : List ℕ) (n : ℕ) (error : Float) → length word ≤ 8 → n < 256
-    → length (sweptText word n error) ≤ endingRoom
-swept-most word n error l h = omega (arith, length-swept word n error, few-digits 3 n (omega arith) (omega arith))
-
-ending-most : (n : ℕ) (e : Ending) → n < 256 → length (endingText n e) ≤ endingRoom
-unfolding endingText
-ending-most n Unswept h = omega (arith, length-unswept n refl, few-digits 3 n (omega arith) (omega arith))
-ending-most n (Settled x) h = swept-most _ n x (lit≤ tt) h
-ending-most n (RanOut x) h = swept-most _ n x (lit≤ tt) h
-
 -- ---- the whole text
 
 module _ (b : List ℕ) (y : Bytes b) {r : Report} (d : Reported b r) where
   step-most : length (stepLine r) ≤ 5 + endingRoom + 1
   step-most =
       let h : r .iterations < 256 = rw (d .report) at (report-iterations b y) in
-      omega (arith, length-step r, ending-most (r .iterations) (r .ending) h)
+      omega (
+        arith,
+        length-step r,
+        ending-most (r .iterations) (r .ending),
+        few-digits 3 (r .iterations) (omega arith) (omega arith),
+      )
 
   -- all lines together, whatever the answers are and wherever the boundaries' answers begin
   pub done-room : (k : ℕ) (xs : List Float)

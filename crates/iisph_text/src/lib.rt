@@ -22,10 +22,10 @@ ghost use Rattle.iisph_text.specs.Text.{mostBytes};
 ghost use Rattle.iisph_text.specs.Run.{textRoom, textIn, LinesReady, Runs};
 
 // A scene of more bytes is not read.
-const MOST_BYTES: usize = 32768;
+pub const MOST_BYTES: usize = 32768;
 
 // Room for every text.
-const TEXT_ROOM: usize = 2 * MOST_BYTES;
+pub const TEXT_ROOM: usize = 2 * MOST_BYTES;
 
 // Long enough for the answers and the work of every scene that is read.
 const ENOUGH_ANSWERS: usize = 4096;

@@ -1,9 +1,10 @@
 -- Words, numbers and doubles of a line of text, byte by byte in ASCII (FORMAT 4.2). Definitions only.
 use Prim.Native.Nat.{ℕ, _+_}
 use mathlib.Core.List.{List, [], _∷_, _++_, flatten}
+use lib.Dec.{eqb}
 use lib.ListN.{getD}
 use lib.Ieee.{Float, nan}
-use Rattle.lists.specs.Lists.{table}
+use Rattle.lists.specs.Lists.{table, choose}
 use Rattle.scene_format.specs.declared.Kind.{Kind}
 use Rattle.scene_format.specs.declared.Kind.the-variants.{Fluid, Boundary}
 use Rattle.iisph_words.specs.Digits.{hexDigits, hexOf, decimalOf}
@@ -36,3 +37,14 @@ doublesText xs k w = flatten (table w (λ e. doubleText (getD xs (k + e) nan)))
 unfoldable pub kindWord : Kind → List ℕ
 kindWord Fluid = 102 ∷ 108 ∷ 117 ∷ 105 ∷ 100 ∷ 32 ∷ []
 kindWord Boundary = 119 ∷ 97 ∷ 108 ∷ 108 ∷ 32 ∷ []
+
+-- ---- what a step's line says of its ending, by the ending's number
+
+-- "unswept ", "settled ", "ranout "
+unfoldable pub endingWord : ℕ → List ℕ
+endingWord n =
+    choose (eqb n 0)
+    (117 ∷ 110 ∷ 115 ∷ 119 ∷ 101 ∷ 112 ∷ 116 ∷ 32 ∷ [])
+    (choose (eqb n 1)
+    (115 ∷ 101 ∷ 116 ∷ 116 ∷ 108 ∷ 101 ∷ 100 ∷ 32 ∷ [])
+    (114 ∷ 97 ∷ 110 ∷ 111 ∷ 117 ∷ 116 ∷ 32 ∷ []))

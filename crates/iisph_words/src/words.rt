@@ -6,7 +6,8 @@ ghost use Prim.Native.Nat.{_+_, _≤_, _<_};
 ghost use lib.ListN.{length};
 ghost use mathlib.Core.List.{[], _∷_};
 ghost use Rattle.lists.specs.Stores.{Writes};
-ghost use Rattle.iisph_words.specs.Words.{pairText, doubleTextWidth, doubleText, doublesText, kindWord};
+ghost use Rattle.iisph_words.specs.Words.{pairText, doubleTextWidth, doubleText, doublesText};
+ghost use Rattle.iisph_words.specs.Words.{kindWord, endingWord};
 
 pub fn put_byte(out: &mut [u8], at: usize, byte: u8) -> usize
     requires { ⌜ at < length (now out) ⌝ }
@@ -37,6 +38,18 @@ pub fn put_kind(out: &mut [u8], at: usize, kind: Kind) -> usize
     match kind {
         Kind::Fluid => put_word(out, at, b"fluid "),
         Kind::Boundary => put_word(out, at, b"wall "),
+    }
+}
+
+// The word for the ending with this number.
+pub fn put_ending_word(out: &mut [u8], at: usize, number: u64) -> usize
+    requires { ⌜ at + length (endingWord number) ≤ length (now out) ⌝ }
+    ensures { λ r. ⌜ Writes (now (out .entry)) at (endingWord number) (now (out .exit)) r ⌝ }
+{
+    match number {
+        0 => put_word(out, at, b"unswept "),
+        1 => put_word(out, at, b"settled "),
+        _ => put_word(out, at, b"ranout "),
     }
 }
 

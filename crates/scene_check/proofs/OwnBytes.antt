@@ -8,12 +8,12 @@ use mathlib.Core.List.{List}
 use native.Mathlib.Omega.{arith}
 use lib.Dec.{ltb}
 use borrow.Author.Tests.{ltb-true, ltb-false}
-use Rattle.lists.specs.Lists.{table, startsFrom, sum}
+use Rattle.lists.specs.Lists.{startsFrom, sum}
 use Rattle.lists.proofs.Lists.{table-same}
 use Rattle.scene_format.specs.Bytes.{Bytes, byteAt, be16At, be32At, be64At, doubleWidth, doubleAt, vectorAt}
 use Rattle.scene_format.specs.Format.{axes, vectorWidth, minPressureIterOffset, maxPressureIterOffset}
 use Rattle.scene_format.specs.Format.{totalStepSizeOffset, remainingTimeOffset, maxDensityErrorOffset, gravityOffset}
-use Rattle.scene_format.specs.Format.{headerWidth, keepsAt, nameWidth, weightOffset, gradientOffset, contactWidth}
+use Rattle.scene_format.specs.Format.{headerWidth, keepsAt, weightOffset, gradientOffset, contactWidth}
 use Rattle.scene_format.specs.Format.{boundaryContactWidth, velocityOffset, accelerationOffset, volumeOffset}
 use Rattle.scene_format.specs.Format.{warmPressureOffset, contactCountOffset, recordWidth, contactCount, forceOffset}
 use Rattle.scene_format.specs.Format.{boundaryCountOffset, boundaryRecordWidth, boundaryContactCount, ownWidth}
@@ -154,8 +154,8 @@ module _ {b b′ : List ℕ} {p p′ : Location} where
       rw (← same-record-keeps y y′ h)
       (cc (
         same-vector axes s (omega arith),
-        same-force k (same-part s (8 * axes) (vectorWidth axes * k) (omega arith)) (omega arith),
-        s .each (8 * axes + vectorWidth axes * k) (omega arith),
+        same-force k (same-part s (forceOffset axes) (vectorWidth axes * k) (omega arith)) (omega arith),
+        s .each (boundaryCountOffset axes k) (omega arith),
         same-weights c contacts (omega arith),
       ))
 

@@ -5,19 +5,17 @@ use Prim.Native.Nat.{ℕ, _+_, _<_, _≤_}
 use mathlib.Core.Path.{_≡_}
 use mathlib.Core.List.{List}
 use native.Mathlib.Omega.{arith}
-use lib.ListN.{length}
 use Rattle.lists.proofs.Numbering.{length-starts, start-below}
-use Rattle.scene_format.specs.Bytes.{FiniteAt, Bytes}
-use Rattle.scene_format.specs.Format.{mostOfAKind, density0Offset, keepsAt, Location, locationsOf, locationOf}
+use Rattle.scene_format.specs.Bytes.{Bytes}
+use Rattle.scene_format.specs.Format.{mostOfAKind, keepsAt, Location, locationOf}
 use Rattle.scene_format.specs.Scene.{fluidSize, boundarySize, sizeOf}
 use Rattle.scene_format.specs.SceneOf.{targetAt, sceneOf}
 use Rattle.scene_format.specs.declared.Kind.{Kind}
 use Rattle.scene_format.specs.declared.Kind.the-variants.{Fluid, Boundary}
 use Rattle.scene_format.specs.declared.Walk.the-variants.{At}
-use Rattle.scene_walk.specs.Accepted.{FluidRecordOk, BoundaryRecordOk}
 use Rattle.scene_check.specs.Accepted.{TargetOk, FluidParticleOk, BoundaryParticleOk}
 use Rattle.scene_check.specs.Walk.{checked}
-use Rattle.scene_check.proofs.Accepted.{NameOk, RecordNamed, SceneOk, accepted}
+use Rattle.scene_check.proofs.Accepted.{NameOk, RecordNamed, accepted}
 use Rattle.scene_walk.proofs.Walked.{RecordOk, HeadOk}
 use Rattle.scene_layout.proofs.Locations.{each-location, locations-few, size-locations, size-sum, particle-at}
 use Rattle.scene_layout.proofs.Locations.{boundary-at}

@@ -1,3 +1,4 @@
 pub mod Reached
 pub mod Walks
+pub mod Found
 mod Held

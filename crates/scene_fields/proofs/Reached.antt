@@ -8,7 +8,7 @@ use mathlib.Core.List.{List}
 use native.Mathlib.Nat.{not-suc-le-zero, le-of-suc-le-suc, mul-zero, mul-suc}
 use native.Mathlib.Omega.{arith}
 use lib.ListN.{length}
-use borrow.Author.Tests.{leb-true, leb-false, ltb-false, eqb-true, eqb-false, not-false}
+use borrow.Author.Tests.{leb-true, ltb-false, eqb-true, eqb-false, not-false}
 use Rattle.lists.specs.Lists.{choose, iter}
 use Rattle.scene_format.specs.Bytes.{byteAt, doubleWidth, FiniteAt}
 use Rattle.scene_format.specs.Format.{mostModels, mostParticles, upperHalf, lowerHalf, countWidth, particlesAt}

@@ -1,7 +1,7 @@
 -- What the functions of a walk cite: a field that is not there, and a loop of which some turns are done, where what
 -- remains from here is the whole. By cases on the test of a field, and by the turns left. Assumes nothing.
 use Prim.Native.Nat.{ℕ, zero, suc, _+_, _-_, _≤_, _<_}
-use mathlib.Core.Path.{_≡_, refl, sym, ap, _∙_, fun-ext}
+use mathlib.Core.Path.{_≡_, refl, sym, _∙_}
 use mathlib.Core.Bool.{Bool, true, false}
 use mathlib.Core.List.{List}
 use native.Mathlib.Nat.{sub-zero}
@@ -10,14 +10,12 @@ use lib.Dec.{leb}
 use lib.ListN.{length}
 use borrow.Author.Tests.{leb-true, leb-false, le-leb, lt-leb}
 use Rattle.lists.specs.Lists.{choose, iter}
-use Rattle.scene_fields.specs.Fields.{_▹_, times, refusedIf, field, plain, double}
-use Rattle.scene_format.specs.declared.Kind.{Kind}
-use Rattle.scene_format.specs.declared.Kind.the-variants.{Fluid, Boundary}
+use Rattle.scene_fields.specs.Fields.{_▹_, times, refusedIf, field, plain}
 use Rattle.scene_format.specs.declared.Refusal.{Refusal}
 use Rattle.scene_format.specs.declared.Refusal.the-variants.{MissingField}
 use Rattle.scene_format.specs.declared.Walk.{Walk}
 use Rattle.scene_format.specs.declared.Walk.the-variants.{At, Refused}
-use Rattle.scene_fields.proofs.Reached.{never, _then_, double-steps, count-steps}
+use Rattle.scene_fields.proofs.Reached.{never}
 
 -- ---- fields
 

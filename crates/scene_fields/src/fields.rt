@@ -5,6 +5,7 @@ use scene_format::Refusal;
 use scene_format::Walk;
 use scene_format::format::COUNT_WIDTH;
 use scene_format::format::DOUBLE_WIDTH;
+use scene_format::format::HALF_MODULUS;
 use scene_format::format::MAX_MODELS;
 use scene_format::format::MAX_PARTICLES;
 use scene_format::read::byte;
@@ -110,9 +111,9 @@ pub fn halves(s: &[u8], upper: Half, lower: Half, at: usize) -> Walk
     let b = byte(s, at);
     half_byte(
         upper,
-        b / 16,
+        b / HALF_MODULUS,
         at,
-        half_byte(lower, b % 16, at, Walk::At(next)),
+        half_byte(lower, b % HALF_MODULUS, at, Walk::At(next)),
     )
 }
 

@@ -35,9 +35,16 @@ doubleAt b at = bits (be64At b at)
 unfoldable pub vectorAt : ℕ → List ℕ → ℕ → Vector
 vectorAt d b at = table d (λ k. doubleAt b (at + doubleWidth * k))
 
--- the eleven bits of the exponent, of which every one is set in an infinity and in what is not a number
+-- the eleven bits of the exponent, before the fraction's 52; every one is set in an infinity and in what is not a
+-- number
+abbrev pub exponentModulus : ℕ
+exponentModulus = 2048
+
+abbrev pub fractionModulus : ℕ
+fractionModulus = 0x10_0000_0000_0000
+
 abbrev pub exponentAt : List ℕ → ℕ → ℕ
-exponentAt b at = be64At b at / 0x10_0000_0000_0000 % 2048
+exponentAt b at = be64At b at / fractionModulus % exponentModulus
 
 abbrev pub nonFiniteExponent : ℕ
 nonFiniteExponent = 2047

@@ -17,7 +17,7 @@ abbrev pub vectorWidth : ℕ → ℕ
 vectorWidth d = doubleWidth * d
 
 -- ---- limits: models of a kind, particles of a model, particles of a kind; models, and particles of one, that a
--- contact ---- has names for
+-- ---- contact has names for
 
 abbrev pub mostModels : ℕ
 mostModels = 8
@@ -37,11 +37,14 @@ nameableParticles = 4096
 -- ---- the header
 
 -- the first two bytes hold two numbers each, in halves of four bits
+abbrev pub halfModulus : ℕ
+halfModulus = 16
+
 abbrev pub upperHalf : ℕ → ℕ
-upperHalf x = x / 16
+upperHalf x = x / halfModulus
 
 abbrev pub lowerHalf : ℕ → ℕ
-lowerHalf x = x % 16
+lowerHalf x = x % halfModulus
 
 -- the version, and the only one there is
 abbrev pub versionOf : List ℕ → ℕ
@@ -72,6 +75,10 @@ maxDensityErrorOffset = remainingTimeOffset + doubleWidth
 
 abbrev pub gravityOffset : ℕ
 gravityOffset = maxDensityErrorOffset + doubleWidth
+
+-- three numbers that stand by themselves, and gravity
+abbrev pub headerDoubles : ℕ → ℕ
+headerDoubles d = 3 + d
 
 abbrev pub headerWidth : ℕ → ℕ
 headerWidth d = gravityOffset + vectorWidth d
@@ -119,14 +126,24 @@ weightOffset = nameWidth
 abbrev pub gradientOffset : ℕ
 gradientOffset = weightOffset + doubleWidth
 
+abbrev pub contactDoubles : ℕ → ℕ
+contactDoubles d = 1 + d
+
 abbrev pub contactWidth : ℕ → ℕ
 contactWidth d = gradientOffset + vectorWidth d
+
+abbrev pub boundaryContactDoubles : ℕ
+boundaryContactDoubles = 1
 
 abbrev pub boundaryContactWidth : ℕ
 boundaryContactWidth = gradientOffset
 
 -- ---- a fluid record: position, velocity, acceleration, volume, warm pressure, a count for each kind of contact, then
 -- ---- the contacts with fluid particles and those with boundary particles
+
+-- three vectors, volume and warm pressure
+abbrev pub recordDoubles : ℕ → ℕ
+recordDoubles d = 3 * d + 2
 
 abbrev pub velocityOffset : ℕ → ℕ
 velocityOffset d = vectorWidth d
@@ -157,6 +174,9 @@ contactsStart Boundary b at = at + recordWidth axes + contactWidth axes * contac
 
 -- ---- a boundary record: velocity, force if k is 1 (0 if forces are not kept), a count, the contacts, which are with
 -- ---- boundary particles
+
+abbrev pub boundaryRecordDoubles : ℕ → ℕ → ℕ
+boundaryRecordDoubles d k = d + d * k
 
 abbrev pub forceOffset : ℕ → ℕ
 forceOffset d = vectorWidth d

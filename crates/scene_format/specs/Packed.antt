@@ -2,6 +2,8 @@
 use Prim.Native.Nat.{ℕ, _+_, _*_, _/_, _%_}
 use mathlib.Core.List.{List, [], _∷_, _++_, map, flatten}
 use lib.ListN.{length, replicate}
+use Rattle.scene_format.specs.Format.{axes, nameableParticles, halfModulus, knownVersion, countModulus}
+use Rattle.scene_format.specs.declared.Kind.the-variants.{Boundary}
 
 -- ---- numbers, the most significant byte first
 
@@ -28,17 +30,17 @@ abbrev pub v3 : ℕ → ℕ → ℕ → List ℕ
 v3 x y z = x ∷ y ∷ z ∷ []
 
 abbrev pub zero3 : List ℕ
-zero3 = replicate 3 0
+zero3 = replicate axes 0
 
 -- ---- contacts
 
 -- with a fluid or boundary particle, from a fluid particle: model number, particle number, weight, gradient
 unfoldable pub contact : ℕ → ℕ → ℕ → List ℕ → List ℕ
-contact model number weight gradient = be16 (4096 * model + number) ++ doubles (weight ∷ gradient)
+contact model number weight gradient = be16 (nameableParticles * model + number) ++ doubles (weight ∷ gradient)
 
 -- between boundary particles: model number, particle number, weight
 unfoldable pub boundaryContact : ℕ → ℕ → ℕ → List ℕ
-boundaryContact model number weight = be16 (4096 * model + number) ++ be64 weight
+boundaryContact model number weight = be16 (nameableParticles * model + number) ++ be64 weight
 
 -- ---- records
 
@@ -60,7 +62,7 @@ fluid density0 records = be16 (length records) ++ (be64 density0 ++ flatten reco
 
 -- 1 where forces are kept, else 0; records
 unfoldable pub boundary : ℕ → List (List ℕ) → List ℕ
-boundary keeps records = be16 (32768 * keeps + length records) ++ flatten records
+boundary keeps records = be16 (countModulus Boundary * keeps + length records) ++ flatten records
 
 -- ---- the scene
 
@@ -74,8 +76,8 @@ pub record Header : Type 0 where
 
 unfoldable pub packed : Header → List (List ℕ) → List (List ℕ) → List ℕ
 packed h fluids boundaries =
-    (16 + length fluids)
-    ∷ (16 * length boundaries)
+    (halfModulus * knownVersion + length fluids)
+    ∷ (halfModulus * length boundaries)
     ∷ h .minPressureIter
     ∷ h .maxPressureIter
     ∷ doubles (h .totalStepSize ∷ h .remainingTime ∷ h .maxDensityError ∷ h .gravity)

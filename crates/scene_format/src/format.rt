@@ -20,6 +20,9 @@ pub const Y: usize = DOUBLE_WIDTH;
 
 pub const Z: usize = 2 * DOUBLE_WIDTH;
 
+// Half a byte, four bits, has so many values.
+pub const HALF_MODULUS: usize = 16;
+
 // The header: the only version there is, the numbers that stand by themselves, then gravity.
 pub const VERSION: usize = 1;
 

@@ -8,9 +8,9 @@ use crate::format::BOUNDARY_CONTACTS;
 use crate::format::BOUNDARY_COUNT_MODULUS;
 use crate::format::CONTACT_WIDTH;
 use crate::format::COUNT_WIDTH;
-use crate::format::DOUBLE_WIDTH;
 use crate::format::FLUID_CONTACTS;
 use crate::format::FLUID_HEAD_WIDTH;
+use crate::format::HALF_MODULUS;
 use crate::format::NAMEABLE_PARTICLES;
 use crate::format::RECORD_WIDTH;
 use crate::format::VECTOR_WIDTH;
@@ -24,7 +24,7 @@ ghost use Rattle.math.specs.Vector.{coordinates};
 ghost use Rattle.scene_format.specs.Bytes.{byteAt, be16At, be32At, be64At, doubleWidth, exponentAt, doubleAt};
 ghost use Rattle.scene_format.specs.Bytes.{vectorAt, FiniteAt, AllFinite};
 ghost use Rattle.scene_format.specs.Format.{axes, countWidth, keepsAt, nameWidth, particlesAt, firstRecord};
-ghost use Rattle.scene_format.specs.Format.{nextRecord};
+ghost use Rattle.scene_format.specs.Format.{nextRecord, countModulus, minPressureIterOffset, modelNumber};
 ghost use Rattle.scene_format.specs.Within.{NameIs, RecordWithin};
 
 // A byte as a wider number.
@@ -61,12 +61,17 @@ fn be32(s: &[u8], at: usize) -> u64
     ((wide(s[at]) * 256 + wide(s[at + 1])) * 256 + wide(s[at + 2])) * 256 + wide(s[at + 3])
 }
 
-// Of a double: the eleven bits of its exponent, which stand in the first two bytes.
+// In the first two bytes of a double, the sign comes first, then the exponent, then the front of the fraction.
+const EXPONENT_MODULUS: usize = 2048;
+
+const FRONT_MODULUS: usize = 16;
+
+// Of a double: the eleven bits of its exponent.
 pub fn exponent(s: &[u8], at: usize) -> usize
     requires { ⌜ at + doubleWidth ≤ length (now s) ⌝ }
     ensures { λ r. ⌜ r ≡ exponentAt (now (s .entry)) at ⌝ }
 {
-    be16(s, at) / 16 % 2048
+    be16(s, at) / FRONT_MODULUS % EXPONENT_MODULUS
 }
 
 // In this form one load and a byte swap, once compiled.
@@ -82,14 +87,6 @@ pub fn double(s: &[u8], at: usize) -> f64
     ensures { λ r. ⌜ r ≡ doubleAt (now (s .entry)) at ⌝ }
 {
     f64::from_bits(be64(s, at))
-}
-
-// The offset behind a double.
-pub fn double_end(s: &[u8], at: usize) -> usize
-    requires { ⌜ FiniteAt (now s) at ⌝ }
-    ensures { λ r. ⌜ r ≡ at + doubleWidth ⌝ }
-{
-    at + DOUBLE_WIDTH
 }
 
 pub fn vector(s: &[u8], at: usize) -> Vec3
@@ -114,6 +111,17 @@ pub fn contact_name(s: &[u8], at: usize) -> ContactName
     }
 }
 
+// Of the header: how many models of a kind there are.
+pub fn model_number(s: &[u8], kind: Kind) -> usize
+    requires { ⌜ minPressureIterOffset ≤ length (now s) ⌝ }
+    ensures { λ r. ⌜ r ≡ modelNumber kind (now (s .entry)) ⌝ }
+{
+    match kind {
+        Kind::Fluid => byte(s, 0) % HALF_MODULUS,
+        Kind::Boundary => byte(s, 1) / HALF_MODULUS,
+    }
+}
+
 // Of a boundary's head: 1 if the boundary keeps forces, else 0.
 pub fn keeps(s: &[u8], head: usize) -> usize
     requires { ⌜ head + countWidth ≤ length (now s) ⌝ }
@@ -125,7 +133,7 @@ pub fn keeps(s: &[u8], head: usize) -> usize
 // Of a model's head: how many particles the model has.
 pub fn particles(s: &[u8], kind: Kind, head: usize) -> usize
     requires { ⌜ head + countWidth ≤ length (now s) ⌝ }
-    ensures { λ r. ⌜ (r ≡ particlesAt kind (now (s .entry)) head) × (r < 65536) ⌝ }
+    ensures { λ r. ⌜ (r ≡ particlesAt kind (now (s .entry)) head) × (r < countModulus Kind.Fluid) ⌝ }
 {
     match kind {
         Kind::Fluid => be16(s, head),

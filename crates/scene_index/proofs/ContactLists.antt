@@ -13,8 +13,7 @@ use Rattle.scene_check.specs.Accepted.{FluidParticleOk}
 use Rattle.scene_check.proofs.Records.{fluid-particle-ok}
 use Rattle.scene_format.specs.Bytes.{byteAt, doubleAt}
 use Rattle.scene_format.specs.Format.{axes, density0Offset, contactCountOffset, recordWidth, contactWidth, startsOf}
-use Rattle.scene_format.specs.Format.{Location}
-use Rattle.scene_format.specs.Format.{locationOf}
+use Rattle.scene_format.specs.Format.{Location, locationOf}
 use Rattle.scene_format.specs.Scene.{FluidParticle, Contact, fluidSize, particle}
 use Rattle.scene_format.specs.SceneOf.{contactAt, contactList, fluidParticleAt, sceneOf}
 use Rattle.scene_format.specs.declared.Kind.{Kind}

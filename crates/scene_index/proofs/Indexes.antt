@@ -1,25 +1,20 @@
 -- The models of a scene by their kind, as the layout gives them, and the index that is filled from them: its five
 -- sections stand apart, so each holds what was stored there. Assumes nothing.
-use Prim.Native.Nat.{ℕ, _+_, _*_, _<_, _≤_}
+use Prim.Native.Nat.{ℕ, _+_, _*_, _/_, _%_, _<_, _≤_}
 use mathlib.Core.Path.{_≡_, sym, ap, _∙_}
 use mathlib.Core.List.{List, map}
 use native.Mathlib.Omega.{arith}
 use lib.ListN.{length, getD, length-map, replicate}
 use lib.Seq.{sets, length-sets}
-use Rattle.lists.specs.Lists.{sum, startsFrom}
 use Rattle.lists.specs.Stores.{Part}
 use Rattle.lists.proofs.Fills.{table-copies}
 use Rattle.lists.proofs.Lists.{length-table, table-same}
 use Rattle.lists.proofs.Numbering.{start-at-most}
 use Rattle.lists.proofs.Stores.{sets-in, sets-below}
 use Rattle.scene_check.specs.Check.{Passed}
-use Rattle.scene_check.specs.Walk.{checked}
 use Rattle.scene_check.proofs.Records.{size-few, fluid-size-few, boundary-size-few}
-use Rattle.scene_format.specs.Format.{mostModels, mostOfAKind, upperHalf, lowerHalf, modelNumber, particlesAt, headAt}
-use Rattle.scene_format.specs.Format.{headsOf}
-use Rattle.scene_format.specs.Format.{countsOf, startsOf, modelLocations, locationsOf}
-use Rattle.scene_format.specs.SceneOf.{sceneOf}
-use Rattle.scene_format.specs.Scene.{sizeOf}
+use Rattle.scene_format.specs.Format.{mostModels, mostOfAKind, modelNumber, particlesAt, headAt, headsOf, countsOf}
+use Rattle.scene_format.specs.Format.{startsOf, modelLocations, locationsOf}
 use Rattle.scene_format.specs.Within.{ModelWithin, ModelsWithin}
 use Rattle.scene_format.specs.declared.Kind.{Kind}
 use Rattle.scene_format.specs.declared.Kind.the-variants.{Fluid, Boundary}
@@ -29,8 +24,7 @@ use Rattle.scene_layout.specs.declared.Models.{Models}
 use Rattle.scene_layout.proofs.Filled.{padded-at}
 use Rattle.scene_layout.proofs.Locations.{heads-at, size-locations, size-sum}
 use Rattle.scene_index.specs.Index.{basesLength, basesAt, headsAt, recordsAt, indexLength, baseOf, basesOf}
-use Rattle.scene_index.specs.Index.{entryOf}
-use Rattle.scene_index.specs.Index.{entriesOf, indexOf, Indexed}
+use Rattle.scene_index.specs.Index.{blockSize, modelBlocks, entryOf, entriesOf, indexOf, Indexed}
 use Rattle.scene_index.specs.declared.index.Entry.the-variants.{Offset, Head}
 use Rattle.scene_index.proofs.Traversals.{model-table}
 
@@ -70,7 +64,8 @@ heads-copied κ b head {n} e = sym (table-copies n head) ∙ model-table κ b (e
 bases-padded : (starts : List ℕ) → basesOf (padded starts) ≡ basesOf starts
 unfolding basesOf baseOf
 bases-padded starts =
-    table-same basesLength _ _ (λ x h. ap (λ (s : ℕ). s + 256 * lowerHalf x) (padded-at starts (upperHalf x)))
+    table-same basesLength _ _
+    (λ x h. ap (λ (s : ℕ). s + blockSize * (x % modelBlocks)) (padded-at starts (x / modelBlocks)))
 
 module _ {b : List ℕ} {layout : Layout} (passed : Passed b layout) where
   pub fluids-are : layout .fluids ≡ layoutModels Fluid b

@@ -8,10 +8,10 @@ use lib.Dec.{eqb}
 use lib.ListN.{length, getD}
 use Rattle.lists.specs.Lists.{sum, table, startsFrom}
 use Rattle.lists.proofs.Fills.{table-list}
-use Rattle.lists.proofs.Numbering.{sum-next, sum-more, start-below, starts-next}
+use Rattle.lists.proofs.Numbering.{sum-next, sum-more, starts-next}
 use Rattle.scene_check.specs.Check.{Passed}
 use Rattle.scene_check.proofs.Records.{keeps-below}
-use Rattle.scene_format.specs.Format.{modelNumber, keepsAt, headAt, headsOf, countsOf, startsOf, locationOf}
+use Rattle.scene_format.specs.Format.{modelNumber, keepsAt, headAt, countsOf, startsOf, locationOf}
 use Rattle.scene_format.specs.Scene.{boundarySize, boundary}
 use Rattle.scene_format.specs.SceneOf.{boundaryParticleAt, sceneOf}
 use Rattle.scene_format.specs.declared.Kind.the-variants.{Boundary}

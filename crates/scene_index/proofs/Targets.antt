@@ -1,9 +1,8 @@
 -- What the index says of a record, and of the particle that a contact names: each is the one section of Indexed that
 -- holds it, taken at its number. Assumes nothing.
 use Prim.Native.Nat.{ℕ, _+_, _*_, _/_, _%_, _<_, _≤_}
-use mathlib.Core.Path.{_≡_, ap, _∙_}
+use mathlib.Core.Path.{_≡_, _∙_}
 use mathlib.Core.List.{List, map}
-use native.Mathlib.Nat.{add-assoc}
 use native.Mathlib.Omega.{arith}
 use lib.ListN.{length, getD, length-map}
 use Rattle.lists.specs.Stores.{Part}
@@ -11,40 +10,49 @@ use Rattle.lists.proofs.Lists.{length-table, table-at}
 use Rattle.lists.proofs.Numbering.{getD-map}
 use Rattle.scene_check.proofs.Accepted.{accepted}
 use Rattle.scene_check.proofs.Records.{boundary-particle-ok}
-use Rattle.scene_check.specs.Accepted.{BoundaryParticleOk}
-use Rattle.scene_format.specs.Bytes.{byteAt, be16At, AllFinite, vectorAt}
-use Rattle.scene_format.specs.Format.{axes, mostOfAKind, nameableParticles, upperHalf, lowerHalf, startsOf, Location}
-use Rattle.scene_format.specs.Format.{nowhere}
-use Rattle.scene_format.specs.Format.{locationsOf, locationOf}
+use Rattle.scene_format.specs.Bytes.{AllFinite, vectorAt}
+use Rattle.scene_format.specs.Format.{axes, mostOfAKind, nameableParticles, startsOf, Location, nowhere, locationsOf}
+use Rattle.scene_format.specs.Format.{locationOf}
 use Rattle.scene_format.specs.Scene.{fluidSize, boundarySize, sizeOf, boundary}
 use Rattle.scene_format.specs.SceneOf.{targetAt, boundaryParticleAt, sceneOf}
+use Rattle.scene_format.specs.Within.{NameIs}
+use Rattle.scene_format.specs.declared.ContactName.{ContactName}
 use Rattle.scene_format.specs.declared.Kind.{Kind}
 use Rattle.scene_format.specs.declared.Kind.the-variants.{Fluid, Boundary}
 use Rattle.scene_layout.proofs.Locations.{size-locations}
 use Rattle.scene_walk.specs.Accepted.{HeaderOk}
 use Rattle.scene_index.specs.Contacts.{ContactReady}
-use Rattle.scene_index.specs.Index.{basesLength, basesAt, headsAt, recordsAt, baseOf, basesOf, entryOf, Indexed}
+use Rattle.scene_index.specs.Index.{blockSize, modelBlocks, basesLength, basesAt, headsAt, recordsAt, baseOf}
+use Rattle.scene_index.specs.Index.{basesOf, entryOf, Indexed}
 use Rattle.scene_index.specs.declared.index.Entry.{Entry}
 use Rattle.scene_index.specs.declared.index.Entry.the-variants.{Offset, Head}
 
 -- ---- targets
 
--- the two bytes of a name
-name-split : (x y : ℕ) → y < 256
-    → (upperHalf x ≡ (x * 256 + y) / nameableParticles) × (256 * lowerHalf x + y ≡ (x * 256 + y) % nameableParticles)
-name-split x y h = (omega arith, omega arith)
+-- a block's model, its number among the model's blocks, and a particle's number by its block
+block-split : (m p : ℕ) → p < nameableParticles
+    → let x = modelBlocks * m + p / blockSize in
+    (x / modelBlocks ≡ m) × (x % modelBlocks ≡ p / blockSize) × (blockSize * (p / blockSize) + p % blockSize ≡ p)
+block-split m p h = (omega arith, omega arith, omega arith)
 
 module _ {b index : List ℕ} (ix : Indexed b index) (κ : Kind) (at : ℕ) where
-  pub target-is : {x y : ℕ} → (x ≡ byteAt b at) × (x < 256) → (y ≡ byteAt b (at + 1)) × (y < 256)
-      → getD index (basesAt κ + x) 0 + y ≡ targetAt (startsOf κ b) b at
+  pub target-is : {name : ContactName} → NameIs b at name
+      → let p = name .particle .0 in
+      let x = modelBlocks * name .model .0 + p / blockSize in
+      getD index (basesAt κ + x) 0 + p % blockSize ≡ targetAt (startsOf κ b) b at
   unfolding targetAt basesOf baseOf
-  target-is {x} {y} first second =
+  target-is {name} is =
+      let m = name .model .0 in
+      let p = name .particle .0 in
+      let x = modelBlocks * m + p / blockSize in
       let starts = startsOf κ b in
-      let split = name-split x y (second .1) in
-      let held : getD index (basesAt κ + x) 0 ≡ getD starts (upperHalf x) 0 + 256 * lowerHalf x =
-      ix .bases κ .holds x (rw (length-table basesLength (baseOf starts)) (first .1))
-      ∙ table-at basesLength (baseOf starts) x 0 (first .1) in
-      rw (← first .0, ← second .0, ← split .0, ← split .1, held) (add-assoc _ _ y)
+      let few : p < nameableParticles = omega (arith, is .particle) in
+      let below : x < basesLength = omega (arith, is .below) in
+      let (model, number, whole) = block-split m p few in
+      let held : getD index (basesAt κ + x) 0 ≡ getD starts m 0 + blockSize * (p / blockSize) =
+      ix .bases κ .holds x (rw (length-table basesLength (baseOf starts)) below)
+      ∙ table-at basesLength (baseOf starts) x 0 below ∙ rw (model, number) in
+      rw (← is .model, ← is .particle) (omega (arith, held, whole))
 
   pub target-few : ContactReady κ b at → targetAt (startsOf κ b) b at < mostOfAKind
   unfolding sizeOf

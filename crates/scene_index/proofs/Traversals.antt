@@ -12,8 +12,7 @@ use Rattle.lists.specs.Lists.{table, trail}
 use Rattle.lists.proofs.Fills.{sets-append}
 use Rattle.lists.proofs.Numbering.{trail-table, trail-next}
 use Rattle.scene_format.specs.Format.{modelNumber, particlesAt, firstRecord, nextRecord, modelEnd, firstHead, headAt}
-use Rattle.scene_format.specs.Format.{headsOf}
-use Rattle.scene_format.specs.Format.{Location, recordAt, modelLocations, locationsOf}
+use Rattle.scene_format.specs.Format.{headsOf, Location, recordAt, modelLocations, locationsOf}
 use Rattle.scene_format.specs.declared.Kind.{Kind}
 use Rattle.scene_layout.proofs.Locations.{length-model}
 

@@ -10,7 +10,7 @@ use Rattle.lists.specs.Lists.{table}
 use Rattle.lists.specs.Stores.{Part}
 use Rattle.scene_check.specs.Walk.{checked}
 use Rattle.scene_format.specs.Bytes.{Bytes}
-use Rattle.scene_format.specs.Format.{mostOfAKind, upperHalf, lowerHalf, startsOf, Location, locationsOf}
+use Rattle.scene_format.specs.Format.{mostOfAKind, nameableModels, nameableParticles, startsOf, Location, locationsOf}
 use Rattle.scene_format.specs.Scene.{fluidSize, boundarySize}
 use Rattle.scene_format.specs.SceneOf.{sceneOf}
 use Rattle.scene_format.specs.declared.Kind.{Kind}
@@ -19,11 +19,18 @@ use Rattle.scene_format.specs.declared.Walk.the-variants.{At}
 use Rattle.scene_index.specs.declared.index.Entry.{Entry}
 use Rattle.scene_index.specs.declared.index.Entry.the-variants.{Offset, Head}
 
--- ---- sections: for each kind the bases of names, of which there is one for each first byte; the offsets of the fluid
+-- the names of a model's particles fall into blocks of so many numbers, and so many blocks
+abbrev pub blockSize : ℕ
+blockSize = 256
+
+abbrev pub modelBlocks : ℕ
+modelBlocks = nameableParticles / blockSize
+
+-- ---- sections: for each kind the bases of names, of which there is one for each block; the offsets of the fluid
 -- ---- records, those of their heads, and those of the boundary records
 
 abbrev pub basesLength : ℕ
-basesLength = 256
+basesLength = nameableModels * modelBlocks
 
 abbrev pub basesAt : Kind → ℕ
 basesAt Fluid = 0
@@ -41,11 +48,10 @@ indexLength = recordsAt Boundary + mostOfAKind
 
 -- ---- what they hold
 
--- the first byte of a contact's name holds the model's number and the upper four bits of the particle's, the second the
--- lower eight. `starts` has the number of each model's first particle; the base of a first byte is that of the first
--- particle with such a name, so a target is a base and a byte
+-- `starts` has the number of each model's first particle; the base of a block is the number of its first particle, so a
+-- target is a base and the particle's number within its block
 unfoldable pub baseOf : List ℕ → ℕ → ℕ
-baseOf starts x = getD starts (upperHalf x) 0 + 256 * lowerHalf x
+baseOf starts x = getD starts (x / modelBlocks) 0 + blockSize * (x % modelBlocks)
 
 unfoldable pub basesOf : List ℕ → List ℕ
 basesOf starts = table basesLength (baseOf starts)

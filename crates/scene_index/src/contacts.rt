@@ -1,8 +1,10 @@
 // The contacts of a fluid particle, kind by kind, and what a contact names: the particle's number among all of its
 // kind.
+use crate::index::BLOCK_SIZE;
 use crate::index::BOUNDARY_BASES;
 use crate::index::FLUID_BASES;
 use crate::index::HEADS;
+use crate::index::MODEL_BLOCKS;
 use crate::index::RECORDS;
 use scene_format::Kind;
 use scene_format::format::BOUNDARY_CONTACTS;
@@ -57,16 +59,19 @@ pub fn contacts_of(scene: &[u8], index: &[usize], kind: Kind, i: usize) -> Conta
     }
 }
 
-// The number, among all of its kind, of the particle that the contact at an offset names.
+// The number, among all of its kind, of the particle that the contact at an offset names. Because `block` has a `let` of
+// its own, the compiled code finds the base by the name's first byte and adds the second.
 pub fn target_of(scene: &[u8], index: &[usize], kind: Kind, at: usize) -> usize
     requires { ⌜ Indexed (now scene) (now index) ⌝ }
     requires { ⌜ ContactReady kind (now scene) at ⌝ }
     ensures { λ r. ⌜ r ≡ targetAt (startsOf kind (now (scene .entry))) (now (scene .entry)) at ⌝ }
 {
-    let first = read::byte(scene, at);
-    let second = read::byte(scene, at + 1);
+    let name = read::contact_name(scene, at);
+    let model = name.model.0;
+    let particle = name.particle.0;
+    let block = MODEL_BLOCKS * model + particle / BLOCK_SIZE;
     match kind {
-        Kind::Fluid => index[FLUID_BASES + first] + second,
-        Kind::Boundary => index[BOUNDARY_BASES + first] + second,
+        Kind::Fluid => index[FLUID_BASES + block] + particle % BLOCK_SIZE,
+        Kind::Boundary => index[BOUNDARY_BASES + block] + particle % BLOCK_SIZE,
     }
 }

@@ -4,6 +4,7 @@ use scene_format::Kind;
 use scene_format::format::MAX_MODELS;
 use scene_format::format::MAX_PARTICLES;
 use scene_format::format::NAMEABLE_MODELS;
+use scene_format::format::NAMEABLE_PARTICLES;
 use scene_format::read::first_record;
 use scene_format::read::next_record;
 use scene_format::read::particles;
@@ -20,8 +21,13 @@ ghost use Rattle.scene_format.specs.Within.{ModelWithin, ModelsWithin};
 ghost use Rattle.scene_layout.specs.Layout.{layoutModels};
 ghost use Rattle.scene_index.specs.Index.{basesLength, basesOf, entryOf, entriesOf, indexLength, indexOf};
 
-// The bases of a kind: one for each first byte of a name.
-const BASES_LENGTH: usize = 256;
+// The names of a model's particles fall into blocks of so many numbers, and so many blocks.
+pub const BLOCK_SIZE: usize = 256;
+
+pub const MODEL_BLOCKS: usize = NAMEABLE_PARTICLES / BLOCK_SIZE;
+
+// The bases of a kind: one for each block of names.
+const BASES_LENGTH: usize = NAMEABLE_MODELS * MODEL_BLOCKS;
 
 const MAX_OF_A_KIND: usize = MAX_MODELS * MAX_PARTICLES;
 
@@ -46,7 +52,7 @@ enum Entry {
     Head,
 }
 
-// The bases of one kind, from element k on: of each first byte of a contact's name.
+// The bases of one kind, from element k on: of each block of contacts' names.
 fn fill_bases(starts: [usize; NAMEABLE_MODELS], k: usize, index: &mut [usize])
     requires { ⌜ k + basesLength ≤ length (now index) ⌝ }
     requires { ⌜ ((m : ℕ) → getD starts m 0 ≤ mostOfAKind) ⌝ }
@@ -54,7 +60,7 @@ fn fill_bases(starts: [usize; NAMEABLE_MODELS], k: usize, index: &mut [usize])
 {
     let mut x = 0;
     while x < BASES_LENGTH {
-        index[k + x] = starts[x / 16] + 256 * (x % 16);
+        index[k + x] = starts[x / MODEL_BLOCKS] + BLOCK_SIZE * (x % MODEL_BLOCKS);
         x += 1;
     }
 }

@@ -11,8 +11,9 @@ use lib.Seq.{sets, sets-eq}
 use Rattle.lists.specs.Lists.{sum, trail, startsFrom}
 use Rattle.lists.proofs.Numbering.{length-starts}
 use Rattle.scene_format.specs.Format.{nameableModels, modelNumber, particlesAt, keepsAt, modelEnd, firstHead, headAt}
-use Rattle.scene_format.specs.Format.{headsOf, countsOf, startsOf}
+use Rattle.scene_format.specs.Format.{headsOf, countsOf, startsOf, countModulus}
 use Rattle.scene_format.specs.declared.Kind.{Kind}
+use Rattle.scene_format.specs.declared.Kind.the-variants.{Fluid}
 use Rattle.scene_layout.specs.Layout.{padded, layoutModels}
 use Rattle.scene_layout.specs.declared.Models.{Models}
 use Rattle.scene_layout.proofs.Locations.{length-heads, length-counts}
@@ -59,7 +60,7 @@ module _ (κ : Kind) (b : List ℕ) where
 
   -- of all models the first i are stored; their particles are `before`, and the next head is at `at`
   pub record Filled (heads counts starts keeps : List ℕ) (before at i : ℕ) : Type 0 where
-    pub few : before ≤ 65536 * i
+    pub few : before ≤ countModulus Fluid * i
     pub allHeads : sets none 0 (headsOf κ b) ≡ sets heads i (trail (modelNumber κ b - i) (modelEnd κ b) at)
     pub allCounts : sets none 0 (countsOf κ b) ≡ sets counts i (read (particlesAt κ b) (modelNumber κ b - i) at)
     pub allStarts : sets none 0 (startsOf κ b)
@@ -82,7 +83,8 @@ module _ (κ : Kind) (b : List ℕ) where
 
   module _ {heads counts starts keeps : List ℕ} {before at i : ℕ}
       (here : Filled heads counts starts keeps before at i) where
-    pub one-more-filled : {count keep next : ℕ} → i < modelNumber κ b → count ≡ particlesAt κ b at → count < 65536
+    pub one-more-filled : {count keep next : ℕ} → i < modelNumber κ b → count ≡ particlesAt κ b at
+        → count < countModulus Fluid
         → keep ≡ keepsAt b at → next ≡ modelEnd κ b at
         → Filled (set heads i at) (set counts i count) (set starts i before) (set keeps i keep) (before + count) next
         (i + 1)

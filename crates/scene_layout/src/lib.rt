@@ -1,11 +1,12 @@
-// Where the models of a scene stand whose fields are accepted, found by stepping over the records.
+// Where the models of a scene stand, found by stepping over the records. `layout_of` asks that the scene's fields are
+// accepted, which its callers have from the walk.
 use scene_format::Kind;
 use scene_format::Walk;
 use scene_format::format::HEADER_WIDTH;
 use scene_format::format::NAMEABLE_MODELS;
-use scene_format::read::byte;
 use scene_format::read::first_record;
 use scene_format::read::keeps;
+use scene_format::read::model_number;
 use scene_format::read::next_record;
 use scene_format::read::particles;
 ghost use mathlib.Core.Path.{_≡_};
@@ -88,7 +89,8 @@ pub fn layout_of(s: &[u8]) -> Layout
     requires { ⌜ walk.fields (now s) ≡ Walk.At (length (now s)) ⌝ }
     ensures { λ r. ⌜ r ≡ layoutOf (now (s .entry)) ⌝ }
 {
-    let fluids = models_of(s, Kind::Fluid, byte(s, 0) % 16, HEADER_WIDTH);
-    let boundaries = models_of(s, Kind::Boundary, byte(s, 1) / 16, fluids.end);
+    let fluids = models_of(s, Kind::Fluid, model_number(s, Kind::Fluid), HEADER_WIDTH);
+    let number = model_number(s, Kind::Boundary);
+    let boundaries = models_of(s, Kind::Boundary, number, fluids.end);
     Layout { fluids, boundaries }
 }

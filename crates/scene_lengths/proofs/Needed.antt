@@ -2,7 +2,6 @@
 -- they are as many. Both counts are sums over the heads of the models. Assumes nothing.
 use Prim.Native.Nat.{ℕ, zero, suc, _+_, _*_, _<_, _≤_}
 use mathlib.Core.Path.{_≡_, refl, sym, ap, _∙_, fun-ext}
-use mathlib.Core.Bool.{Bool, true, false}
 use mathlib.Core.List.{List, [], _∷_, map, map-map, map-append, flatten}
 use native.Mathlib.Nat.{mul-zero, mul-suc, mul-add}
 use native.Mathlib.Numerals.{add-one}
@@ -13,10 +12,10 @@ use Rattle.lists.specs.Lists.{choose, sum, table, trail}
 use Rattle.lists.proofs.Lists.{table-same}
 use Rattle.lists.proofs.Numbering.{length-trail, trail-table, sum-next, sum-append}
 use Rattle.scene_format.specs.Bytes.{Bytes}
-use Rattle.scene_format.specs.Format.{axes, mostParticles, mostOfAKind, modelNumber, particlesAt, keepsAt, firstRecord}
-use Rattle.scene_format.specs.Format.{nextRecord, modelEnd, firstHead, headAt, headsOf, countsOf, Location}
-use Rattle.scene_format.specs.Format.{modelLocations, locationsOf}
-use Rattle.scene_format.specs.Scene.{BoundaryParticle, fluidSize, boundarySize}
+use Rattle.scene_format.specs.Format.{axes, mostParticles, modelNumber, particlesAt, keepsAt, firstRecord, nextRecord}
+use Rattle.scene_format.specs.Format.{modelEnd, firstHead, headAt, headsOf, countsOf, Location, modelLocations}
+use Rattle.scene_format.specs.Format.{locationsOf}
+use Rattle.scene_format.specs.Scene.{fluidSize, boundarySize}
 use Rattle.scene_format.specs.SceneOf.{boundaryParticleAt, headerOf, sceneOf}
 use Rattle.scene_format.specs.declared.Kind.{Kind}
 use Rattle.scene_format.specs.declared.Kind.the-variants.{Fluid, Boundary}

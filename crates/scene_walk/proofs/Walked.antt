@@ -14,7 +14,8 @@ use Rattle.scene_format.specs.Format.{axes, mostModels, mostParticles, modelNum
 use Rattle.scene_format.specs.Format.{particlesAt, keepsAt, weightOffset, contactWidth, boundaryContactWidth}
 use Rattle.scene_format.specs.Format.{recordWidth, contactCount, contactsStart, boundaryRecordWidth}
 use Rattle.scene_format.specs.Format.{boundaryContactCount, ownWidth, contactsWidth, firstRecord, nextRecord, modelEnd}
-use Rattle.scene_format.specs.Format.{firstHead, headAt, Location, recordAt}
+use Rattle.scene_format.specs.Format.{firstHead, headAt, Location, recordAt, headerDoubles, contactDoubles}
+use Rattle.scene_format.specs.Format.{boundaryContactDoubles, recordDoubles, boundaryRecordDoubles}
 use Rattle.scene_format.specs.declared.Kind.{Kind}
 use Rattle.scene_format.specs.declared.Kind.the-variants.{Fluid, Boundary}
 use Rattle.scene_format.specs.declared.Walk.the-variants.{At}
@@ -47,10 +48,10 @@ parts-end c zero at l h k = omega (arith, mul-zero c)
 parts-end c (suc n) at l h k = omega (arith, k n (omega arith), mul-suc c n)
 
 module _ (b : List ℕ) where
-  contact-steps : Steps (contact (1 + axes) b) (λ at. at + contactWidth axes) (ContactOk b)
+  contact-steps : Steps (contact (contactDoubles axes) b) (λ at. at + contactWidth axes) (ContactOk b)
   unfolding contact
   contact-steps at =
-      restated (plain-steps b _ at then doubles-steps b (1 + axes))
+      restated (plain-steps b _ at then doubles-steps b (contactDoubles axes))
       (λ h. (
         omega arith,
         record {
@@ -59,7 +60,8 @@ module _ (b : List ℕ) where
         },
       ))
 
-  contacts-steps : (n : ℕ) → Steps (times n (contact (1 + axes) b)) (λ at. at + contactWidth axes * n) (ContactsOk b n)
+  contacts-steps : (n : ℕ)
+      → Steps (times n (contact (contactDoubles axes) b)) (λ at. at + contactWidth axes * n) (ContactsOk b n)
   contacts-steps n = parts-steps (contactWidth axes) contact-steps n
 
   contacts-end : (n at : ℕ) → at ≤ length b → ContactsOk b n at → at + contactWidth axes * n ≤ length b
@@ -85,10 +87,10 @@ both-kinds b at f g Boundary = g
 module _ (b : List ℕ) where
   -- a fluid record's doubles and counts, before its contacts
   pub fluid-own-leads : (at : ℕ)
-      → Leads (times (3 * axes + 2) (double b) at ▹ plain b 1 ▹ plain b 1) (at + recordWidth axes)
-      (AllFinite b at (3 * axes + 2) × (at + recordWidth axes ≤ length b))
+      → Leads (times (recordDoubles axes) (double b) at ▹ plain b 1 ▹ plain b 1) (at + recordWidth axes)
+      (AllFinite b at (recordDoubles axes) × (at + recordWidth axes ≤ length b))
   fluid-own-leads at =
-      restated (doubles-steps b (3 * axes + 2) at then plain-steps b 1 then plain-steps b 1)
+      restated (doubles-steps b (recordDoubles axes) at then plain-steps b 1 then plain-steps b 1)
       (λ h. (omega arith, (h .0 .0, omega (arith, h .1))))
 
   fluid-record-leads : (at : ℕ)
@@ -120,13 +122,14 @@ module _ (b : List ℕ) where
 
   -- a boundary record's doubles and count, before its contacts
   pub boundary-own-leads : (k at : ℕ)
-      → Leads (times (axes + axes * k) (double b) at ▹ plain b 1) (at + boundaryRecordWidth axes k)
-      (AllFinite b at (axes + axes * k) × (at + boundaryRecordWidth axes k ≤ length b))
+      → Leads (times (boundaryRecordDoubles axes k) (double b) at ▹ plain b 1) (at + boundaryRecordWidth axes k)
+      (AllFinite b at (boundaryRecordDoubles axes k) × (at + boundaryRecordWidth axes k ≤ length b))
   boundary-own-leads k at =
-      restated (doubles-steps b (axes + axes * k) at then plain-steps b 1)
+      restated (doubles-steps b (boundaryRecordDoubles axes k) at then plain-steps b 1)
       (λ h. (omega arith, (h .0, omega (arith, h .1))))
 
-  boundary-contact-steps : Steps (contact 1 b) (λ at. at + boundaryContactWidth) (λ at. FiniteAt b (at + weightOffset))
+  boundary-contact-steps :
+      Steps (contact boundaryContactDoubles b) (λ at. at + boundaryContactWidth) (λ at. FiniteAt b (at + weightOffset))
   unfolding contact
   boundary-contact-steps at =
       restated (plain-steps b _ at then doubles-steps b 1)
@@ -215,7 +218,7 @@ module _ (b : List ℕ) where
   unfolding header HalfOk
   header-leads =
       restated (halves-steps b _ _ 0 then halves-steps b _ _ then plain-steps b 1 then plain-steps b 1 then
-      doubles-steps b (3 + axes))
+      doubles-steps b (headerDoubles axes))
       (λ h.
       let d = h .1 in
       let first = h .0 .0 .0 .0 in

@@ -1,10 +1,11 @@
 -- The walk through the fields of a packed scene, in the order in which they stand: each is tested present (refusal 1)
 -- and then by its own rule (2, 3, 4, 6); then come bytes that follow (5) (FORMAT 2.2). Definitions only.
-use Prim.Native.Nat.{ℕ, _+_, _*_}
+use Prim.Native.Nat.{ℕ}
 use mathlib.Core.List.{List}
 use Rattle.scene_fields.specs.Fields.{_▹_, times, plain, double, count, halves, ended}
 use Rattle.scene_format.specs.Format.{axes, knownVersion, modelNumber, particlesAt, keepsAt, nameWidth, contactCount}
-use Rattle.scene_format.specs.Format.{boundaryContactCount}
+use Rattle.scene_format.specs.Format.{headerDoubles, contactDoubles, boundaryContactDoubles, recordDoubles}
+use Rattle.scene_format.specs.Format.{boundaryRecordDoubles, boundaryContactCount}
 use Rattle.scene_format.specs.declared.Kind.{Kind}
 use Rattle.scene_format.specs.declared.Kind.the-variants.{Fluid, Boundary}
 use Rattle.scene_format.specs.declared.Walk.{Walk}
@@ -18,7 +19,7 @@ header b at =
     ▹ halves b ModelCount (Fixed 0)
     ▹ plain b 1
     ▹ plain b 1
-    ▹ times (3 + axes) (double b)
+    ▹ times (headerDoubles axes) (double b)
 
 -- a contact: its name, and n doubles
 unfoldable pub contact : ℕ → List ℕ → ℕ → Walk
@@ -27,16 +28,18 @@ contact n b at = plain b nameWidth at ▹ times n (double b)
 -- position, velocity, acceleration, volume, warm pressure, two counts, the contacts, each with a weight and a gradient
 unfoldable pub fluidRecord : List ℕ → ℕ → Walk
 fluidRecord b at =
-    times (3 * axes + 2) (double b) at
+    times (recordDoubles axes) (double b) at
     ▹ plain b 1
     ▹ plain b 1
-    ▹ times (contactCount Fluid b at) (contact (1 + axes) b)
-    ▹ times (contactCount Boundary b at) (contact (1 + axes) b)
+    ▹ times (contactCount Fluid b at) (contact (contactDoubles axes) b)
+    ▹ times (contactCount Boundary b at) (contact (contactDoubles axes) b)
 
 -- velocity, force if k is 1, a count, the contacts, each with a weight
 unfoldable pub boundaryRecord : List ℕ → ℕ → ℕ → Walk
 boundaryRecord b k at =
-    times (axes + axes * k) (double b) at ▹ plain b 1 ▹ times (boundaryContactCount b k at) (contact 1 b)
+    times (boundaryRecordDoubles axes k) (double b) at
+    ▹ plain b 1
+    ▹ times (boundaryContactCount b k at) (contact boundaryContactDoubles b)
 
 -- a record of the model whose head is at an offset
 unfoldable pub recordOf : Kind → List ℕ → ℕ → ℕ → Walk

@@ -21,6 +21,7 @@ use scene_format::format::VECTOR_WIDTH;
 use scene_format::format::VERSION;
 use scene_format::read::byte;
 use scene_format::read::keeps;
+use scene_format::read::model_number;
 use scene_format::read::particles;
 ghost use mathlib.Core.Path.{_≡_};
 ghost use Prim.Native.Nat.{_+_, _≤_, _<_};
@@ -203,11 +204,11 @@ pub fn fields(s: &[u8]) -> Walk
     let Walk::At(at) = first else {
         return first;
     };
-    let fluids = models(s, Kind::Fluid, byte(s, 0) % 16, at);
+    let fluids = models(s, Kind::Fluid, model_number(s, Kind::Fluid), at);
     let Walk::At(at) = fluids else {
         return fluids;
     };
-    let boundaries = models(s, Kind::Boundary, byte(s, 1) / 16, at);
+    let boundaries = models(s, Kind::Boundary, model_number(s, Kind::Boundary), at);
     let Walk::At(at) = boundaries else {
         return boundaries;
     };

@@ -1,7 +1,7 @@
 -- The instance of locality: acceptance, counts and bytes by evaluation, slice by slice; links by evaluation of what the
 -- contacts of the first fluid name, which stays in it; the iterations by the law on their least and most. Assumes
 -- nothing.
-use Prim.Native.Nat.{ℕ, zero, suc, _+_, _<_, _≤_}
+use Prim.Native.Nat.{ℕ, zero, suc, _+_, _<_}
 use mathlib.Core.Path.{_≡_, refl, sym, ap, _∙_}
 use mathlib.Core.Bool.{Bool, true, false, _&&_}
 use mathlib.Core.List.{List, [], _∷_, List·Memᴰ, List·Memᴰ·head, List·Memᴰ·tail}
@@ -11,14 +11,15 @@ use lib.ListN.{length, getD, take, drop}
 use lib.Seq.{getD-take, getD-drop}
 use borrow.Author.Tests.{ltb-true}
 use Rattle.scene_format.specs.Bytes.{Bytes, byteAt}
-use Rattle.scene_format.specs.Format.{minPressureIterOffset, maxPressureIterOffset, countsOf, locationOf}
+use Rattle.scene_format.specs.Format.{axes, contactWidth, countsOf, locationOf}
 use Rattle.scene_format.specs.Scene.{Scene, particle}
 use Rattle.scene_format.specs.SceneOf.{sceneOf}
 use Rattle.scene_format.specs.declared.Kind.{Kind}
 use Rattle.scene_format.specs.declared.Kind.the-variants.{Fluid, Boundary}
 use Rattle.scene_check.specs.Same.{SameBytes, SameRecord, SameShape}
+use Rattle.scene_lengths.specs.Lengths.{answersNeeded, workNeeded}
 use Rattle.iisph_rules.specs.Step.{reportOf}
-use Rattle.iisph_rules.specs.Answer.{stepAnswer}
+use Rattle.iisph_rules.specs.Answer.{stepAnswer, Accepted}
 use Rattle.iisph_rules.specs.Locality.{contactsWith, Names, Within, Compared, SameAt}
 use Rattle.iisph_rules.specs.Locality.Within.{itself, onward}
 use Rattle.iisph_rules.specs.declared.StepAnswer.the-variants.{Done}
@@ -99,13 +100,29 @@ stirred-bytes : Bytes stirred
 unfolding evaluated every
 stirred-bytes = bytes-shown stirred refl
 
-calm-done : stepAnswer calm 25 43 ≡ Done (reportOf (sceneOf calm))
+-- of a step with lists that are just long enough
+abbrev IsDone : List ℕ → Type 0
+IsDone b = stepAnswer b (answersNeeded (sceneOf b)) (workNeeded (sceneOf b)) ≡ Done (reportOf (sceneOf b))
+
+calm-done : IsDone calm
 unfolding evaluated
 calm-done = refl
 
-stirred-done : stepAnswer stirred 25 43 ≡ Done (reportOf (sceneOf stirred))
+stirred-done : IsDone stirred
 unfolding evaluated
 stirred-done = refl
+
+accepted : (b : List ℕ) → IsDone b → Accepted b
+accepted b q = done-accepted b _ _ _ q .0
+
+-- the least plus one is the most
+calm-iterations : accepted calm calm-done .report .iterations ≡ 2
+unfolding evaluated
+calm-iterations = most-iterations calm (accepted calm calm-done) (omega arith)
+
+stirred-iterations : accepted stirred stirred-done .report .iterations ≡ 2
+unfolding evaluated
+stirred-iterations = most-iterations stirred (accepted stirred stirred-done) (omega arith)
 
 shape : SameShape calm stirred
 unfolding evaluated slice
@@ -116,34 +133,26 @@ shape = record { header = slice-shown refl; counts = counts }
     counts Boundary = refl
 
 -- one is longer by a contact
+longer : length stirred ≡ length calm + contactWidth axes
+unfolding evaluated
+longer = refl
+
 different : calm ≡ stirred → ⊥
-unfolding evaluated
-different e = let q : _≡_ {A = ℕ} 539 573 = ap length e in absurd (omega arith)
-
-calm-most : byteAt calm maxPressureIterOffset ≤ byteAt calm minPressureIterOffset + 1
-unfolding evaluated
-calm-most = omega arith
-
-stirred-most : byteAt stirred maxPressureIterOffset ≤ byteAt stirred minPressureIterOffset + 1
-unfolding evaluated
-stirred-most = omega arith
+different e = omega (arith, ap length e, longer)
 
 compared : Compared 2 calm stirred
-unfolding evaluated
 compared =
-    let a = done-accepted calm 25 43 (reportOf (sceneOf calm)) calm-done .0 in
-    let a′ = done-accepted stirred 25 43 (reportOf (sceneOf stirred)) stirred-done .0 in
     record {
       matched =
           record {
             bytes = calm-bytes;
             bytes′ = stirred-bytes;
             shape = shape;
-            accepted = a;
-            accepted′ = a′;
+            accepted = accepted calm calm-done;
+            accepted′ = accepted stirred stirred-done;
           };
-      iterations = most-iterations calm a calm-most;
-      iterations′ = most-iterations stirred a′ stirred-most;
+      iterations = calm-iterations;
+      iterations′ = stirred-iterations;
     }
 
 -- ---- the condition

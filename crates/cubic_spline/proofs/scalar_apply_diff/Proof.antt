@@ -8,4 +8,5 @@ returns : tie.Need-returns
 returns c = rw (← c .before .slope-shape .ensures .value, ← c .before .before .normalizer .ensures) (c .answer .ensures)
 
 pub scalar-apply-diff-spec : {M : Type 1} → statement M
-scalar-apply-diff-spec = tie.close (tie.spec (λ c κs. search needs) (λ c κs. search needs) (λ c κs. search needs) returns)
+scalar-apply-diff-spec =
+    tie.close (tie.spec (λ c κs. search needs) (λ c κs. search needs) (λ c κs. search needs) returns)

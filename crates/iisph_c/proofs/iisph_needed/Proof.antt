@@ -6,7 +6,7 @@ use Rattle.iisph_c.proofs.iisph_needed.Statement.{statement}
 use Rattle.iisph_c.proofs.iisph_needed.Tie as tie
 
 returns : tie.Need-returns
-returns c = needs-short _ _ (c .if1 .taken)
+returns c = needs-short _ _ (omega (arith, c .if1 .taken))
 
 returns-2 : tie.Need-returns-2
 returns-2 c =

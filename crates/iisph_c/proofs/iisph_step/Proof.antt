@@ -7,10 +7,10 @@ use Rattle.iisph_c.proofs.iisph_step.Statement.{statement}
 use Rattle.iisph_c.proofs.iisph_step.Tie as tie
 
 returns : tie.Need-returns
-returns c = numbers-short _ _ _ _ _ (c .if1 .taken)
+returns c = numbers-short _ _ _ _ _ (omega (arith, c .if1 .taken))
 
 returns-2 : tie.Need-returns-2
-returns-2 c = counts-short _ _ _ _ _ (omega (arith, c .before .if1 .left)) (c .if2 .taken)
+returns-2 c = counts-short _ _ _ _ _ (omega (arith, c .before .if1 .left)) (omega (arith, c .if2 .taken))
 
 returns-3 : tie.Need-returns-3
 returns-3 c =

@@ -1,13 +1,13 @@
 -- `iisph_c::iisph_weight` meets its contract: what is written of the kernel's answer. Assumes nothing.
-use mathlib.Core.Path.{sym}
 use borrow.Author.Needs.{needs}
+use Rattle.iisph_c.proofs.Calls.{answered}
 use Rattle.iisph_c.proofs.iisph_weight.Statement.{statement}
 use Rattle.iisph_c.proofs.iisph_weight.Tie as tie
 
 returns : tie.Need-returns
 returns c =
     let k = c .before .before in
-    rw (sym (k .before .before .scalar-apply .ensures .answer)) (k .write-kernel .ensures)
+    answered (k .before .before .scalar-apply .ensures .answer) (k .write-kernel .ensures)
 
 pub iisph-weight-spec : {M : Type 1} → statement M
 iisph-weight-spec =

@@ -1,4 +1,5 @@
 -- `iisph_text::run` meets its contract: by its two tests. Assumes nothing.
+use native.Mathlib.Omega.{arith}
 use Rattle.iisph_text.specs.Text.{tooLong}
 use Rattle.iisph_text.proofs.Ran.{no-room, too-long}
 use borrow.Author.Needs.{needs}
@@ -13,7 +14,7 @@ unfolding tooLong
 returns-2 c =
     let w = c .before .before in
     let i = w .before .before .before in
-    too-long (i .before .if1 .left) (i .if2 .taken) (w .put-word .ensures)
+    too-long (i .before .if1 .left) (omega (arith, i .if2 .taken)) (w .put-word .ensures)
 
 pub run-spec : {M : Type 1} → statement M
 run-spec =

@@ -1,7 +1,7 @@
 -- `scene_layout::layout_of` meets its contract: the boundaries begin where the fluids end. Assumes nothing.
 use mathlib.Core.Path.{_≡_, refl, ap}
 use native.Mathlib.Omega.{arith}
-use Rattle.scene_format.specs.Format.{upperHalf, lowerHalf, firstHead}
+use Rattle.scene_format.specs.Format.{firstHead}
 use Rattle.scene_format.specs.declared.Kind.the-variants.{Fluid, Boundary}
 use Rattle.scene_layout.specs.Layout.{layoutModels, layoutOf}
 use Rattle.scene_layout.specs.declared.Layout.{Layout}
@@ -19,20 +19,20 @@ fluids-end : (c : tie.After-models-of)
 unfolding layoutModels firstHead
 fluids-end c = ap (λ (m : Models). m .end) (c .models-of .ensures)
 
-byte-requires : tie.Need-byte-requires
-byte-requires c κs = omega (arith, header-within _ (c .before .pre))
+model-number-requires : tie.Need-model-number-requires
+model-number-requires c κs = omega (arith, header-within _ (c .before .pre))
 
 models-of-requires : tie.Need-models-of-requires
 unfolding firstHead
-models-of-requires c κs = (fields-within _ (c .before .before .pre) Fluid, (ap lowerHalf (c .byte .ensures .0), refl))
+models-of-requires c κs = (fields-within _ (c .before .before .pre) Fluid, (c .model-number .ensures, refl))
 
-byte-requires-2 : tie.Need-byte-requires-2
-byte-requires-2 c κs = omega (arith, header-within _ (c .before .before .before .pre))
+model-number-requires-2 : tie.Need-model-number-requires-2
+model-number-requires-2 c κs = omega (arith, header-within _ (c .before .before .before .pre))
 
 models-of-requires-2 : tie.Need-models-of-requires-2
 models-of-requires-2 c κs = (
   fields-within _ (c .before .before .before .before .pre) Boundary,
-  (ap upperHalf (c .byte2 .ensures .0), fluids-end (c .before)),
+  (c .model-number2 .ensures, fluids-end (c .before)),
 )
 
 returns : tie.Need-returns
@@ -40,4 +40,6 @@ unfolding layoutOf
 returns c = both (c .before .before .models-of .ensures) (c .models-of2 .ensures)
 
 pub layout-of-spec : {M : Type 1} → statement M
-layout-of-spec = tie.close (tie.spec byte-requires models-of-requires byte-requires-2 models-of-requires-2 returns)
+layout-of-spec =
+    tie.close
+    (tie.spec model-number-requires models-of-requires model-number-requires-2 models-of-requires-2 returns)

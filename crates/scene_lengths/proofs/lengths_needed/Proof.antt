@@ -2,7 +2,6 @@
 use native.Mathlib.Omega.{arith}
 use denote.Ref.{now}
 use borrow.Author.Needs.{needs}
-use Rattle.scene_format.specs.Bytes.{Bytes}
 use Rattle.scene_check.specs.Check.{Passed}
 use Rattle.scene_check.proofs.Checks.{verdict-refused, verdict-accepted}
 use Rattle.scene_lengths.proofs.Needed.{few-in, refused-needs, accepted-needs}
@@ -30,4 +29,5 @@ returns-2 c = accepted-needs (passed (c .before)) (c .lengths-of .ensures _ (pas
 
 pub lengths-needed-spec : {M : Type 1} → statement M
 lengths-needed-spec =
-    tie.close (tie.spec (λ c κs. search needs) (λ c. search needs) (λ c. search needs) lengths-of-requires returns returns-2)
+    tie.close
+    (tie.spec (λ c κs. search needs) (λ c. search needs) (λ c. search needs) lengths-of-requires returns returns-2)

@@ -8,4 +8,12 @@ returns : tie.Need-returns
 returns c b passed = lengths-are passed (c .before .boundary-answers .ensures .1)
 
 pub lengths-of-spec : {M : Type 1} → statement M
-lengths-of-spec = tie.close (tie.spec (λ c κs. search needs) (λ c. search needs) (λ c. search needs) (λ c. search needs) (λ c. search needs) returns)
+lengths-of-spec =
+    tie.close
+    (tie.spec
+    (λ c κs. search needs)
+    (λ c. search needs)
+    (λ c. search needs)
+    (λ c. search needs)
+    (λ c. search needs)
+    returns)

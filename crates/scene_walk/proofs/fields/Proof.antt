@@ -23,8 +23,8 @@ returns : tie.Need-returns
 unfolding fields modelsOf _▹_
 returns c = let q = c .enum-told .given .1 in rw (sym (c .before .before .header .ensures) ∙ q) q
 
-byte-requires : tie.Need-byte-requires
-byte-requires c κs = omega (arith, header-there (c .before))
+model-number-requires : tie.Need-model-number-requires
+model-number-requires c κs = omega (arith, header-there (c .before))
 
 returns-2 : tie.Need-returns-2
 unfolding fields modelsOf _▹_
@@ -35,12 +35,12 @@ returns-2 c =
     rw (
       sym (p₁ .before .before .header .ensures)
           ∙ p₁ .first .given .1,
-      ← r .before .byte .ensures .0,
+      ← r .before .model-number .ensures,
       sym (r .models .ensures) ∙ q,
     ) q
 
-byte-requires-2 : tie.Need-byte-requires-2
-byte-requires-2 c κs = omega (arith, header-there (c .before .before .before .before .before .before))
+model-number-requires-2 : tie.Need-model-number-requires-2
+model-number-requires-2 c κs = omega (arith, header-there (c .before .before .before .before .before .before))
 
 returns-3 : tie.Need-returns-3
 unfolding fields modelsOf _▹_
@@ -51,9 +51,9 @@ returns-3 c =
     let q = c .enum-told3 .given .1 in
     rw (
       sym (p₁ .before .before .header .ensures) ∙ p₁ .first .given .1,
-      ← p₂ .before .before .before .byte .ensures .0,
+      ← p₂ .before .before .before .model-number .ensures,
       sym (p₂ .before .before .models .ensures) ∙ p₂ .fluids .given .1,
-      ← r .before .byte2 .ensures .0,
+      ← r .before .model-number2 .ensures,
       sym (r .models2 .ensures) ∙ q,
     )
     q
@@ -66,9 +66,9 @@ returns-4 c =
     let p₁ = p₂ .before .before .before .before .before in
     rw (
       sym (p₁ .before .before .header .ensures) ∙ p₁ .first .given .1,
-      ← p₂ .before .before .before .byte .ensures .0,
+      ← p₂ .before .before .before .model-number .ensures,
       sym (p₂ .before .before .models .ensures) ∙ p₂ .fluids .given .1,
-      ← p₃ .before .before .before .byte2 .ensures .0,
+      ← p₃ .before .before .before .model-number2 .ensures,
       sym (p₃ .before .before .models2 .ensures) ∙ p₃ .boundaries .given .1,
     )
     (c .ended .ensures)
@@ -81,12 +81,12 @@ fields-spec =
     (λ c. search needs)
     (λ c. search needs)
     returns
-    byte-requires
+    model-number-requires
     (λ c κs. search needs)
     (λ c. search needs)
     (λ c. search needs)
     returns-2
-    byte-requires-2
+    model-number-requires-2
     (λ c κs. search needs)
     (λ c. search needs)
     (λ c. search needs)

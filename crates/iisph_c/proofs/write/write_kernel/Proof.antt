@@ -7,7 +7,7 @@ use Rattle.iisph_c.proofs.write.write_kernel.Statement.{statement}
 use Rattle.iisph_c.proofs.write.write_kernel.Tie as tie
 
 returns : tie.Need-returns
-returns c = out-empty _ _ (c .if1 .taken)
+returns c = out-empty _ _ (omega (arith, c .if1 .taken))
 
 returns-2 : tie.Need-returns-2
 returns-2 c = value-given _ _ (omega (arith, c .before .before .before .if1 .left)) (c .before .answer .given .1) refl

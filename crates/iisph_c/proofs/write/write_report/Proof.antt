@@ -2,6 +2,7 @@
 use mathlib.Core.Path.{refl}
 use native.Mathlib.Omega.{arith}
 use lib.ListN.{length-set}
+use Rattle.iisph_rules.specs.Endings.{toldOf}
 use Rattle.iisph_c.specs.Step.{reportNumbers}
 use borrow.Author.Needs.{needs}
 use Rattle.iisph_c.proofs.write.write_report.Statement.{statement}
@@ -17,10 +18,10 @@ slice-write-numbers-4 : tie.Need-slice-write-numbers-4
 slice-write-numbers-4 c = simp length-set (omega arith)
 
 returns : tie.Need-returns
-unfolding reportNumbers
+unfolding reportNumbers toldOf
 returns c =
-    let k = c .before .before in
-    (c .ending-code .ensures, rw (k .error-of .ensures), refl)
+    let t = c .before .tell .ensures in
+    (rw t, rw t, refl)
 
 pub write-report-spec : {M : Type 1} → statement M
 write-report-spec =
@@ -33,7 +34,6 @@ write-report-spec =
     slice-write-numbers-4
     (λ c. search needs)
     (λ c. search needs)
-    (λ c κs. search needs)
     (λ c. search needs)
     (λ c. search needs)
     returns)

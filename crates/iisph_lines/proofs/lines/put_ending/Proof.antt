@@ -1,70 +1,54 @@
--- `iisph_lines::lines::put_ending` meets its contract: each branch writes its own ending. Assumes nothing.
+-- `iisph_lines::lines::put_ending` meets its contract: its parts one after the other, and the error by the ending's
+-- number. Assumes nothing.
 use native.Mathlib.Omega.{arith}
 use Rattle.lists.proofs.Writing.{_then_}
-use Rattle.iisph_lines.specs.Lines.{endingText}
-use Rattle.iisph_lines.proofs.Widths.{length-unswept}
+use Rattle.iisph_lines.proofs.Widths.{unswept-text, swept-text, ending-room, swept-room}
 use borrow.Author.Needs.{needs}
 use Rattle.iisph_lines.proofs.lines.put_ending.Statement.{statement}
 use Rattle.iisph_lines.proofs.lines.put_ending.Tie as tie
 
-put-word-requires : tie.Need-put-word-requires
-put-word-requires c κs =
-    let m = c .before .before in
-    omega (arith, length-unswept (m .before .before .before .args .iterations) (m .enum-told .given .1))
+put-ending-word-requires : tie.Need-put-ending-word-requires
+put-ending-word-requires c κs =
+    let t = c .before in
+    omega (arith, ending-room (t .before .before .args .ending) (t .tell .ensures) (t .before .before .args .iterations))
 
 put-decimal-requires : tie.Need-put-decimal-requires
 put-decimal-requires c κs =
-    let m = c .before .before .before .before .before .before in
-    omega (arith, length-unswept (m .before .before .before .args .iterations) (m .enum-told .given .1))
-
-put-swept-requires : tie.Need-put-swept-requires
-unfolding endingText
-put-swept-requires c κs =
-    let m = c .before .before .before in
-    rw (m .ending .given .1) at (m .before .before .before .pre)
-
-put-swept-requires-2 : tie.Need-put-swept-requires-2
-unfolding endingText
-put-swept-requires-2 c κs =
-    let m = c .before .before .before in
-    rw (m .ending2 .given .1) at (m .before .before .before .pre)
+    let t = c .before .before .before .before .before in
+    omega (arith, ending-room (t .before .before .args .ending) (t .tell .ensures) (t .before .before .args .iterations))
 
 returns : tie.Need-returns
-unfolding endingText
 returns c =
-    let w₂ = c .before .before in
+    let w₂ = c .before .before .before .before in
     let w₁ = w₂ .before .before .before .before in
-    rw (w₁ .before .before .before .enum-told .given .1) (w₁ .put-word .ensures then w₂ .put-decimal .ensures)
+    let t = w₁ .before .before in
+    rw (unswept-text _ (t .tell .ensures) _ (c .if1 .taken)) at
+    (w₁ .put-ending-word .ensures then w₂ .put-decimal .ensures)
+
+put-double-requires : tie.Need-put-double-requires
+put-double-requires c κs =
+    let t = c .before .before .before .before .before .before .before .before .before .before .before in
+    omega (arith, swept-room (t .before .before .args .ending) (t .tell .ensures) (t .before .before .args .iterations) (c .before .if1 .left))
 
 returns-2 : tie.Need-returns-2
-unfolding endingText
 returns-2 c =
-    let w = c .before .before in
-    rw (w .before .before .before .before .ending .given .1) (w .put-swept .ensures)
-
-returns-3 : tie.Need-returns-3
-unfolding endingText
-returns-3 c =
-    let w = c .before .before in
-    rw (w .before .before .before .before .ending2 .given .1) (w .put-swept2 .ensures)
+    let w₃ = c .before .before in
+    let b = w₃ .before .before in
+    let w₂ = b .before .before .before .before in
+    let w₁ = w₂ .before .before .before .before in
+    let t = w₁ .before .before in
+    rw (swept-text _ (t .tell .ensures) _ (b .if1 .left)) at
+    (w₁ .put-ending-word .ensures then w₂ .put-decimal .ensures then w₃ .put-double .ensures)
 
 pub put-ending-spec : {M : Type 1} → statement M
 put-ending-spec =
     tie.close
     (tie.spec
-    (λ c. search needs)
-    (λ c. search needs)
-    put-word-requires
+    (λ c κs. search needs)
+    put-ending-word-requires
     put-decimal-requires
     (λ c. search needs)
-    (λ c. search needs)
-    put-swept-requires
-    (λ c. search needs)
-    (λ c. search needs)
-    put-swept-requires-2
-    (λ c. search needs)
     returns
+    put-double-requires
     (λ c. search needs)
-    returns-2
-    (λ c. search needs)
-    returns-3)
+    returns-2)

@@ -15,6 +15,9 @@ Inv-loop n k₀ rest₀ k rest = (k + placesOf rest ≡ placesOf n + 1) × (k + 
 abbrev μ-loop : tie.MeasureT-loop
 μ-loop n k₀ rest₀ k rest = rest
 
+loop-holds : tie.Need-loop-holds Inv-loop μ-loop
+loop-holds c = (omega arith, omega arith)
+
 loop-again : tie.Need-loop-again Inv-loop μ-loop
 loop-again c = omega (arith, more-places (c .before .loop .rest) (c .loop-test .taken))
 
@@ -22,4 +25,4 @@ returns : tie.Need-returns Inv-loop μ-loop
 returns c = omega (arith, one-place (c .before .loop .rest) (c .loop-test .left))
 
 pub places-spec : {M : Type 1} → statement M
-places-spec = tie.close (tie.spec Inv-loop μ-loop (λ c. search needs) (λ c. search needs) (λ c. search needs) loop-again returns)
+places-spec = tie.close (tie.spec Inv-loop μ-loop loop-holds (λ c. search needs) (λ c. search needs) loop-again returns)

@@ -45,4 +45,5 @@ returns-2 c =
 
 pub all-names-spec : {M : Type 1} → statement M
 all-names-spec =
-    tie.close (tie.spec models-names-requires (λ c. search needs) (λ c. search needs) returns models-names-requires-2 returns-2)
+    tie.close
+    (tie.spec models-names-requires (λ c. search needs) (λ c. search needs) returns models-names-requires-2 returns-2)

@@ -32,4 +32,13 @@ returns-3 c =
     rw (field-there _ _ _ _ (h .1), ← c .before .particles .ensures .0, le-ltb _ _ (c .if1 .left), h .0)
 
 pub count-spec : {M : Type 1} → statement M
-count-spec = tie.close (tie.spec (λ c κs. search needs) (λ c. search needs) (λ c. search needs) returns particles-requires returns-2 returns-3)
+count-spec =
+    tie.close
+    (tie.spec
+    (λ c κs. search needs)
+    (λ c. search needs)
+    (λ c. search needs)
+    returns
+    particles-requires
+    returns-2
+    returns-3)

@@ -9,12 +9,12 @@ use borrow.Author.Needs.{needs}
 use borrow.Author.Tests.{leb-true, leb-false}
 use Rattle.math.specs.Real.{bits}
 use Rattle.math.proofs.Doubles.{number-pattern}
-use Rattle.scene_format.specs.Bytes.{doubleAt}
+use Rattle.scene_format.specs.Bytes.{doubleAt, exponentModulus, fractionModulus, nonFiniteExponent}
 use Rattle.scene_format.proofs.read.double.Statement.{statement}
 use Rattle.scene_format.proofs.read.double.Tie as tie
 
 -- a finite exponent is below infinity's
-finite-number : (n : ℕ) → (n / 0x10_0000_0000_0000 % 2048 ≡ 2047 → ⊥) → T (not (nanBits binary64 n))
+finite-number : (n : ℕ) → (n / fractionModulus % exponentModulus ≡ nonFiniteExponent → ⊥) → T (not (nanBits binary64 n))
 finite-number n h = number-pattern n (below (leb (n % 0x8000_0000_0000_0000) 0x7FF0_0000_0000_0000) refl)
   where
     below : (t : Bool) → leb (n % 0x8000_0000_0000_0000) 0x7FF0_0000_0000_0000 ≡ t

@@ -11,4 +11,5 @@ returns-2 c = rw (c .enum-told2 .given .1)
 
 pub first-record-spec : {M : Type 1} → statement M
 first-record-spec =
-    tie.close (tie.spec (λ c. search needs) (λ c. search needs) (λ c. search needs) (λ c. search needs) returns returns-2)
+    tie.close
+    (tie.spec (λ c. search needs) (λ c. search needs) (λ c. search needs) (λ c. search needs) returns returns-2)

@@ -13,4 +13,5 @@ returns-2 c = (rw (c .before .enum-told2 .given .1, ← c .be162 .ensures .0), o
 
 pub particles-spec : {M : Type 1} → statement M
 particles-spec =
-    tie.close (tie.spec (λ c. search needs) (λ c κs. search needs) (λ c. search needs) (λ c κs. search needs) returns returns-2)
+    tie.close
+    (tie.spec (λ c. search needs) (λ c κs. search needs) (λ c. search needs) (λ c κs. search needs) returns returns-2)

@@ -2,23 +2,23 @@
 use Prim.Native.Nat.{_-_, _/_}
 use mathlib.Core.Path.{refl}
 use native.Mathlib.Omega.{arith}
-use Rattle.scene_index.specs.Index.{baseOf, basesOf}
+use Rattle.scene_index.specs.Index.{modelBlocks, basesLength, baseOf, basesOf}
 use Rattle.lists.proofs.Fills.{Filling, none-stored, one-more-stored, all-stored}
 use borrow.Author.Needs.{needs}
 use Rattle.scene_index.proofs.index.fill_bases.Statement.{statement}
 use Rattle.scene_index.proofs.index.fill_bases.Tie as tie
 
 abbrev Inv-loop : tie.InvT-loop
-Inv-loop k index₀ starts x₀ index x = Filling index₀ k (baseOf starts) 256 x index
+Inv-loop k index₀ starts x₀ index x = Filling index₀ k (baseOf starts) basesLength x index
 
 abbrev μ-loop : tie.MeasureT-loop
-μ-loop k index₀ starts x₀ index x = 256 - x
+μ-loop k index₀ starts x₀ index x = basesLength - x
 
 loop-holds : tie.Need-loop-holds Inv-loop μ-loop
 loop-holds c = none-stored _ _ _ _
 
 add-index : tie.Need-add-index Inv-loop μ-loop
-add-index c = omega (arith, c .before .before .pre .1 (c .before .loop .x / 16))
+add-index c = omega (arith, c .before .before .pre .1 (c .before .loop .x / modelBlocks))
 
 loop-again : tie.Need-loop-again Inv-loop μ-loop
 unfolding baseOf
