@@ -3,3 +3,4 @@ pub mod Step
 pub mod Needs
 pub mod Validate
 pub mod Kernel
+pub mod Keep

@@ -1,9 +1,11 @@
 // The C interface (include/iisph.h). A slice is a pointer and a length.
 mod write;
 
+use crate::write::CLOCK;
 use crate::write::COUNTS;
 use crate::write::NUMBERS;
 use crate::write::TOO_SHORT;
+use crate::write::advance_listed;
 use crate::write::write_kernel;
 use crate::write::write_lengths;
 use crate::write::write_refusal;
@@ -13,7 +15,8 @@ use iisph_rules::StepAnswer;
 use scene_lengths::Needs;
 use scene_lengths::lengths_needed;
 ghost use Rattle.cubic_spline.specs.Shape.{weight, slope};
-ghost use Rattle.iisph_c.specs.Step.{StepsTo};
+ghost use Rattle.iisph_c.specs.Step.{hasRoom, StepsTo};
+ghost use Rattle.iisph_c.specs.Keep.{KeepsTo};
 ghost use Rattle.iisph_c.specs.Needs.{NeedsTo};
 ghost use Rattle.iisph_c.specs.Validate.{ValidatesTo};
 ghost use Rattle.iisph_c.specs.Kernel.{KernelTo};
@@ -29,8 +32,9 @@ pub extern "C" fn iisph_step(
     counts: &mut [u64],
 ) -> u64
     ensures { λ r. ⌜
-        StepsTo (now (scene .entry)) (now (answers .entry)) (now (work .entry)) (now (numbers .entry))
-        (now (counts .entry)) r (now (answers .exit)) (now (work .exit)) (now (numbers .exit)) (now (counts .exit))
+        StepsTo (hasRoom (now (numbers .entry)) (now (counts .entry))) (now (scene .entry)) (now (answers .entry))
+        (now (work .entry)) (now (numbers .entry)) (now (counts .entry)) r (now (answers .exit)) (now (work .exit))
+        (now (numbers .exit)) (now (counts .exit))
         ⌝ }
 {
     if numbers.len() < NUMBERS {
@@ -43,6 +47,32 @@ pub extern "C" fn iisph_step(
         StepAnswer::Done(report) => write_report(report, numbers, counts),
         StepAnswer::Refused(refusal) => write_refusal(refusal, counts),
     }
+}
+
+// The same for a caller that keeps a clock: where the step is done it is moved on in its place.
+#[no_mangle]
+pub extern "C" fn iisph_step_keeping(
+    scene: &[u8],
+    clock: &mut [f64],
+    answers: &mut [f64],
+    work: &mut [f64],
+    numbers: &mut [f64],
+    counts: &mut [u64],
+) -> u64
+    ensures { λ r. ⌜
+        KeepsTo (now (scene .entry)) (now (clock .entry)) (now (answers .entry)) (now (work .entry))
+        (now (numbers .entry)) (now (counts .entry)) r (now (clock .exit)) (now (answers .exit)) (now (work .exit))
+        (now (numbers .exit)) (now (counts .exit))
+        ⌝ }
+{
+    if clock.len() < CLOCK {
+        return TOO_SHORT;
+    }
+    let told = iisph_step(scene, answers, work, numbers, counts);
+    if told < TOO_SHORT {
+        advance_listed(clock);
+    }
+    told
 }
 
 // The lengths that the answer and the work list of a step must have, or refusals 1 to 7.

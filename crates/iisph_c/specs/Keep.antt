@@ -1,0 +1,49 @@
+-- What `iisph_step_keeping` returns, and every element of its five lists afterwards: as of `iisph_step`, and the clock that
+-- its caller keeps. Definitions only.
+use Prim.Native.Nat.{ℕ}
+use mathlib.Core.Path.{_≡_}
+use mathlib.Core.Bool.{Bool, _&&_}
+use mathlib.Core.List.{List, [], _∷_}
+use lib.Dec.{leb}
+use lib.Ieee.{Float, nan}
+use lib.ListN.{length, getD}
+use lib.Seq.{sets}
+use Rattle.lists.specs.Lists.{choose}
+use Rattle.timestep_manager.specs.declared.Clock.{Clock}
+use Rattle.iisph_rules.specs.Answer.{stepAnswer}
+use Rattle.iisph_rules.specs.declared.StepAnswer.{StepAnswer}
+use Rattle.iisph_kept.specs.Kept.{clockAfter}
+use Rattle.iisph_c.specs.Step.{hasRoom, StepsTo}
+
+-- how many elements `clock` must have
+abbrev pub clockNeeded : ℕ
+clockNeeded = 4
+
+-- they are the step length, dt, inv_dt and the remaining time
+unfoldable pub clockNumbers : Clock → List Float
+clockNumbers c = c .«total_step_size» ∷ c .dt ∷ c .«inv_dt» ∷ c .«remaining_time» ∷ []
+
+unfoldable pub clockOf : List Float → Clock
+clockOf l =
+    record {
+      «total_step_size» = getD l 0 nan;
+      dt = getD l 1 nan;
+      «inv_dt» = getD l 2 nan;
+      «remaining_time» = getD l 3 nan;
+    }
+
+-- the clock that the list begins with is as a step leaves a clock that is lent
+unfoldable pub clockListAfter : StepAnswer → List Float → List Float
+clockListAfter a old = sets old 0 (clockNumbers (clockAfter a (clockOf old)))
+
+-- whether all three lists are long enough
+unfoldable pub keepsRoom : List Float → List Float → List ℕ → Bool
+keepsRoom clock numbers counts = leb clockNeeded (length clock) && hasRoom numbers counts
+
+-- of the bytes b and the five lists: the result r, and the lists afterwards
+pub record KeepsTo (b : List ℕ) (clock answers work numbers : List Float) (counts : List ℕ) (r : ℕ)
+    (clock′ answers′ work′ numbers′ : List Float) (counts′ : List ℕ) : Type 0 where
+  pub steps : StepsTo (keepsRoom clock numbers counts) b answers work numbers counts r answers′ work′ numbers′ counts′
+  pub clockThen : clock′
+      ≡ choose (keepsRoom clock numbers counts) (clockListAfter (stepAnswer b (length answers) (length work)) clock)
+      clock
