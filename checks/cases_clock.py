@@ -7,6 +7,7 @@
 The program keeps a clock over steps on the scenes below, in this order, with lists for two fluid particles, and writes the clock after each.
 Whether a step is done is what cases_step.py works out from the specification; the clock is moved on here, in floats, by METHOD 2.
 """
+import argparse
 import pathlib
 import struct
 import sys
@@ -58,7 +59,9 @@ def files():
 
 
 def main():
-    if sys.argv[1:] == ["--write"]:
+    parser = argparse.ArgumentParser(description=__doc__, formatter_class=argparse.RawDescriptionHelpFormatter)
+    parser.add_argument("--write", action="store_true")
+    if parser.parse_args().write:
         for path, content in files().items():
             path.parent.mkdir(parents=True, exist_ok=True)
             path.write_bytes(content)
