@@ -235,13 +235,13 @@ def table(name, doubles):
 
 
 def source():
-    (distances, radii), (steps, remaining) = zip(*pairs()), zip(*clocks())
+    firsts, seconds = zip(*pairs(), *clocks())
     return "\n".join([
-        "// The cases as checks/cases_kernel.py lists them, each double by its bits.\n",
-        "// Of the kernel: distance and radius.\n" + table("DISTANCES", distances),
-        table("RADII", radii),
-        "// Of the clock: step length and remaining time.\n" + table("STEPS", steps),
-        table("REMAINING", remaining),
+        "// The cases as checks/cases_kernel.py lists them, each double by its bits: first those of the kernel.\n"
+        f"pub const OF_THE_KERNEL: usize = {len(pairs())};\n"
+        f"pub const IN_ALL: usize = {len(firsts)};\n",
+        "// A distance, or the clock's step length.\n" + table("FIRST", firsts),
+        "// The radius, or the remaining time.\n" + table("SECOND", seconds),
     ])
 
 

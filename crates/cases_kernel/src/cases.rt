@@ -1,7 +1,10 @@
-// The cases as checks/cases_kernel.py lists them, each double by its bits.
+// The cases as checks/cases_kernel.py lists them, each double by its bits: first those of the kernel.
+pub const OF_THE_KERNEL: usize = 73;
 
-// Of the kernel: distance and radius.
-pub const DISTANCES: [u64; 73] = [
+pub const IN_ALL: usize = 86;
+
+// A distance, or the clock's step length.
+pub const FIRST: [u64; 86] = [
     0x0000000000000000,
     0x8000000000000000,
     0x3fd0000000000000,
@@ -75,9 +78,23 @@ pub const DISTANCES: [u64; 73] = [
     0x3fe3648330f9722f,
     0x3fe04713ef779873,
     0x3fc80b513033d560,
+    0x3fe0000000000000,
+    0x0000000000000000,
+    0x8000000000000000,
+    0x8000000000000000,
+    0x3ff0000000000000,
+    0xbfd0000000000000,
+    0x3fb999999999999a,
+    0x4008000000000000,
+    0x0000000000000001,
+    0x0000000000000001,
+    0x0010000000000000,
+    0x7fee42d130773b76,
+    0x7fd0000000000001,
 ];
 
-pub const RADII: [u64; 73] = [
+// The radius, or the remaining time.
+pub const SECOND: [u64; 86] = [
     0x3ff0000000000000,
     0x3ff0000000000000,
     0x3ff0000000000000,
@@ -151,26 +168,6 @@ pub const RADII: [u64; 73] = [
     0x3fe469e56387515c,
     0x3fe177a285d10de7,
     0x3fc7273874127a58,
-];
-
-// Of the clock: step length and remaining time.
-pub const STEPS: [u64; 13] = [
-    0x3fe0000000000000,
-    0x0000000000000000,
-    0x8000000000000000,
-    0x8000000000000000,
-    0x3ff0000000000000,
-    0xbfd0000000000000,
-    0x3fb999999999999a,
-    0x4008000000000000,
-    0x0000000000000001,
-    0x0000000000000001,
-    0x0010000000000000,
-    0x7fee42d130773b76,
-    0x7fd0000000000001,
-];
-
-pub const REMAINING: [u64; 13] = [
     0x3ff0000000000000,
     0x3ff0000000000000,
     0x3ff0000000000000,

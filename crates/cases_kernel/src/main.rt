@@ -7,6 +7,7 @@ use cubic_spline::KernelRefusal;
 use libc::STDOUT_FILENO;
 use timestep_manager::Clock;
 ghost use mathlib.Core.Path.{_≡_};
+ghost use lib.Dec.{ltb};
 ghost use Rattle.math.specs.Real.{bits, bitsOf};
 ghost use Rattle.cubic_spline.specs.Answer.{number};
 ghost use Rattle.timestep_manager.specs.Clock.{advanced};
@@ -80,36 +81,46 @@ fn print_clock(step: f64, remaining: f64) -> Clock
     after
 }
 
-// Runs all cases of the kernel, and answers how many.
-fn kernel_cases() -> usize
-    ensures { λ n. ⌜ n ≡ 73 ⌝ }
+// Prints the lines of case number i: two of the kernel, or one of the clock. Answers whether it is the kernel's.
+fn print_case(i: usize, first: f64, second: f64) -> bool
+    ensures { λ r. ⌜ r ≡ ltb i 73 ⌝ }
 {
-    let mut i = 0;
-    while i < 73 {
-        let r = math::from_bits(cases::DISTANCES[i]);
-        let h = math::from_bits(cases::RADII[i]);
-        print_kernel(b"weight", r, h, cubic_spline::scalar_apply(r, h));
-        print_kernel(b"slope", r, h, cubic_spline::scalar_apply_diff(r, h));
-        i += 1;
+    if i < cases::OF_THE_KERNEL {
+        print_kernel(
+            b"weight",
+            first,
+            second,
+            cubic_spline::scalar_apply(first, second),
+        );
+        print_kernel(
+            b"slope",
+            first,
+            second,
+            cubic_spline::scalar_apply_diff(first, second),
+        );
+        true
+    } else {
+        print_clock(first, second);
+        false
     }
-    i
 }
 
-// Runs all cases of the clock, and answers how many.
-fn clock_cases() -> usize
-    ensures { λ n. ⌜ n ≡ 13 ⌝ }
+// Runs all cases, and answers how many.
+fn all_cases() -> usize
+    ensures { λ n. ⌜ n ≡ 86 ⌝ }
 {
     let mut i = 0;
-    while i < 13 {
-        let step = math::from_bits(cases::STEPS[i]);
-        let remaining = math::from_bits(cases::REMAINING[i]);
-        print_clock(step, remaining);
+    while i < cases::IN_ALL {
+        print_case(
+            i,
+            math::from_bits(cases::FIRST[i]),
+            math::from_bits(cases::SECOND[i]),
+        );
         i += 1;
     }
     i
 }
 
 fn main() {
-    kernel_cases();
-    clock_cases();
+    all_cases();
 }

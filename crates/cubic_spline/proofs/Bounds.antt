@@ -1,12 +1,12 @@
 -- The error bounds, for all finite q from 0 on: 2 ^ -50 for the weight's shape, 2 ^ -49 for the slope's (METHOD 1.5). A
--- shape has the same three pieces on doubles as on fractions, and Chains bounds each; -0 is computed. Assumes nothing.
+-- shape has the same three pieces on doubles as on fractions, and Chains bounds each; Rows has -0. Assumes nothing.
 use mathlib.Core.Path.{_≡_, refl}
 use Prim.Native.Nat.{ℕ, _-_, _*_, _/_, _^_, _≤_, _<_, zero-le}
 use native.Mathlib.Nat.{zero-mul, mul-one}
 use native.Mathlib.Omega.{arith}
 use mathlib.Core.Bool.{Bool, true, false, not, _||_, cond}
 use lib.Dec.{T, leb, lit≤, lit<}
-use lib.Ieee.{Float, binary64, fits, ofBits, add, sub, mul, le, lt}
+use lib.Ieee.{Float, binary64, fits, ofBits, le, lt}
 use lib.Ieee.Scale.{finite}
 use borrow.Author.Tests.{leb-true, leb-false}
 use Rattle.math.specs.Real.{_⊖_, +0, half, one}
@@ -14,18 +14,13 @@ use Rattle.rounding.specs.Exact.{unit, count}
 use Rattle.math.proofs.Doubles.{holds}
 use Rattle.rounding.proofs.Near.{near-weak}
 use Rattle.rounding.proofs.Fractions.{Fraction, fraction, value-of, le-is, lt-is, half-fraction, one-fraction}
-use Rattle.rounding.proofs.Counts.{
-  fraction-finite,
-  fraction-count,
-  at-least-zero,
-  at-most-zero,
-  -0,
-  minus-zero-or-fraction,
-}
+use Rattle.rounding.proofs.Counts.{fraction-finite, fraction-count, at-least-zero, at-most-zero}
+use Rattle.rounding.proofs.Counts.{minus-zero-or-fraction}
 use Rattle.rounding.proofs.Steps.{Scale, Within}
 use Rattle.cubic_spline.specs.Shape.{epsilon, nearWeight, farWeight, weightShape, nearSlope, farSlope, slopeShape}
 use Rattle.cubic_spline.specs.Exact.{pieces, exactWeight, monaghanFall, exactFall}
 use Rattle.cubic_spline.specs.Bound.{ShapeWithin, WeightWithin, SlopeWithin, WeightPromise, SlopePromise}
+use Rattle.cubic_spline.proofs.Rows.{WeightNear, SlopeNear, weight-minus-zero, slope-minus-zero}
 use Rattle.cubic_spline.proofs.Chains.{near-weight, far-weight, near-slope, far-slope}
 
 -- ---- the three pieces
@@ -134,15 +129,8 @@ weight-at {q} {n} Q =
     (λ h l. found _ (lit≤ tt) (far-weight scale Q l (past-half unit n h)))
     (zero-found false _ _))
 
-weight-minus-zero : WeightWithin (exactWeight unit (count -0)) (weightShape -0)
-unfolding weightShape exactWeight pieces ofBits add sub mul le
-weight-minus-zero = record { isFinite = tt; sign = tt; near = (lit≤ tt, lit≤ tt) }
-
-weight-bound : (q : Float) → T (fits binary64 q) → T (finite q) → T (le +0 q)
-    → WeightWithin (exactWeight unit (count q)) (weightShape q)
-weight-bound =
-    minus-zero-or-fraction (λ q. WeightWithin (exactWeight unit (count q)) (weightShape q)) weight-minus-zero
-    (λ q Q. weight-at Q)
+weight-bound : (q : Float) → T (fits binary64 q) → T (finite q) → T (le +0 q) → WeightNear q
+weight-bound = minus-zero-or-fraction WeightNear weight-minus-zero (λ q Q. weight-at Q)
 
 -- ---- the slope
 
@@ -166,15 +154,8 @@ slope-at {q} {n} Q = rw (← epsilon-test Q) (go (le q epsilon) refl)
     go true e = rw (slope-up-to-epsilon q e) (zero-found true _ _)
     go false e = slope-above Q e
 
-slope-minus-zero : SlopeWithin (exactFall unit (count -0)) (slopeShape -0)
-unfolding slopeShape exactFall ofBits le lt
-slope-minus-zero = record { isFinite = tt; sign = tt; near = (lit≤ tt, lit≤ tt) }
-
-slope-bound : (q : Float) → T (fits binary64 q) → T (finite q) → T (le +0 q)
-    → SlopeWithin (exactFall unit (count q)) (slopeShape q)
-slope-bound =
-    minus-zero-or-fraction (λ q. SlopeWithin (exactFall unit (count q)) (slopeShape q)) slope-minus-zero
-    (λ q Q. slope-at Q)
+slope-bound : (q : Float) → T (fits binary64 q) → T (finite q) → T (le +0 q) → SlopeNear q
+slope-bound = minus-zero-or-fraction SlopeNear slope-minus-zero (λ q Q. slope-at Q)
 
 -- ---- what the two functions promise
 

@@ -10,30 +10,11 @@ use lib.Ieee.{Float, binary64, ofBits}
 use Rattle.math.specs.Real.{_⊖_, _⊗_, one}
 use Rattle.rounding.specs.Exact.{Near}
 use Rattle.rounding.proofs.Fractions.{Fraction, fraction, rescaled, negated, one-fraction}
-use Rattle.rounding.proofs.Steps.{
-  Scale,
-  Step,
-  Within,
-  near-whole,
-  unit-pos,
-  mul-units,
-  mul-number,
-  add-units,
-  sub-units,
-  sub-units-under,
-}
+use Rattle.rounding.proofs.Steps.{Scale, Step, Within, near-whole, unit-pos, mul-units, mul-number, add-units}
+use Rattle.rounding.proofs.Steps.{sub-units, sub-units-under}
 use Rattle.cubic_spline.specs.Shape.{two, three, six, nearWeight, farWeight, nearSlope, farSlope}
-use Rattle.cubic_spline.proofs.Errors.{
-  half-times,
-  half-top,
-  drop-error,
-  drop-top,
-  near-weight-error,
-  square-error,
-  far-weight-error,
-  far-slope-error,
-  near-slope-error,
-}
+use Rattle.cubic_spline.proofs.Errors.{half-times, half-top, drop-error, drop-top, near-weight-error}
+use Rattle.cubic_spline.proofs.Errors.{square-error, far-weight-error, far-slope-error, near-slope-error}
 
 two-fraction : Fraction false two 2 1
 unfolding ofBits

@@ -2,20 +2,8 @@
 -- What later operations make of an error is bounded first; one sum of inequalities closes each law. Assumes nothing.
 use mathlib.Core.Path.{_≡_, ap, _∙_}
 use Prim.Native.Nat.{ℕ, _+_, _-_, _*_, _^_, _≤_, _<_}
-use native.Mathlib.Nat.{
-  mul-comm,
-  mul-assoc,
-  mul-left-comm,
-  mul-right-comm,
-  mul-add,
-  mul-sub,
-  add-mul,
-  mul-le-mul,
-  mul-le-mul-left,
-  mul-le-mul-right,
-  le-of-mul-le-mul-right,
-  mul-pos,
-}
+use native.Mathlib.Nat.{mul-comm, mul-assoc, mul-left-comm, mul-right-comm, mul-add, mul-sub, add-mul, mul-le-mul}
+use native.Mathlib.Nat.{mul-le-mul-left, mul-le-mul-right, le-of-mul-le-mul-right, mul-pos}
 use native.Mathlib.Omega.{arith}
 use Rattle.rounding.specs.Exact.{Near}
 use Rattle.rounding.proofs.Near.{near-times, sub-times}

@@ -1,5 +1,5 @@
+pub mod Rows
 pub mod Errors
 pub mod Chains
 pub mod Bounds
 pub mod Answers
-pub mod Rows

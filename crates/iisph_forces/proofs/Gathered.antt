@@ -14,11 +14,10 @@ use borrow.Author.Tests.{eqb-true, eq-eqb, ne-eqb}
 use Rattle.iisph_rows.specs.Rows.{vectorFrom}
 use Rattle.iisph_rules.specs.Coefficients.{boundaryVolume, coefficients}
 use Rattle.iisph_rules.specs.Step.{boundaryAcceleration, forceFrom, boundaryForce, boundaryAnswer}
-use Rattle.iisph_rules.proofs.EndToEnd.{length-rows}
 use Rattle.iisph_rules.proofs.Iterations.{chosen}
 use Rattle.lists.specs.Lists.{fold, table, choose, sum}
 use Rattle.lists.proofs.Lists.{length-table, table-at, table-same, in-table}
-use Rattle.lists.proofs.Rows.{sets-cons, sets-whole, sets-inside, row-read, row-store}
+use Rattle.lists.proofs.Rows.{sets-cons, sets-whole, sets-inside, length-rows, row-read, row-store}
 use Rattle.lists.proofs.Stores.{sets-in}
 use Rattle.math.specs.Vector.{Vector, _⊞_}
 use Rattle.math.proofs.Vectors.{sum-sized, scaled-sized}

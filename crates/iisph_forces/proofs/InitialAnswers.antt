@@ -14,12 +14,11 @@ use lib.ListN.{length, getD, set}
 use lib.Seq.{sets, length-sets}
 use borrow.Author.Tests.{eqb-true, eq-eqb, ne-eqb}
 use Rattle.iisph_rules.specs.Coefficients.{boundaryVolume}
-use Rattle.iisph_rules.proofs.EndToEnd.{length-rows}
 use Rattle.iisph_rules.proofs.Iterations.{chosen}
 use Rattle.lists.specs.Lists.{table, choose}
 use Rattle.lists.proofs.Fills.{sets-append, Filling, none-stored, one-more-stored, all-stored}
 use Rattle.lists.proofs.Lists.{length-table}
-use Rattle.lists.proofs.Rows.{rows-next, rows-none, rows-add}
+use Rattle.lists.proofs.Rows.{rows-next, rows-none, rows-add, length-rows}
 use Rattle.lists.proofs.Stores.{sets-in}
 use Rattle.math.specs.Vector.{Vector}
 use Rattle.scene_check.specs.Check.{Passed}

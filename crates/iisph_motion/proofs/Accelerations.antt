@@ -53,7 +53,6 @@ stateOf work i density0 =
       density0 = density0;
       pressure = p;
       square = rho ⊗ rho;
-      share = p ⊘ (rho ⊗ rho);
       mass = elementAt work (rowAt i + massSlot axes);
     }
 
@@ -65,7 +64,6 @@ state-made pass {work} q {i = i} here h e =
       density0 = e ∙ density0-at here;
       pressure = pressure-in work i h;
       square = ap (λ r. r ⊗ r) (density-in q (pass .size) i h);
-      share = share-made q (pass .size) i h;
       mass = mass-in q (pass .size) i h;
     }
 

@@ -43,65 +43,67 @@ module _ (b : List ℕ) {κ : Kind} {at : ℕ} (ready : ContactReady κ b at) wh
 
   pub fluid-change : {index : List ℕ} {n : ℕ} → PassOver b index n → {work : List Float}
       → ChangesReady (sceneOf b) n work
-      → (state : PressureState) (t : Float) → κ ≡ Fluid
+      → (state : PressureState) (own t : Float) → κ ≡ Fluid
       → {j : ℕ} → j ≡ targetAt (startsOf κ b) b at → {g x : Vector} → g ≡ vectorAt axes b (at + gradientOffset)
       → let m = elementAt work (rowAt j + massSlot axes) in
-      x ≡ g ⊡ (t ⊗ m ⊗ (state .share ⊕ elementAt work (rowAt j + quotientSlot axes)))
-      → x ≡ changeBy κ (sceneOf b) (pressuresIn n work) t state (contactAt (startsOf κ b) b at)
+      x ≡ g ⊡ (t ⊗ m ⊗ (own ⊕ elementAt work (rowAt j + quotientSlot axes)))
+      → x ≡ changeBy κ (sceneOf b) (pressuresIn n work) t state own (contactAt (startsOf κ b) b at)
   unfolding changeBy fluidMass contactAt
-  fluid-change {n = n} pass {work} q state t e {j} named ge xe =
+  fluid-change {n = n} pass {work} q state own t e {j} named ge xe =
       let h : j < n = omega (arith, pass .size, fluid-named ready named e) in
       xe
-      ∙ change-same t (state .share) ge (mass-in (q .iteration) (pass .size) j h)
+      ∙ change-same t own ge (mass-in (q .iteration) (pass .size) j h)
       (row-value (pressureShare (coefficients (sceneOf b)) (pressuresIn n work)) (q .share) j h)
       ∙ rw (named, e)
 
-pub boundary-change : (b : List ℕ) {κ : Kind} (at : ℕ) (ps : List Float) (state : PressureState) (t : Float)
-    → κ ≡ Boundary
+pub boundary-change : (b : List ℕ) {κ : Kind} (at : ℕ) (ps : List Float) (state : PressureState)
+    (own t : Float) → κ ≡ Boundary
     → {a x : Vector} → a ≡ accelerationOf (sceneOf b) state (contactAt (startsOf Boundary b) b at) → x ≡ a ⊡ t
-    → x ≡ changeBy κ (sceneOf b) ps t state (contactAt (startsOf κ b) b at)
+    → x ≡ changeBy κ (sceneOf b) ps t state own (contactAt (startsOf κ b) b at)
 unfolding changeBy
-boundary-change b at ps state t e ae xe = xe ∙ ap (λ (a : Vector). a ⊡ t) ae ∙ rw e
+boundary-change b at ps state own t e ae xe = xe ∙ ap (λ (a : Vector). a ⊡ t) ae ∙ rw e
 
 -- ---- of the particle's state a contact's change is the rule's
 
 module _ {s : Scene} {ps : List Float} {i : ℕ} {state : PressureState} (h : PressureStateIs s ps i state)
-    {t : Float} (te : t ≡ dt s) (c : Contact) where
-  fluid-rule : changeBy Fluid s ps t state c
+    {own t : Float} (oe : own ≡ pressureShare (coefficients s) ps i) (te : t ≡ dt s) (c : Contact) where
+  fluid-rule : changeBy Fluid s ps t state own c
       ≡ c .gradient
       ⊡ (dt s ⊗ fluidMass s c ⊗ (pressureShare (coefficients s) ps i ⊕ pressureShare (coefficients s) ps (c .target)))
   unfolding changeBy
-  fluid-rule = rw (te, h .share)
+  fluid-rule = rw (te, oe)
 
-  boundary-rule : changeBy Boundary s ps t state c ≡ boundaryAcceleration s (coefficients s) ps i c ⊡ dt s
+  boundary-rule : changeBy Boundary s ps t state own c ≡ boundaryAcceleration s (coefficients s) ps i c ⊡ dt s
   unfolding changeBy
   boundary-rule = rw (te, acceleration-is h c)
 
 -- ---- both kinds of contacts
 
 over-changes : {b : List ℕ} {κ : Kind} {p : FluidParticle} {list : ContactList} → ContactsAre b κ p list
-    → (s : Scene) (ps : List Float) (t : Float) (state : PressureState) (a : Vector)
-    → overList b list (withChange (list .kind) s ps t state) a ≡ fold (withChange κ s ps t state) a (contactsOf κ p)
-over-changes {b} {κ} {p} {list} h s ps t state a =
-    over-list h (withChange (list .kind) s ps t state) a
-    ∙ ap (λ k. fold (withChange k s ps t state) a (contactsOf κ p)) (h .kind)
+    → (s : Scene) (ps : List Float) (t : Float) (state : PressureState) (own : Float) (a : Vector)
+    → overList b list (withChange (list .kind) s ps t state own) a
+    ≡ fold (withChange κ s ps t state own) a (contactsOf κ p)
+over-changes {b} {κ} {p} {list} h s ps t state own a =
+    over-list h (withChange (list .kind) s ps t state own) a
+    ∙ ap (λ k. fold (withChange k s ps t state own) a (contactsOf κ p)) (h .kind)
 
 -- from the results of the code's calls, in their order
 pub change-made : {b : List ℕ} (i : ℕ) {fluid boundary : ContactList}
     → ContactsAre b Fluid (particle (sceneOf b) i) fluid → ContactsAre b Boundary (particle (sceneOf b) i) boundary
     → (ps : List Float) (t : Float) → t ≡ dt (sceneOf b) → (state : PressureState)
     → PressureStateIs (sceneOf b) ps i state
+    → (own : Float) → own ≡ pressureShare (coefficients (sceneOf b)) ps i
     → {v x y : Vector} → v ≡ velocityChange (sceneOf b) (particle (sceneOf b) i)
-    → x ≡ overList b fluid (withChange (fluid .kind) (sceneOf b) ps t state) v
-    → y ≡ overList b boundary (withChange (boundary .kind) (sceneOf b) ps t state) x
+    → x ≡ overList b fluid (withChange (fluid .kind) (sceneOf b) ps t state own) v
+    → y ≡ overList b boundary (withChange (boundary .kind) (sceneOf b) ps t state own) x
     → y ≡ finalVelocityChange (sceneOf b) (coefficients (sceneOf b)) ps i
 unfolding finalVelocityChange overContacts contactsOf
-change-made {b} i fs bs ps t te state h ve xe ye =
+change-made {b} i fs bs ps t te state h own oe ve xe ye =
     let s = sceneOf b in
     let p = particle s i in
     ye
-    ∙ over-changes bs s ps t state _
-    ∙ fold-same (p .boundaryContacts) (λ c m u. ap (λ (l : Vector). u ⊟ l) (boundary-rule h te c))
+    ∙ over-changes bs s ps t state own _
+    ∙ fold-same (p .boundaryContacts) (λ c m u. ap (λ (l : Vector). u ⊟ l) (boundary-rule h oe te c))
     (xe
-    ∙ over-changes fs s ps t state _
-    ∙ fold-same (p .fluidContacts) (λ c m u. ap (λ (l : Vector). u ⊟ l) (fluid-rule h te c)) ve)
+    ∙ over-changes fs s ps t state own _
+    ∙ fold-same (p .fluidContacts) (λ c m u. ap (λ (l : Vector). u ⊟ l) (fluid-rule h oe te c)) ve)

@@ -30,7 +30,6 @@ pub record PressureStateIs (s : Scene) (ps : List Float) (i : ℕ) (state : Pres
   pub density0 : state .density0 ≡ particle s i .density0
   pub pressure : state .pressure ≡ pressure ps i
   pub square : state .square ≡ coefficient (coefficients s) i .density ⊗ coefficient (coefficients s) i .density
-  pub share : state .share ≡ pressureShare (coefficients s) ps i
   pub mass : state .mass ≡ particleMass (particle s i)
 
 -- ---- boundary contacts
@@ -39,15 +38,15 @@ pub record PressureStateIs (s : Scene) (ps : List Float) (i : ℕ) (state : Pres
 unfoldable pub accelerationOf : Scene → PressureState → Contact → Vector
 accelerationOf s state c = c .gradient ⊡ (boundaryMass s (state .density0) c ⊗ state .pressure ⊘ state .square)
 
--- ---- what a contact takes off the velocity change of its owner; t is the step length
+-- ---- what a contact takes off the velocity change of its owner, whose share is x; t is the step length
 
-unfoldable pub changeBy : Kind → Scene → List Float → Float → PressureState → Contact → Vector
-changeBy Fluid s ps t state c =
-    c .gradient ⊡ (t ⊗ fluidMass s c ⊗ (state .share ⊕ pressureShare (coefficients s) ps (c .target)))
-changeBy Boundary s ps t state c = accelerationOf s state c ⊡ t
+unfoldable pub changeBy : Kind → Scene → List Float → Float → PressureState → Float → Contact → Vector
+changeBy Fluid s ps t state x c =
+    c .gradient ⊡ (t ⊗ fluidMass s c ⊗ (x ⊕ pressureShare (coefficients s) ps (c .target)))
+changeBy Boundary s ps t state x c = accelerationOf s state c ⊡ t
 
-abbrev pub withChange : Kind → Scene → List Float → Float → PressureState → Vector → Contact → Vector
-withChange κ s ps t state change c = change ⊟ changeBy κ s ps t state c
+abbrev pub withChange : Kind → Scene → List Float → Float → PressureState → Float → Vector → Contact → Vector
+withChange κ s ps t state x change c = change ⊟ changeBy κ s ps t state x c
 
 -- ---- what the pass finds: the iterations' rows with the last pressures, and the share of each
 

@@ -20,12 +20,11 @@ ghost use Rattle.scene_format.specs.SceneOf.{contactAt, sceneOf};
 ghost use Rattle.scene_index.specs.Contacts.{ContactReady};
 ghost use Rattle.iisph_motion.specs.Changes.{PressureStateIs, accelerationOf};
 
-// Of one fluid particle: the rest density of its fluid, p, rho × rho, p / (rho × rho) and m.
+// Of one fluid particle: the rest density of its fluid, p, rho × rho and m.
 pub struct PressureState {
     pub density0: f64,
     pub pressure: f64,
     pub square: f64,
-    pub share: f64,
     pub mass: f64,
 }
 
@@ -52,7 +51,6 @@ pub fn pressure_state_of(
         density0,
         pressure,
         square,
-        share: pressure / square,
         mass,
     }
 }

@@ -35,7 +35,7 @@ pub struct Motion {
 
 // The motion of fluid particle i after the step: the change is added to the velocity, and the new velocity × dt to the
 // position.
-pub fn motion_of(
+fn motion_of(
     scene: &[u8],
     index: &[usize],
     work: &[f64],

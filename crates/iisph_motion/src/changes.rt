@@ -28,7 +28,7 @@ ghost use Rattle.scene_format.specs.SceneOf.{contactAt, sceneOf};
 ghost use Rattle.scene_index.specs.Contacts.{ContactReady, ContactsReady, overList};
 ghost use Rattle.iisph_motion.specs.Changes.{changeBy, withChange, ChangesReady};
 
-// What the contact at an offset takes off the velocity change of its owner, which has that state.
+// What the contact at an offset takes off the velocity change of its owner, which has that state and p / (rho × rho).
 fn pressure_change(
     scene: &[u8],
     index: &[usize],
@@ -37,6 +37,7 @@ fn pressure_change(
     kind: Kind,
     at: usize,
     state: PressureState,
+    own: f64,
     dt: f64,
 ) -> Vec3
     requires { ⌜ PassOver (now scene) (now index) n × ChangesReady (sceneOf (now scene)) n (now work) ⌝ }
@@ -44,7 +45,7 @@ fn pressure_change(
     ensures { λ r. ⌜
         (let b = now (scene .entry) in
         let ps = pressuresIn n (now (work .entry)) in
-        coordinates r ≡ changeBy kind (sceneOf b) ps dt state (contactAt (startsOf kind b) b at))
+        coordinates r ≡ changeBy kind (sceneOf b) ps dt state own (contactAt (startsOf kind b) b at))
         ⌝ }
 {
     match kind {
@@ -53,7 +54,7 @@ fn pressure_change(
             let row = ROW * j;
             let m = work[row + MASS];
             let share = work[row + SHARE];
-            read::vector(scene, at + CONTACT_GRADIENT).scale(dt * m * (state.share + share))
+            read::vector(scene, at + CONTACT_GRADIENT).scale(dt * m * (own + share))
         }
         Kind::Boundary => boundary_acceleration(scene, index, work, n, at, state).scale(dt),
     }
@@ -67,6 +68,7 @@ fn pressure_changes(
     n: usize,
     list: ContactList,
     state: PressureState,
+    own: f64,
     dt: f64,
     from: Vec3,
 ) -> Vec3
@@ -75,7 +77,8 @@ fn pressure_changes(
     ensures { λ r. ⌜
         (let b = now (scene .entry) in
         let ps = pressuresIn n (now (work .entry)) in
-        coordinates r ≡ overList b list (withChange (list .kind) (sceneOf b) ps dt state) (coordinates from))
+        coordinates r
+        ≡ overList b list (withChange (list .kind) (sceneOf b) ps dt state own) (coordinates from))
         ⌝ }
 {
     let kind = list.kind;
@@ -85,7 +88,7 @@ fn pressure_changes(
     let mut k = 0usize;
     while k < count {
         let c = at + CONTACT_WIDTH * k;
-        change = change.sub(pressure_change(scene, index, work, n, kind, c, state, dt));
+        change = change.sub(pressure_change(scene, index, work, n, kind, c, state, own, dt));
         k += 1;
     }
     change
@@ -112,7 +115,8 @@ pub(crate) fn final_change_of(
     let boundary = contacts_of(scene, index, Kind::Boundary, i);
     let dt = clock.dt;
     let state = pressure_state_of(scene, index, work, n, i);
+    let share = work[ROW * i + SHARE];
     let first = velocity_change_of(scene, index, n, clock, gravity, i);
-    let part = pressure_changes(scene, index, work, n, fluid, state, dt, first);
-    pressure_changes(scene, index, work, n, boundary, state, dt, part)
+    let part = pressure_changes(scene, index, work, n, fluid, state, share, dt, first);
+    pressure_changes(scene, index, work, n, boundary, state, share, dt, part)
 }

@@ -4,4 +4,4 @@
 // an accepted scene with its index, and rows that hold what earlier passes stored.
 pub mod acceleration;
 pub mod answers;
-pub mod changes;
+mod changes;

@@ -22,12 +22,8 @@ use Rattle.iisph_rows.specs.Passes.{PassOver, firstPressure}
 
 -- ---- the clock and the number of axes
 
-clock-dt : (s : Scene) → clockOf s .dt ≡ dt s
-unfolding clockOf advanced
-clock-dt s = refl
-
 pub dt-is : (s : Scene) {clock : Clock} → clock ≡ clockOf s → clock .dt ≡ dt s
-dt-is s e = ap (λ (c : Clock). c .dt) e ∙ clock-dt s
+dt-is s e = ap (λ (c : Clock). c .dt) e
 
 pub zero-is : (b : List ℕ) → origin axes ≡ zeroVector (sceneOf b)
 unfolding sceneOf headerOf

@@ -1,7 +1,7 @@
 -- How long the answers are: in a scene that bytes stand for every vector has a double for each axis, so a fluid
 -- particle has 7 answers, a boundary particle 1 or 4, and all of them are as many as are needed, so that nothing beyond
 -- is touched. Every operation on vectors, and so every sum, keeps the length. Assumes nothing.
-use Prim.Native.Nat.{ℕ, zero, suc, _+_, _*_, _<_}
+use Prim.Native.Nat.{ℕ, zero, suc, _*_, _<_}
 use mathlib.Core.Path.{_≡_, refl, sym, ap, subst, _∙_}
 use mathlib.Core.Bool.{Bool, true, false, true≢false}
 use mathlib.Core.List.{List, [], _++_, map, List·Memᴰ, flatten}
@@ -17,20 +17,21 @@ use Rattle.lists.proofs.Lists.{length-table, in-table, table-map, fold-keeps}
 use Rattle.math.proofs.Vectors.{Sized, sum-sized, difference-sized, scaled-sized}
 use Rattle.scene_format.specs.Bytes.{vectorAt}
 use Rattle.scene_format.specs.Format.{axes}
-use Rattle.scene_format.specs.declared.Kind.the-variants.{Fluid, Boundary}
+use Rattle.scene_format.specs.declared.Kind.the-variants.{Boundary}
 use Rattle.scene_format.specs.Scene.{Scene, FluidParticle, noBoundaryParticle, Contact, fluidSize, boundarySize}
 use Rattle.scene_format.specs.Scene.{particle, boundary}
 use Rattle.scene_format.specs.SceneOf.{contactAt, contactList, fluidParticleAt, forceAt, boundaryParticleAt, headerOf}
 use Rattle.scene_format.specs.SceneOf.{sceneOf}
 use Rattle.scene_lengths.specs.Lengths.{fluidAnswerWidth, answerWidth, boundaryAnswerWidth, answersNeeded, workNeeded}
-use Rattle.scene_layout.proofs.Locations.{fluid-size, boundary-size, particle-at, boundary-at}
+use Rattle.scene_layout.proofs.Locations.{particle-at, boundary-at}
 use Rattle.iisph_rules.specs.Coefficients.{overContacts, velocityChange, advectedVelocity, overNeighbours, dii}
 use Rattle.iisph_rules.specs.Coefficients.{Coefficients}
 use Rattle.iisph_rules.specs.Iteration.{dijSum, dijPjl}
 use Rattle.iisph_rules.specs.Step.{boundaryAcceleration, finalVelocityChange, newVelocity, newPosition}
 use Rattle.iisph_rules.specs.Step.{fluidAnswer, forceFrom, boundaryForce, boundaryAnswer, answersFrom, answersOf}
 use Rattle.iisph_rules.specs.Answer.{answersAfter, workAfter}
-use Rattle.iisph_rules.proofs.EndToEnd.{length-rows, sum-same}
+use Rattle.lists.proofs.Numbering.{sum-same}
+use Rattle.lists.proofs.Rows.{length-rows}
 use Rattle.iisph_rules.proofs.Iterations.{chosen}
 
 -- ---- what a step needs of a fluid particle

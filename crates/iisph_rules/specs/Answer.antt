@@ -1,6 +1,7 @@
 -- What a step answers and what both lists then are, for all bytes and all lengths (FORMAT 2 and 3): the definitions
 -- that its contract cites. `answers` and `work` are the lengths of the two lists. Definitions only.
-use Prim.Native.Nat.{ℕ}
+use Prim.Native.Nat.{ℕ, _≤_}
+use mathlib.Core.Path.{_≡_}
 use mathlib.Core.Bool.{Bool, true, false, _||_}
 use mathlib.Core.List.{List, _++_}
 use lib.Dec.{leb, ltb}
@@ -18,6 +19,7 @@ use Rattle.scene_format.specs.Format.{locationOf}
 use Rattle.scene_format.specs.SceneOf.{sceneOf}
 use Rattle.scene_lengths.specs.Lengths.{answersNeeded, workNeeded}
 use Rattle.iisph_rules.specs.Step.{answersOf, sceneAnswer}
+use Rattle.iisph_rules.specs.declared.Report.{Report}
 use Rattle.iisph_rules.specs.declared.StepAnswer.{StepAnswer}
 use Rattle.iisph_rules.specs.declared.StepAnswer.the-variants.{Done, Refused}
 
@@ -33,6 +35,16 @@ stepAnswer b answers work =
     (choose (ltb answers (answersNeeded (sceneOf b)) || ltb work (workNeeded (sceneOf b)))
     (Refused ShortList)
     (sceneAnswer (λ i. locationOf Fluid b i .at) (sceneOf b)))
+
+-- lists of these lengths are as long as a step needs them
+pub record LongEnough (b : List ℕ) (answers work : ℕ) : Type 0 where
+  pub enoughAnswers : answersNeeded (sceneOf b) ≤ answers
+  pub enoughWork : workNeeded (sceneOf b) ≤ work
+
+-- an accepted packed scene: a step with long enough lists does not refuse it; and what such a step reports
+pub record Accepted (b : List ℕ) : Type 0 where
+  pub report : Report
+  pub done : (answers work : ℕ) → LongEnough b answers work → stepAnswer b answers work ≡ Done report
 
 -- whether there are answers to write
 unfoldable pub isDone : StepAnswer → Bool

@@ -23,9 +23,9 @@ clockBefore h =
 unfoldable pub clockOf : Scene → Clock
 clockOf s = advanced (clockBefore (s .header))
 
--- dt is the step length (METHOD 2)
+-- dt is the advanced clock's, which is the step length (METHOD 2)
 abbrev pub dt : Scene → Float
-dt s = s .header .totalStepSize
+dt s = clockOf s .dt
 
 -- +0 on each axis
 abbrev pub zeroVector : Scene → Vector

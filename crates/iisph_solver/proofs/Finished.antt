@@ -26,7 +26,6 @@ use Rattle.iisph_rules.specs.Step.{firstPressures, solution, fluidAnswer, bound
 use Rattle.iisph_rules.specs.Step.{reportOf}
 use Rattle.iisph_rules.specs.declared.Ending.{Ending}
 use Rattle.iisph_rules.specs.declared.Report.{Report}
-use Rattle.iisph_rules.proofs.EndToEnd.{length-rows, sum-same}
 use Rattle.iisph_rules.proofs.Iterations.{pressuresAfter, solution-pressures}
 use Rattle.iisph_rules.proofs.Sizes.{length-fluid, length-answers}
 use Rattle.iisph_pressures.specs.IterationRows.{pressuresIn, IterationReady, Iterating}
@@ -35,7 +34,8 @@ use Rattle.iisph_rows.specs.Rows.{rowAt}
 use Rattle.lists.specs.Stores.{stored}
 use Rattle.lists.proofs.Fills.{sets-append}
 use Rattle.iisph_pressures.proofs.IterationReads.{pressures-are}
-use Rattle.lists.proofs.Rows.{rows-next}
+use Rattle.lists.proofs.Numbering.{sum-same}
+use Rattle.lists.proofs.Rows.{rows-next, length-rows}
 use Rattle.iisph_motion.specs.Changes.{ChangesReady}
 use Rattle.iisph_motion.proofs.Accelerations.{share-made}
 use Rattle.iisph_iterations.specs.PressureSolve.{iteratedTimes, Solves}

@@ -33,7 +33,7 @@ use Rattle.scene_check.specs.Walk.{checked}
 use Rattle.scene_check.proofs.Accepted.{accepted}
 use Rattle.scene_lengths.specs.Lengths.{answerWidth, widthIn, answersBefore, answersIn, answersNeeded}
 use Rattle.scene_lengths.proofs.Needed.{layout-keeps, layout-counts, fluid-answers, answers-needed}
-use Rattle.iisph_rules.proofs.EndToEnd.{length-rows}
+use Rattle.lists.proofs.Rows.{length-rows}
 use Rattle.iisph_words.specs.Words.{doubleTextWidth, doublesText, kindWord}
 use Rattle.iisph_lines.specs.Lines.{particleLine, modelText, modelsUpto, modelsText}
 use Rattle.iisph_words.proofs.Numbers.{few-digits}

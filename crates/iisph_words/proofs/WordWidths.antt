@@ -6,7 +6,8 @@ use native.Mathlib.Omega.{arith}
 use lib.ListN.{length, getD, length-append}
 use lib.Ieee.{Float, nan}
 use Rattle.lists.specs.Stores.{Writes}
-use Rattle.iisph_rules.proofs.EndToEnd.{length-rows, sum-same}
+use Rattle.lists.proofs.Numbering.{sum-same}
+use Rattle.lists.proofs.Rows.{length-rows}
 use Rattle.iisph_words.specs.Digits.{decimalOf, mostDigits}
 use Rattle.iisph_words.specs.Words.{pairText, doubleTextWidth, doubleText, doublesText}
 use Rattle.iisph_words.proofs.Numbers.{length-hex, digits-most}

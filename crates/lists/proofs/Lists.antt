@@ -74,6 +74,12 @@ in-table (suc n) f (List·Memᴰ·tail m) =
     let r = in-table n (λ k. f (suc k)) m in
     record { index = suc (r .index); below = omega (arith, r .below); value = r .value }
 
+pub table-in : {A : Type 0} (n : ℕ) (f : ℕ → A) (i : ℕ) → i < n → List·Memᴰ (f i) (table n f)
+unfolding table
+table-in zero f i h = absurd (not-suc-le-zero h)
+table-in (suc n) f zero h = List·Memᴰ·head refl
+table-in (suc n) f (suc i) h = List·Memᴰ·tail (table-in n (λ k. f (suc k)) i (le-of-suc-le-suc h))
+
 -- a list's values, by number
 pub table-map : {A B : Type 0} (f : A → B) (xs : List A) (d : A) → table (length xs) (λ i. f (getD xs i d)) ≡ map f xs
 unfolding table

@@ -4,7 +4,7 @@ use Prim.Native.Nat.{ℕ, zero, suc, _+_, _*_, _-_, _<_, _≤_}
 use mathlib.Core.Path.{_≡_, refl, sym, ap, _∙_}
 use mathlib.Core.Bool.{Bool, true, false}
 use mathlib.Core.List.{List, [], _∷_, _++_, map, flatten, append-nil, append-assoc}
-use native.Mathlib.Nat.{not-suc-le-zero, le-of-suc-le-suc, zero-add, add-zero, add-suc, mul-suc}
+use native.Mathlib.Nat.{not-suc-le-zero, le-of-suc-le-suc, zero-add, add-zero, add-suc, mul-zero, mul-suc}
 use native.Mathlib.Numerals.{add-one}
 use native.Mathlib.Omega.{arith}
 use lib.Dec.{ltb}
@@ -123,6 +123,12 @@ unfolding sum
 sum-few c [] h = omega arith
 sum-few c (n ∷ ns) h =
     omega (arith, h 0 (omega arith), sum-few c ns (λ m l. h (suc m) (omega arith)), mul-suc c (length ns))
+
+-- n times the same
+pub sum-same : (w n : ℕ) → sum (table n (λ i. w)) ≡ w * n
+unfolding table sum
+sum-same w zero = omega (arith, mul-zero w)
+sum-same w (suc n) = omega (arith, sum-same w n, mul-suc w n)
 
 -- the model and the number in it that a flat number stands for
 pub record Numbered (ns : List ℕ) (i : ℕ) : Type 0 where

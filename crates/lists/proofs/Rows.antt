@@ -1,12 +1,12 @@
--- Rows laid end to end in a list: one row more, one row read, one row stored into. By induction on the rows before; a
--- run of stores within another run is a store into what the other stores. Assumes nothing.
+-- Rows laid end to end in a list: how long they are; one row more, found, read, stored into. By induction on the rows
+-- before; a run of stores within another run is a store into what the other stores. Assumes nothing.
 use Prim.Native.Nat.{ℕ, zero, suc, _+_, _<_, _≤_}
 use mathlib.Core.Path.{_≡_, refl, sym, ap, _∙_}
 use mathlib.Core.List.{List, [], _∷_, _++_, flatten, append-nil, append-assoc}
 use native.Mathlib.Nat.{not-suc-le-zero, le-of-suc-le-suc, zero-add, add-zero, add-suc, suc-add, suc-inj}
 use native.Mathlib.Omega.{arith}
-use lib.ListN.{length, getD, set, length-set, List·getD-append}
-use lib.Seq.{sets, getD-append-add, set-append-left, set-set, set-comm}
+use lib.ListN.{length, getD, set, take, drop, length-append, length-set, List·getD-append}
+use lib.Seq.{sets, take-at, drop-append-add, getD-append-add, set-append-left, set-set, set-comm}
 use Rattle.lists.specs.Lists.{sum, table}
 use Rattle.lists.proofs.Lists.{table-same}
 
@@ -87,6 +87,29 @@ module _ {A : Type 0} where
       ∙ ap (λ (r : List A). flatten (table a f) ++ r) (sym (rows-next c (λ p. f (a + p))))
 
   -- ---- one row of n, each as long as g says
+
+  pub length-rows : (n : ℕ) (f : ℕ → List A) (g : ℕ → ℕ) → ((i : ℕ) → i < n → length (f i) ≡ g i)
+      → length (flatten (table n f)) ≡ sum (table n g)
+  unfolding table flatten sum
+  length-rows zero f g h = refl
+  length-rows (suc n) f g h =
+      omega (
+        arith,
+        length-append (f 0) (flatten (table n (λ i. f (suc i)))),
+        h 0 (omega arith),
+        length-rows n (λ i. f (suc i)) (λ i. g (suc i)) (λ i l. h (suc i) (omega arith)),
+      )
+
+  -- row i stands behind the rows before it
+  pub row-at : (n : ℕ) (f : ℕ → List A) (g : ℕ → ℕ) → ((i : ℕ) → i < n → length (f i) ≡ g i)
+      → (rest : List A) (i : ℕ) → i < n
+      → take (g i) (drop (sum (table i g)) (flatten (table n f) ++ rest)) ≡ f i
+  unfolding table flatten sum
+  row-at zero f g h rest i l = absurd (not-suc-le-zero l)
+  row-at (suc n) f g h rest zero l = rw append-assoc (take-at (f 0) _ (g 0) (h 0 l))
+  row-at (suc n) f g h rest (suc i) l =
+      rw (← h 0 (omega arith), append-assoc, drop-append-add)
+      (row-at n (λ k. f (suc k)) (λ k. g (suc k)) (λ k m. h (suc k) (omega arith)) rest i (le-of-suc-le-suc l))
 
   pub row-read : (n : ℕ) (f : ℕ → List A) (g : ℕ → ℕ) → ((i : ℕ) → i < n → length (f i) ≡ g i) → (t e : ℕ) (d : A)
       → t < n → e < length (f t)

@@ -58,10 +58,6 @@ magnitude (fin s m e) = fin false m e
 abbrev pub larger : Float → Float → Float
 larger x y = cond (Ieee.lt x y) y x
 
--- x if it is above 0; anything else, not-a-number included, is +0
-abbrev pub clamp : Float → Float
-clamp x = cond (Ieee.lt +0 x) x +0
-
 -- the running sum from a on, in the list's order
 abbrev pub total : Float → List Float → Float
 total a xs = fold _⊕_ a xs

@@ -86,13 +86,6 @@ pub fn larger(x: f64, y: f64) -> f64
     if x < y { y } else { x }
 }
 
-// x if it is above 0, else +0.
-pub fn clamp(x: f64) -> f64
-    ensures { λ r. ⌜ r ≡ Real.clamp x ⌝ }
-{
-    if x > 0.0 { x } else { 0.0 }
-}
-
 // The double with these bits.
 pub fn from_bits(b: u64) -> f64
     ensures { λ r. ⌜ r ≡ Real.bits b ⌝ }

@@ -2,20 +2,8 @@
 -- in `count` is exact. A finite double that is at least 0 is -0, or the fraction of its count. Assumes nothing.
 use mathlib.Core.Path.{_≡_, refl, sym, ap, _∙_, subst}
 use Prim.Native.Nat.{ℕ, zero, suc, _+_, _-_, _*_, _/_, _%_, _^_, _≤_, _<_, zero-le}
-use native.Mathlib.Nat.{
-  le-trans,
-  le-of-eq,
-  le-of-suc-le-suc,
-  lt-of-not-le,
-  not-le-of-lt,
-  mul-le-mul-right,
-  mul-one,
-  one-mul,
-  zero-mul,
-  mul-assoc,
-  mul-div-cancel,
-  div-one,
-}
+use native.Mathlib.Nat.{le-trans, le-of-eq, le-of-suc-le-suc, lt-of-not-le, not-le-of-lt, mul-le-mul-right, mul-one}
+use native.Mathlib.Nat.{one-mul, zero-mul, mul-assoc, mul-div-cancel, div-one}
 use native.Mathlib.Omega.{arith}
 use mathlib.Core.Bool.{Bool, true, false, _&&_, _||_}
 use lib.IntN.{ℤ, pos, negsuc}
@@ -98,10 +86,10 @@ at-most-zero {x} {a} {c} C X = go (X .sign) (X .signed) (X .value)
 
 -- ---- a finite double that is at least 0
 
-abbrev pub -0 : Float
--0 = fin true 0 (pos 0)
+abbrev pub minus-zero : Float
+minus-zero = fin true 0 (pos 0)
 
-pub minus-zero-or-fraction : (P : Float → Type 0) → P -0 → ((x : Float) → Fraction false x (count x) unit → P x)
+pub minus-zero-or-fraction : (P : Float → Type 0) → P minus-zero → ((x : Float) → Fraction false x (count x) unit → P x)
     → (x : Float) → T (fits binary64 x) → T (finite x) → T (le +0 x) → P x
 unfolding le ofBits
 minus-zero-or-fraction P z p nan t i h = absurd i

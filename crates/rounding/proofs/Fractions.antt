@@ -3,24 +3,9 @@
 use mathlib.Core.Path.{_≡_, refl, sym, ap, _∙_, subst}
 use mathlib.Core.Logic.{inl, inr}
 use Prim.Native.Nat.{ℕ, _+_, _-_, _*_, _≤_, _<_}
-use native.Mathlib.Nat.{
-  le-trans,
-  le-of-eq,
-  not-le-of-lt,
-  lt-of-not-le,
-  eq-or-lt-of-le,
-  le-of-mul-le-mul-right,
-  eq-of-mul-eq-mul-right,
-  zero-mul,
-  add-mul,
-  mul-comm,
-  mul-assoc,
-  mul-left-comm,
-  mul-right-comm,
-  mul-mul-mul-comm,
-  mul-pos,
-  mul-le-mul-right,
-}
+use native.Mathlib.Nat.{le-trans, le-of-eq, not-le-of-lt, lt-of-not-le, eq-or-lt-of-le, le-of-mul-le-mul-right}
+use native.Mathlib.Nat.{eq-of-mul-eq-mul-right, zero-mul, add-mul, mul-comm, mul-assoc, mul-left-comm, mul-right-comm}
+use native.Mathlib.Nat.{mul-mul-mul-comm, mul-pos, mul-le-mul-right}
 use native.Mathlib.Omega.{arith}
 use mathlib.Core.Bool.{Bool, true, false, not, _&&_, _||_, true≢false}
 use lib.IntN.{ℤ}

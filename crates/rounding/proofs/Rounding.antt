@@ -2,42 +2,11 @@
 -- `round` drops few digits of what is below the bound, and keeps the bound itself. Assumes nothing.
 use mathlib.Core.Path.{_≡_, refl, sym, ap, _∙_, subst}
 use mathlib.Core.Logic.{inl, inr}
-use Prim.Native.Nat.{
-  ℕ,
-  zero,
-  suc,
-  _+_,
-  _-_,
-  _*_,
-  _/_,
-  _%_,
-  _^_,
-  _≤_,
-  _<_,
-  compare,
-  Ordering,
-  Ordering·lt,
-  Ordering·eq,
-  Ordering·gt,
-}
-use native.Mathlib.Nat.{
-  le-refl,
-  le-trans,
-  le-of-eq,
-  le-of-lt,
-  lt-of-le-of-lt,
-  eq-or-lt-of-le,
-  suc-mul,
-  mul-assoc,
-  mul-right-comm,
-  mul-pos,
-  mul-le-mul-left,
-  mul-le-mul-right,
-  div-add-mod',
-  mod-lt,
-  div-lt-iff-lt-mul,
-  div-div-eq-div-mul,
-}
+use Prim.Native.Nat.{ℕ, zero, suc, _+_, _-_, _*_, _/_, _%_, _^_, _≤_, _<_, compare, Ordering, Ordering·lt, Ordering·eq}
+use Prim.Native.Nat.{Ordering·gt}
+use native.Mathlib.Nat.{le-refl, le-trans, le-of-eq, le-of-lt, lt-of-le-of-lt, eq-or-lt-of-le, suc-mul, mul-assoc}
+use native.Mathlib.Nat.{mul-right-comm, mul-pos, mul-le-mul-left, mul-le-mul-right, div-add-mod', mod-lt}
+use native.Mathlib.Nat.{div-lt-iff-lt-mul, div-div-eq-div-mul}
 use native.Mathlib.Omega.{arith}
 use mathlib.Core.Bool.{Bool, not}
 use lib.Dec.{T, isLe, isEq, eqb, leb→le, nleb→lt, eqb→eq, eqb-refl}

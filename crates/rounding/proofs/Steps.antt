@@ -2,19 +2,8 @@
 -- it, and how far it is from the exact result. By the law of Rounding at what Fractions gives. Assumes nothing.
 use mathlib.Core.Path.{_≡_, subst}
 use Prim.Native.Nat.{ℕ, suc, _+_, _-_, _*_, _^_, _≤_, _<_}
-use native.Mathlib.Nat.{
-  mul-comm,
-  mul-assoc,
-  mul-left-comm,
-  mul-right-comm,
-  zero-mul,
-  mul-one,
-  mul-pos,
-  mul-le-mul-right,
-  le-of-mul-le-mul-right,
-  pow-suc,
-  zero-lt-suc,
-}
+use native.Mathlib.Nat.{mul-comm, mul-assoc, mul-left-comm, mul-right-comm, zero-mul, mul-one, mul-pos}
+use native.Mathlib.Nat.{mul-le-mul-right, le-of-mul-le-mul-right, pow-suc, zero-lt-suc}
 use native.Mathlib.Omega.{arith}
 use mathlib.Core.Bool.{Bool, true, false}
 use lib.Arith.{le-zero}
@@ -22,15 +11,8 @@ use lib.Pow.{pow-add, pow-pos}
 use lib.Ieee.{Float, Format, prec, emax, low, add, sub, mul}
 use Rattle.rounding.specs.Exact.{Near}
 use Rattle.rounding.proofs.Near.{near-times, near-cancel}
-use Rattle.rounding.proofs.Fractions.{
-  Signed,
-  Fraction,
-  Rounded,
-  mul-rounded,
-  add-rounded,
-  sub-rounded,
-  sub-rounded-under,
-}
+use Rattle.rounding.proofs.Fractions.{Signed, Fraction, Rounded, mul-rounded, add-rounded, sub-rounded}
+use Rattle.rounding.proofs.Fractions.{sub-rounded-under}
 use Rattle.rounding.proofs.Rounding.{RoundedNear, round-near}
 
 -- A format of 53 digits, of which u units make 1, and w units a grain, 2 ^ -57. They are variables, so that nothing

@@ -6,7 +6,6 @@ use lib.Ieee
 use Rattle.lists.specs.Lists
 use Rattle.math.specs.Real
 use Rattle.math.specs.Vector
-use Rattle.cubic_spline.specs.Shape
 use Rattle.timestep_manager.specs.Clock
 use Rattle.scene_format.specs.Bytes
 use Rattle.scene_format.specs.Format
@@ -52,7 +51,6 @@ unfolding zipWith
     Lists.fold Lists.sum Lists.table Lists.startsFrom
     Real.magnitude
     Vector._⊞_ Vector._⊟_ Vector._⊡_ Vector.added Vector._·_
-    Shape.weightShape Shape.slopeShape
     Clock.inverse Clock.advanced
     Bytes.doubleAt Bytes.vectorAt
     Format.modelLocations Format.locationsOf
@@ -73,7 +71,7 @@ unfolding zipWith
     Step.finalVelocityChange Step.newVelocity Step.newPosition Step.fluidAnswer Step.forceFrom Step.boundaryForce
     Step.boundaryAnswer Step.answersFrom Step.answersOf Step.reportOf Step.firstZero Step.unlessZero Step.sceneAnswer
     Answer.afterCheck Answer.stepAnswer Answer.isDone Answer.answersAfter Answer.clearsWork Answer.workAfter
-    Row.report Row.coefficients Row.called
+    Row.report Row.coefficients Row.after Row.called Row.iterations
 stepping = 0
 
 -- a step, from how its scene is written to its answers

@@ -1,39 +1,54 @@
 -- The definitions yield each worked example: by evaluation, list by list, and the lists are joined. Assumes nothing.
-use mathlib.Core.Path.{refl}
-use mathlib.Core.List.{List, _++_, map}
+use Prim.Native.Nat.{ℕ}
+use mathlib.Core.Path.{refl, ap}
+use mathlib.Core.List.{List, [], _∷_, _++_, map}
+use Rattle.math.specs.Rows as math
+use Rattle.math.proofs.Rows.{rows-hold as doubles-hold}
 use Rattle.cubic_spline.specs.Rows as kernel
-use Rattle.worked_examples.specs.Row.{Row, shape, All, none, _and_}
+use Rattle.cubic_spline.proofs.Rows.{rows-hold as kernel-holds}
+use Rattle.worked_examples.specs.Row.{Row, value, Holds, All, none, _and_}
 use Rattle.worked_examples.specs.Rows.{rows}
 use Rattle.worked_examples.specs.Starred.{volumesScene, starred, refusedSteps}
 use Rattle.worked_examples.specs.Further
 use Rattle.worked_examples.proofs.Evaluation.{evaluation}
 use Rattle.worked_examples.proofs.RefusalRows.{refusals-hold}
 
-shapes-hold : All (map shape kernel.rows)
-unfolding evaluation
-shapes-hold = refl and refl and refl and refl and refl and refl and none
+-- a list of values that the definitions yield, row by row
+each : (rs : List math.Row) → math.Yielded rs → All Holds (map value rs)
+each [] e = none
+each (r ∷ rs) e = ap first e and each rs (ap behind e)
+  where
+    first : List ℕ → ℕ
+    first [] = 0
+    first (n ∷ ns) = n
 
-starred-hold : All starred
+    behind : List ℕ → List ℕ
+    behind [] = []
+    behind (n ∷ ns) = ns
+
+starred-hold : All Holds starred
 unfolding evaluation volumesScene starred
 starred-hold =
     refl and refl and refl and refl and refl and refl and refl and refl and refl and refl and refl and refl and refl
-    and none
+    and refl and none
 
-refused-steps-hold : All refusedSteps
+refused-steps-hold : All Holds refusedSteps
 unfolding evaluation refusedSteps
 refused-steps-hold = refl and refl and refl and refl and refl and refl and none
 
-further-hold : All Further.further
+further-hold : All Holds Further.further
 unfolding evaluation
     Further.overflowing Further.nanLast Further.nanFirst Further.aiiScene Further.orderScene Further.negativeZeros
     Further.bothZero Further.mixedFluids Further.mixedBoundaries Further.mixed Further.mixedAnswers Further.further
 further-hold = refl and refl and refl and refl and refl and refl and refl and refl and refl and refl and none
 
-both : {xs ys : List Row} → All xs → All ys → All (xs ++ ys)
+pub both : {A : Type 0} {P : A → Type 0} {xs ys : List A} → All P xs → All P ys → All P (xs ++ ys)
 both none q = q
 both (h and p) q = h and both p q
 
 -- every worked example holds
-pub rows-hold : All rows
+pub rows-hold : All Holds rows
 unfolding rows
-rows-hold = both shapes-hold (both refusals-hold (both starred-hold (both refused-steps-hold further-hold)))
+rows-hold =
+    both (each math.rows doubles-hold)
+    (both (each kernel.rows kernel-holds) (both refusals-hold (both starred-hold (both refused-steps-hold further-hold))))

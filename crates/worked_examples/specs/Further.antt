@@ -3,45 +3,14 @@
 use Prim.Native.Nat.{ℕ}
 use mathlib.Core.List.{List, [], _∷_}
 use Rattle.math.specs.Real.{bits}
-use Rattle.scene_format.specs.Packed.{
-  packed,
-  fluid,
-  boundary,
-  fluidRecord,
-  boundaryRecord,
-  contact,
-  boundaryContact,
-  v3,
-  zero3,
-}
+use Rattle.scene_format.specs.Packed.{packed, fluid, boundary, fluidRecord, boundaryRecord, contact, boundaryContact}
+use Rattle.scene_format.specs.Packed.{v3, zero3}
 use Rattle.scene_format.specs.declared.Refusal.the-variants.{ZeroDensity}
 use Rattle.iisph_rules.specs.declared.Ending.the-variants.{Unswept, Settled, RanOut}
 use Rattle.worked_examples.specs.Row.{Row, done, refused, before, report, coefficients}
-use Rattle.worked_examples.specs.Scenes.{
-  headerB,
-  pair,
-  bits·-0,
-  bits·1,
-  bits·-1,
-  bits·2,
-  bits·-2,
-  bits·3,
-  bits·4,
-  bits·-4,
-  bits·½,
-  bits·-½,
-  bits·¼,
-  bits·0·1,
-  bits·-0·1,
-  bits·0·3,
-  bits·-0·3,
-  bits·0·7,
-  bits·-0·7,
-  bits·1·3,
-  bits·∞,
-  bits·-∞,
-  bits·nan,
-}
+use Rattle.worked_examples.specs.Scenes.{headerB, pair, bits·-0, bits·1, bits·-1, bits·2, bits·-2, bits·3, bits·4}
+use Rattle.worked_examples.specs.Scenes.{bits·-4, bits·½, bits·-½, bits·¼, bits·0·1, bits·-0·1, bits·0·3}
+use Rattle.worked_examples.specs.Scenes.{bits·-0·3, bits·0·7, bits·-0·7, bits·1·3, bits·∞, bits·-∞, bits·nan}
 
 -- ---- an average that is not a number (METHOD 6.4)
 

@@ -4,3 +4,4 @@ pub mod RefusalRows
 pub mod Starred
 pub mod Further
 pub mod Rows
+pub mod TwoScenes

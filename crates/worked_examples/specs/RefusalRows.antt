@@ -5,28 +5,12 @@ use mathlib.Core.List.{List, [], _∷_, _++_}
 use lib.ListN.{take, set}
 use Rattle.scene_format.specs.Packed.{be16, be64, contact, zero3}
 use Rattle.scene_format.specs.declared.Refusal.{Refusal}
-use Rattle.scene_format.specs.declared.Refusal.the-variants.{
-  MissingField,
-  UnknownForm,
-  TooManyModels,
-  TooManyParticles,
-  TrailingBytes,
-  NotFinite,
-  DanglingContact,
-}
+use Rattle.scene_format.specs.declared.Refusal.the-variants.{MissingField, UnknownForm, TooManyModels, TooManyParticles}
+use Rattle.scene_format.specs.declared.Refusal.the-variants.{TrailingBytes, NotFinite, DanglingContact}
 use Rattle.scene_format.specs.declared.Walk.the-variants.{At, Refused}
 use Rattle.worked_examples.specs.Row.{Row, checks}
-use Rattle.worked_examples.specs.Scenes.{
-  emptyScene,
-  sceneA,
-  sceneB,
-  boundaryScene,
-  bits·1,
-  bits·-1,
-  bits·2,
-  bits·∞,
-  bits·nan,
-}
+use Rattle.worked_examples.specs.Scenes.{emptyScene, sceneA, sceneB, boundaryScene, bits·1, bits·-1, bits·2}
+use Rattle.worked_examples.specs.Scenes.{bits·∞, bits·nan}
 
 -- the empty scene as FORMAT 2.1 has it
 unfoldable pub empty : List ℕ

@@ -1,19 +1,22 @@
 -- What a worked example is, and what it says of the definitions. A double is given by its 64 bits, every not-a-number
 -- by 7FF8000000000000. Definitions only.
-use Prim.Native.Nat.{ℕ, _+_, _-_}
+use Prim.Native.Nat.{ℕ, zero, suc, _+_, _-_}
 use mathlib.Core.Path.{_≡_}
 use mathlib.Core.Bool.{false}
 use mathlib.Core.List.{List, [], _∷_, _++_, map}
 use lib.ListN.{length, replicate}
 use lib.Ieee.{Float}
 use Rattle.math.specs.Real.{bits}
-use Rattle.cubic_spline.specs.Rows as kernel
+use Rattle.math.specs.Rows as math
+use Rattle.scene_format.specs.Scene.{Scene}
 use Rattle.scene_format.specs.SceneOf.{sceneOf}
 use Rattle.scene_format.specs.declared.Refusal.{Refusal}
 use Rattle.scene_format.specs.declared.Walk.{Walk}
 use Rattle.scene_check.specs.Walk.{checked}
 use Rattle.iisph_rules.specs.Coefficients as rules
 use Rattle.iisph_rules.specs.Coefficients.{Coefficients, boundaryVolume}
+use Rattle.iisph_rules.specs.Iteration.{Iteration, iteration}
+use Rattle.iisph_rules.specs.Step.{firstPressures}
 use Rattle.iisph_rules.specs.Answer.{stepAnswer, answersAfter, workAfter}
 use Rattle.iisph_rules.specs.declared.Ending.{Ending}
 use Rattle.iisph_rules.specs.declared.Report.{Report}
@@ -23,8 +26,8 @@ use Rattle.iisph_rules.specs.declared.StepAnswer.the-variants.{Done, Refused}
 -- ---- rows
 
 pub data Row : Type 0 where
-  -- a value of the kernel's shapes
-  shape : kernel.Row → Row
+  -- a value of the kernel, or of the functions on doubles
+  value : math.Row → Row
   -- a packed scene, and what the check's walk says of it: where it ends, or a refusal
   checks : List ℕ → Walk → Row
   -- a packed scene that is accepted, its report, its answers, and how many doubles of work it needs
@@ -34,6 +37,8 @@ pub data Row : Type 0 where
   refused : List ℕ → ℕ → ℕ → Refusal → ℕ → Row
   -- the coefficients of a packed scene's fluid particles
   before : List ℕ → List Coefficients → Row
+  -- what each of the first iterations on a packed scene makes
+  iterated : List ℕ → List Iteration → Row
   -- a boundary particle's weights and its volume
   volumeOf : List ℕ → ℕ → Row
 
@@ -57,6 +62,10 @@ unfoldable pub coefficients : ℕ → ℕ → List ℕ → ℕ → Coefficients
 coefficients density predicted dii aii =
     record { density = bits density; predictedDensity = bits predicted; dii = map bits dii; aii = bits aii }
 
+-- the pressures after an iteration, and its error
+unfoldable pub after : List ℕ → ℕ → Iteration
+after ps error = record { pressures = map bits ps; error = bits error }
+
 -- ---- what they say
 
 -- what a call answers, and both lists after it
@@ -78,9 +87,16 @@ called b answers work =
       work = workAfter b answers work (old work);
     }
 
+-- n iterations, one after the other, from given pressures on
+unfoldable pub iterations : Scene → List Float → ℕ → List Iteration
+iterations s ps zero = []
+iterations s ps (suc n) =
+    let it = iteration s (rules.coefficients s) ps in
+    it ∷ iterations s (it .pressures) n
+
 -- a row that is done is called with one element more in each list than needed
 abbrev pub Holds : Row → Type 0
-Holds (shape r) = kernel.yielded r ≡ r .value
+Holds (value r) = r .yields ≡ r .value
 Holds (checks b w) = checked b ≡ w
 Holds (done b r answers work) =
     called b (length answers + 1) (work + 1)
@@ -93,11 +109,12 @@ Holds (refused b answers work r cleared) =
       work = replicate cleared (bits 0) ++ old (work - cleared);
     }
 Holds (before b co) = rules.coefficients (sceneOf b) ≡ co
+Holds (iterated b its) = iterations (sceneOf b) (firstPressures (sceneOf b)) (length its) ≡ its
 Holds (volumeOf weights v) =
     boundaryVolume (record { velocity = []; keepsForces = false; force = []; weights = map bits weights }) ≡ bits v
 
 infixr 50 _and_
--- every row holds
-pub data All : List Row → Type 0 where
-  none : All []
-  _and_ : {r : Row} {rs : List Row} → Holds r → All rs → All (r ∷ rs)
+-- it holds of every element
+pub data All {A : Type 0} (P : A → Type 0) : List A → Type 0 where
+  none : All P []
+  _and_ : {x : A} {xs : List A} → P x → All P xs → All P (x ∷ xs)

@@ -1,10 +1,13 @@
--- All worked examples, as one list. Definitions only.
+-- The worked examples of doubles, kernel, check and step, as one list; worked_texts has the texts too. Definitions only.
 use mathlib.Core.List.{List, _++_, map}
+use Rattle.math.specs.Rows as math
 use Rattle.cubic_spline.specs.Rows as kernel
-use Rattle.worked_examples.specs.Row.{Row, shape}
+use Rattle.worked_examples.specs.Row.{Row, value}
 use Rattle.worked_examples.specs.RefusalRows.{refusalRows}
 use Rattle.worked_examples.specs.Starred.{starred, refusedSteps}
 use Rattle.worked_examples.specs.Further.{further}
 
 unfoldable pub rows : List Row
-rows = map shape kernel.rows ++ (refusalRows ++ (starred ++ (refusedSteps ++ further)))
+rows =
+    map value math.rows
+    ++ (map value kernel.rows ++ (refusalRows ++ (starred ++ (refusedSteps ++ further))))

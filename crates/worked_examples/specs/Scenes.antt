@@ -3,18 +3,8 @@
 use Prim.Native.Nat.{ℕ}
 use mathlib.Core.List.{List, [], _∷_}
 use lib.ListN.{replicate}
-use Rattle.scene_format.specs.Packed.{
-  Header,
-  packed,
-  fluid,
-  boundary,
-  fluidRecord,
-  boundaryRecord,
-  contact,
-  boundaryContact,
-  v3,
-  zero3,
-}
+use Rattle.scene_format.specs.Packed.{Header, packed, fluid, boundary, fluidRecord, boundaryRecord, contact}
+use Rattle.scene_format.specs.Packed.{boundaryContact, v3, zero3}
 
 -- ---- bit patterns
 

@@ -4,31 +4,12 @@ use Prim.Native.Nat.{ℕ}
 use mathlib.Core.List.{List, [], _∷_}
 use Rattle.math.specs.Real.{bits}
 use Rattle.scene_format.specs.Packed.{packed, boundary, boundaryRecord, boundaryContact, zero3}
-use Rattle.scene_format.specs.declared.Refusal.the-variants.{
-  DanglingContact,
-  ShortList,
-  ZeroDensity,
-  ZeroPredictedDensity,
-}
+use Rattle.scene_format.specs.declared.Refusal.the-variants.{DanglingContact, ShortList, ZeroDensity}
+use Rattle.scene_format.specs.declared.Refusal.the-variants.{ZeroPredictedDensity}
 use Rattle.iisph_rules.specs.declared.Ending.the-variants.{Unswept, Settled, RanOut}
-use Rattle.worked_examples.specs.Row.{Row, done, refused, before, volumeOf, report, coefficients}
-use Rattle.worked_examples.specs.Scenes.{
-  emptyScene,
-  sceneA,
-  contactA,
-  sceneB,
-  boundaryScene,
-  bits·1,
-  bits·-1,
-  bits·2,
-  bits·-2,
-  bits·3,
-  bits·½,
-  bits·-½,
-  bits·¼,
-  bits·-¼,
-  bits·-⅛,
-}
+use Rattle.worked_examples.specs.Row.{Row, done, refused, before, iterated, volumeOf, report, coefficients, after}
+use Rattle.worked_examples.specs.Scenes.{emptyScene, sceneA, contactA, sceneB, boundaryScene, bits·1, bits·-1}
+use Rattle.worked_examples.specs.Scenes.{bits·2, bits·-2, bits·3, bits·½, bits·-½, bits·¼, bits·-¼, bits·-⅛}
 
 -- ---- scenes
 
@@ -70,11 +51,14 @@ starred =
     ∷ done (sceneA (contactA 0 ∷ [])) (report (Settled (bits 0)) 2 bits·½ bits·2 bits·½)
     (0 ∷ 0 ∷ bits·-1 ∷ 0 ∷ 0 ∷ bits·-2 ∷ 0 ∷ [])
     14
-    -- scene B: densities 1, predicted 3, aii -2; then after its first, second and fiftieth iteration
+    -- scene B: densities 1, predicted 3, aii -2; pressures 0.5 after its first two iterations, with errors 1 and 2; and
+    -- the step that ends with its first, second and fiftieth iteration
     ∷ before (sceneB bits·1 bits·-1 50)
     (coefficients bits·1 bits·3 (bits·-1 ∷ 0 ∷ 0 ∷ []) bits·-2
     ∷ coefficients bits·1 bits·3 (bits·1 ∷ 0 ∷ 0 ∷ []) bits·-2
     ∷ [])
+    ∷ iterated (sceneB bits·1 bits·-1 50)
+    (after (bits·½ ∷ bits·½ ∷ []) bits·1 ∷ after (bits·½ ∷ bits·½ ∷ []) bits·2 ∷ [])
     ∷ done (sceneB bits·1 bits·-1 1) (report (RanOut (bits bits·1)) 1 bits·1 bits·1 bits·-1) answersB 28
     ∷ done (sceneB bits·1 bits·-1 2) (report (RanOut (bits bits·2)) 2 bits·1 bits·1 bits·-1) answersB 28
     ∷ done (sceneB bits·1 bits·-1 50) (report (RanOut (bits bits·2)) 50 bits·1 bits·1 bits·-1) answersB 28

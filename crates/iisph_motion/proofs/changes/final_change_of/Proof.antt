@@ -8,6 +8,9 @@ use Rattle.scene_format.specs.SceneOf.{sceneOf}
 use Rattle.scene_format.specs.declared.Kind.the-variants.{Fluid, Boundary}
 use Rattle.scene_index.proofs.ContactLists.{ContactsAre, contacts-are}
 use Rattle.iisph_rows.proofs.Particles.{dt-is}
+use Rattle.iisph_rows.proofs.RowReads.{row-value}
+use Rattle.iisph_rules.specs.Coefficients.{coefficients}
+use Rattle.iisph_rules.specs.Step.{pressureShare}
 use Rattle.iisph_motion.proofs.PressureChanges.{change-made}
 use Rattle.iisph_motion.proofs.changes.final_change_of.Statement.{statement}
 use Rattle.iisph_motion.proofs.changes.final_change_of.Tie as tie
@@ -43,29 +46,51 @@ pressure-state-of-requires c κs =
     let p = Begin c .pre in
     ((p .0 .0 .timed .over, p .0 .1), p .1 .iteration)
 
+mul-share : tie.Need-mul-share
+mul-share c =
+    let p = Begin (c .before) .pre in
+    omega (arith, p .0 .1, p .0 .0 .timed .over .indexed .fewFluid, p .0 .0 .timed .over .size)
+
+add-share : tie.Need-add-share
+add-share c =
+    let p = Begin (c .before) .pre in
+    omega (arith, p .0 .1, p .0 .0 .timed .over .indexed .fewFluid, p .0 .0 .timed .over .size)
+
+mul-share-2 : tie.Need-mul-share-2
+mul-share-2 c =
+    let p = Begin (c .before) .pre in
+    omega (arith, p .0 .1, p .0 .0 .timed .over .indexed .fewFluid, p .0 .0 .timed .over .size)
+
+shared-slice-read-share : tie.Need-shared-slice-read-share
+shared-slice-read-share c =
+    let p = Begin (c .before .before) .pre in
+    omega (arith, p .0 .1, p .1 .iteration .room)
+
 velocity-change-of-requires : tie.Need-velocity-change-of-requires
-velocity-change-of-requires c κs =
-    Begin (c .before) .pre .0
+velocity-change-of-requires c κs = Begin (c .before .before) .pre .0
 
 pressure-changes-requires : tie.Need-pressure-changes-requires
 pressure-changes-requires c κs =
-    let l = c .before .before in
+    let l = c .before .before .before in
     let p = Begin l .pre in
     ((p .0 .0 .timed .over, p .1), fluid l .ready)
 
 pressure-changes-requires-2 : tie.Need-pressure-changes-requires-2
 pressure-changes-requires-2 c κs =
-    let l = c .before .before .before in
+    let l = c .before .before .before .before in
     let p = Begin l .pre in
     ((p .0 .0 .timed .over, p .1), boundary l .ready)
 
 returns : tie.Need-returns
 returns c =
     let v = c .before .before in
-    let o = v .before in
+    let o = v .before .before in
     let l = o .before in
-    change-made _ (fluid l) (boundary l) _ _ (dt-is _ (Begin l .pre .0 .0 .timed .clockIs)) _
+    let p = Begin l .pre in
+    change-made _ (fluid l) (boundary l) _ _ (dt-is _ (p .0 .0 .timed .clockIs)) _
     (o .pressure-state-of .ensures)
+    _
+    (row-value (pressureShare (coefficients (sceneOf (now (Begin l .args .scene)))) _) (p .1 .share) _ (p .0 .1))
     (v .velocity-change-of .ensures)
     (c .before .pressure-changes .ensures)
     (c .pressure-changes2 .ensures)
@@ -77,6 +102,10 @@ final-change-of-spec =
     contacts-of-requires
     contacts-of-requires-2
     pressure-state-of-requires
+    mul-share
+    add-share
+    mul-share-2
+    shared-slice-read-share
     velocity-change-of-requires
     pressure-changes-requires
     pressure-changes-requires-2

@@ -72,11 +72,11 @@ boundary-acceleration-requires c κs =
 
 returns : tie.Need-returns
 returns c =
-    let v = c .before .before in
+    let v = c .before in
     let t = v .before .before .before in
     let s = Begin t in
     let p = s .pre in
-    fluid-change _ (p .1) (p .0 .0) (p .0 .1) (s .args .state) (s .args .dt) (t .before .enum-told .given .1)
+    fluid-change _ (p .1) (p .0 .0) (p .0 .1) (s .args .state) (s .args .own) (s .args .dt) (t .before .enum-told .given .1)
     (t .target-of .ensures)
     (v .vector .ensures)
     (c .scale .ensures)
@@ -85,7 +85,7 @@ returns-2 : tie.Need-returns-2
 returns-2 c =
     let a = c .before in
     let s = BeginBoundary (a .before) in
-    boundary-change _ _ _ (s .args .state) (s .args .dt) (a .before .enum-told2 .given .1)
+    boundary-change _ _ _ (s .args .state) (s .args .own) (s .args .dt) (a .before .enum-told2 .given .1)
     (a .boundary-acceleration .ensures)
     (c .scale2 .ensures)
 

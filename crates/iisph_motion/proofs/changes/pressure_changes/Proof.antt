@@ -18,14 +18,14 @@ use Rattle.iisph_motion.proofs.changes.pressure_changes.Statement.{stat
 use Rattle.iisph_motion.proofs.changes.pressure_changes.Tie as tie
 
 abbrev Inv-loop : tie.InvT-loop
-Inv-loop scene index work n state dt kind count at change₀ k₀ change k =
+Inv-loop scene index work n state share dt kind count at change₀ k₀ change k =
     (k ≤ count)
     × (coordinates change
-    ≡ fold (withChange kind (sceneOf scene) (pressuresIn n work) dt state) (coordinates change₀)
+    ≡ fold (withChange kind (sceneOf scene) (pressuresIn n work) dt state share) (coordinates change₀)
     (contactList (startsOf kind scene) scene k at))
 
 abbrev μ-loop : tie.MeasureT-loop
-μ-loop scene index work n state dt kind count at change₀ k₀ change k = count - k
+μ-loop scene index work n state share dt kind count at change₀ k₀ change k = count - k
 
 loop-holds : tie.Need-loop-holds Inv-loop μ-loop
 unfolding contactList table fold
@@ -61,7 +61,7 @@ loop-again c =
     let a = Begin t .args in
     let b = now (a .scene) in (
       omega arith,
-      fold-next (withChange (a .list .kind) (sceneOf b) (pressuresIn (a .n) (now (a .work))) (a .dt) (a .state))
+      fold-next (withChange (a .list .kind) (sceneOf b) (pressuresIn (a .n) (now (a .work))) (a .dt) (a .state) (a .own))
           (coordinates (a .from)) (a .list .kind) b (a .list .at) (l .k) (l .inv .1)
           (c .sub .ensures ∙ ap (λ (x : Vector). coordinates (l .change) ⊟ x) (c .before .pressure-change .ensures)),
     )

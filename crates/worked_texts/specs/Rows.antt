@@ -1,0 +1,57 @@
+-- Every worked example, as one list: those of doubles, kernel, check and step (worked_examples), and packed scenes with
+-- the text that the program writes for them. Definitions only.
+use Prim.Native.Nat.{ℕ}
+use Prim.Native.Char.{code}
+use Prim.Native.String.{String, [] as end, _∷_ as _then_}
+use mathlib.Core.Path.{_≡_}
+use mathlib.Core.List.{List, [], _∷_, _++_, map, flatten}
+use lib.ListN.{replicate}
+use Rattle.worked_examples.specs.Row as worked
+use Rattle.worked_examples.specs.Rows as worked-rows
+use Rattle.worked_examples.specs.Scenes.{emptyScene, sceneA, contactA, boundaryScene}
+use Rattle.iisph_text.specs.Text.{textOf}
+
+pub data Row : Type 0 where
+  example : worked.Row → Row
+  -- the bytes that are read, and the text that is written, in pieces
+  writes : List ℕ → List String → Row
+
+-- byte by byte
+unfoldable pub ascii : String → List ℕ
+ascii end = []
+ascii (c then s) = code c ∷ ascii s
+
+abbrev pub Holds : Row → Type 0
+Holds (example r) = worked.Holds r
+Holds (writes b pieces) = textOf b ≡ flatten (map ascii pieces)
+
+unfoldable pub texts : List Row
+texts =
+    -- scene A
+    writes (sceneA (contactA 0 ∷ []))
+    ("step settled 2 0000000000000000\n"
+    ∷ "clock 3FE0000000000000 4000000000000000 3FE0000000000000\n"
+    ∷ "fluid 0 0 0000000000000000 0000000000000000 BFF0000000000000"
+    ∷ " 0000000000000000 0000000000000000 C000000000000000 0000000000000000\n"
+    ∷ [])
+    -- the scene of a boundary that keeps forces
+    ∷ writes (boundaryScene 0)
+    ("step unswept 0\n"
+    ∷ "clock 3FE0000000000000 4000000000000000 BFE0000000000000\n"
+    ∷ "fluid 0 0 0000000000000000 0000000000000000 BFC0000000000000"
+    ∷ " 0000000000000000 0000000000000000 BFD0000000000000 4000000000000000\n"
+    ∷ "wall 0 0 3FD0000000000000 0000000000000000 0000000000000000 3FE0000000000000\n"
+    ∷ [])
+    -- the empty scene, with one iteration at most
+    ∷ writes (emptyScene 1)
+    ("step ranout 1 0000000000000000\n" ∷ "clock 0000000000000000 0000000000000000 0000000000000000\n" ∷ [])
+    -- no bytes; scene A without contacts; as many bytes as are read, and one more
+    ∷ writes [] ("refused 1 0\n" ∷ [])
+    ∷ writes (sceneA []) ("refused 9 62\n" ∷ [])
+    ∷ writes (replicate 32768 0) ("refused 2 0\n" ∷ [])
+    ∷ writes (replicate 32769 0) ("too long\n" ∷ [])
+    ∷ []
+
+-- every worked example
+unfoldable pub rows : List Row
+rows = map example worked-rows.rows ++ texts
