@@ -42,7 +42,7 @@ pub restated : {w : Walk} {x x′ : ℕ} {Q Q′ : Type 0} → Leads w x Q → (
 restated l h e q = let k = l e q in let m = h (k .1) in (k .0 ∙ m .0, m .1)
 
 -- a walk and a step that are not refused come to an offset between them
-both : (w : Walk) (f : ℕ → Walk) {e : ℕ} → w ▹ f ≡ At e → (at : ℕ) × (w ≡ At at) × (f at ≡ At e)
+pub both : (w : Walk) (f : ℕ → Walk) {e : ℕ} → w ▹ f ≡ At e → (at : ℕ) × (w ≡ At at) × (f at ≡ At e)
 unfolding _▹_
 both (At at) f q = (at, refl, q)
 both (Refused r) f q = never q

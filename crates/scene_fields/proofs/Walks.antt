@@ -1,7 +1,7 @@
 -- What the functions of a walk cite: a field that is not there, and a loop of which some turns are done, where what
 -- remains from here is the whole. By cases on the test of a field, and by the turns left. Assumes nothing.
 use Prim.Native.Nat.{ℕ, zero, suc, _+_, _-_, _≤_, _<_}
-use mathlib.Core.Path.{_≡_, refl, sym, _∙_}
+use mathlib.Core.Path.{_≡_, refl, sym, _∙_, ap}
 use mathlib.Core.Bool.{Bool, true, false}
 use mathlib.Core.List.{List}
 use native.Mathlib.Nat.{sub-zero}
@@ -38,6 +38,21 @@ field-refused b k rule at {w} {r} e q = told (leb (at + k) (length b)) refl
     told true h = never (sym q ∙ e ∙ field-there b k _ at (leb-true _ _ h))
     told false h = let l = leb-false (at + k) (length b) h in e ∙ field-missing b k _ at l
         ∙ sym (field-missing b k rule at l)
+
+-- ---- a step from where a walk has come to
+
+-- a walk that is refused goes no further
+pub stopped : {w : Walk} {r : Refusal} (f : ℕ → Walk) → w ≡ Refused r → w ≡ w ▹ f
+unfolding _▹_
+stopped f q = rw q
+
+pub gone-on : {w v : Walk} {at : ℕ} (f : ℕ → Walk) → w ≡ At at → v ≡ f at → v ≡ w ▹ f
+unfolding _▹_
+gone-on f q e = rw q e
+
+-- a step from where w has come to, where w is v
+pub onward : {w v x : Walk} (f : ℕ → Walk) → x ≡ w ▹ f → w ≡ v → x ≡ v ▹ f
+onward f e q = e ∙ ap (λ (y : Walk). y ▹ f) q
 
 -- ---- loops
 

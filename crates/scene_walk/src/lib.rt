@@ -24,11 +24,23 @@ use scene_format::read::keeps;
 use scene_format::read::model_number;
 use scene_format::read::particles;
 ghost use mathlib.Core.Path.{_≡_};
-ghost use Prim.Native.Nat.{_+_, _≤_, _<_};
+ghost use Prim.Native.Nat.{ℕ, _+_, _≤_, _<_};
 ghost use lib.ListN.{length};
-ghost use Rattle.scene_fields.specs.Fields.{times};
-ghost use Rattle.scene_format.specs.Format.{countWidth};
+ghost use Rattle.scene_fields.specs.Fields.{_▹_, times};
+ghost use Rattle.scene_fields.specs.Fields as steps;
+ghost use Rattle.scene_format.specs.Bytes.{byteAt};
+ghost use Rattle.scene_format.specs.Format.{minPressureIterOffset, countWidth};
 ghost use Rattle.scene_walk.specs.Walk as walk;
+
+// A field of k bytes with no rule of its own, from where a walk has come to.
+fn plain_on(s: &[u8], k: usize, w: Walk) -> Walk
+    ensures { λ r. ⌜ r ≡ w ▹ steps.plain (now (s .entry)) k ⌝ }
+{
+    let Walk::At(at) = w else {
+        return w;
+    };
+    plain(s, k, at)
+}
 
 // The header.
 fn header(s: &[u8], from: usize) -> Walk
@@ -39,14 +51,8 @@ fn header(s: &[u8], from: usize) -> Walk
         return fluids;
     };
     let boundaries = halves(s, Half::ModelCount, Half::Fixed(0), at);
-    let Walk::At(at) = boundaries else {
-        return boundaries;
-    };
-    let min_pressure_iter = plain(s, 1, at);
-    let Walk::At(at) = min_pressure_iter else {
-        return min_pressure_iter;
-    };
-    let max_pressure_iter = plain(s, 1, at);
+    let min_pressure_iter = plain_on(s, 1, boundaries);
+    let max_pressure_iter = plain_on(s, 1, min_pressure_iter);
     let Walk::At(at) = max_pressure_iter else {
         return max_pressure_iter;
     };
@@ -81,29 +87,27 @@ fn contacts(s: &[u8], d: usize, n: usize, from: usize) -> Walk
     Walk::At(at)
 }
 
+// The contacts of a record, from where a walk has come to: they have d doubles each, and their count stands at an offset
+// in the record, which the walk has passed.
+fn contacts_on(s: &[u8], d: usize, from: usize, count: usize, w: Walk) -> Walk
+    requires { ⌜ ((e : ℕ) → w ≡ Walk.At e → from + count < length (now s)) ⌝ }
+    ensures { λ r. ⌜ r ≡ w ▹ times (byteAt (now (s .entry)) (from + count)) (walk.contact d (now (s .entry))) ⌝ }
+{
+    let Walk::At(at) = w else {
+        return w;
+    };
+    contacts(s, d, byte(s, from + count), at)
+}
+
 // A fluid particle.
 fn fluid_record(s: &[u8], from: usize) -> Walk
     ensures { λ r. ⌜ r ≡ walk.fluidRecord (now (s .entry)) from ⌝ }
 {
     let own = doubles(s, RECORD_DOUBLES, from);
-    let Walk::At(at) = own else {
-        return own;
-    };
-    let fluids = plain(s, 1, at);
-    let Walk::At(at) = fluids else {
-        return fluids;
-    };
-    let boundaries = plain(s, 1, at);
-    let Walk::At(at) = boundaries else {
-        return boundaries;
-    };
-    let n = byte(s, from + FLUID_CONTACTS);
-    let fluid_contacts = contacts(s, CONTACT_DOUBLES, n, at);
-    let Walk::At(at) = fluid_contacts else {
-        return fluid_contacts;
-    };
-    let n = byte(s, from + BOUNDARY_CONTACTS);
-    contacts(s, CONTACT_DOUBLES, n, at)
+    let fluids = plain_on(s, 1, own);
+    let boundaries = plain_on(s, 1, fluids);
+    let fluid_contacts = contacts_on(s, CONTACT_DOUBLES, from, FLUID_CONTACTS, boundaries);
+    contacts_on(s, CONTACT_DOUBLES, from, BOUNDARY_CONTACTS, fluid_contacts)
 }
 
 // A boundary particle, of a boundary that keeps forces if k is 1.
@@ -112,15 +116,9 @@ fn boundary_record(s: &[u8], k: usize, from: usize) -> Walk
     ensures { λ r. ⌜ r ≡ walk.boundaryRecord (now (s .entry)) k from ⌝ }
 {
     let own = doubles(s, AXES + AXES * k, from);
-    let Walk::At(at) = own else {
-        return own;
-    };
-    let boundaries = plain(s, 1, at);
-    let Walk::At(at) = boundaries else {
-        return boundaries;
-    };
+    let boundaries = plain_on(s, 1, own);
     let count = VECTOR_WIDTH + VECTOR_WIDTH * k;
-    contacts(s, BOUNDARY_CONTACT_DOUBLES, byte(s, from + count), at)
+    contacts_on(s, BOUNDARY_CONTACT_DOUBLES, from, count, boundaries)
 }
 
 // A record of the model whose head is at an offset.
@@ -196,19 +194,24 @@ fn models(s: &[u8], kind: Kind, n: usize, from: usize) -> Walk
     Walk::At(at)
 }
 
+// All models of a kind, from where a walk has come to, which has passed the header.
+fn models_on(s: &[u8], kind: Kind, w: Walk) -> Walk
+    requires { ⌜ ((e : ℕ) → w ≡ Walk.At e → minPressureIterOffset ≤ length (now s)) ⌝ }
+    ensures { λ r. ⌜ r ≡ w ▹ walk.modelsOf kind (now (s .entry)) ⌝ }
+{
+    let Walk::At(at) = w else {
+        return w;
+    };
+    models(s, kind, model_number(s, kind), at)
+}
+
 // All fields.
 pub fn fields(s: &[u8]) -> Walk
     ensures { λ r. ⌜ r ≡ walk.fields (now (s .entry)) ⌝ }
 {
     let first = header(s, 0);
-    let Walk::At(at) = first else {
-        return first;
-    };
-    let fluids = models(s, Kind::Fluid, model_number(s, Kind::Fluid), at);
-    let Walk::At(at) = fluids else {
-        return fluids;
-    };
-    let boundaries = models(s, Kind::Boundary, model_number(s, Kind::Boundary), at);
+    let fluids = models_on(s, Kind::Fluid, first);
+    let boundaries = models_on(s, Kind::Boundary, fluids);
     let Walk::At(at) = boundaries else {
         return boundaries;
     };

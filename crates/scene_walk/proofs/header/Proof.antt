@@ -13,53 +13,30 @@ returns c = let q = c .enum-told .given .1 in rw (sym (c .before .before .halves
 returns-2 : tie.Need-returns-2
 unfolding header _▹_
 returns-2 c =
-    let r = c .before .before in
-    let p₁ = r .before .before in
+    let m = c .before .before in
+    let b = m .before .before in
+    let f = b .before .before in
     let q = c .enum-told2 .given .1 in
-    rw (sym (p₁ .before .before .halves .ensures) ∙ p₁ .fluids .given .1, sym (r .halves2 .ensures) ∙ q) q
+    rw (
+      sym (f .before .before .halves .ensures) ∙ f .fluids .given .1,
+      ← b .halves2 .ensures,
+      ← m .before .plain-on .ensures,
+      ← m .plain-on2 .ensures,
+      q,
+    )
 
 returns-3 : tie.Need-returns-3
 unfolding header _▹_
 returns-3 c =
-    let r = c .before .before in
-    let p₂ = r .before .before in
-    let p₁ = p₂ .before .before .before .before in
-    let q = c .enum-told3 .given .1 in
+    let p = c .before .before in
+    let m = p .before .before in
+    let b = m .before .before in
+    let f = b .before .before in
     rw (
-      sym (p₁ .before .before .halves .ensures) ∙ p₁ .fluids .given .1,
-      sym (p₂ .before .before .halves2 .ensures) ∙ p₂ .boundaries .given .1,
-      sym (r .plain .ensures) ∙ q,
-    )
-    q
-
-returns-4 : tie.Need-returns-4
-unfolding header _▹_
-returns-4 c =
-    let r = c .before .before in
-    let p₃ = r .before .before in
-    let p₂ = p₃ .before .before .before .before in
-    let p₁ = p₂ .before .before .before .before in
-    let q = c .enum-told4 .given .1 in
-    rw (
-      sym (p₁ .before .before .halves .ensures) ∙ p₁ .fluids .given .1,
-      sym (p₂ .before .before .halves2 .ensures) ∙ p₂ .boundaries .given .1,
-      sym (p₃ .before .before .plain .ensures) ∙ p₃ .min-pressure-iter .given .1,
-      sym (r .plain2 .ensures) ∙ q,
-    )
-    q
-
-returns-5 : tie.Need-returns-5
-unfolding header _▹_
-returns-5 c =
-    let p₄ = c .before .before in
-    let p₃ = p₄ .before .before .before .before in
-    let p₂ = p₃ .before .before .before .before in
-    let p₁ = p₂ .before .before .before .before in
-    rw (
-      sym (p₁ .before .before .halves .ensures) ∙ p₁ .fluids .given .1,
-      sym (p₂ .before .before .halves2 .ensures) ∙ p₂ .boundaries .given .1,
-      sym (p₃ .before .before .plain .ensures) ∙ p₃ .min-pressure-iter .given .1,
-      sym (p₄ .before .before .plain2 .ensures) ∙ p₄ .max-pressure-iter .given .1,
+      sym (f .before .before .halves .ensures) ∙ f .fluids .given .1,
+      ← b .halves2 .ensures,
+      ← m .before .plain-on .ensures,
+      sym (m .plain-on2 .ensures) ∙ p .max-pressure-iter .given .1,
     )
     (c .doubles .ensures)
 
@@ -72,16 +49,10 @@ header-spec =
     (λ c. search needs)
     returns
     (λ c κs. search needs)
+    (λ c κs. search needs)
+    (λ c κs. search needs)
     (λ c. search needs)
     (λ c. search needs)
     returns-2
     (λ c κs. search needs)
-    (λ c. search needs)
-    (λ c. search needs)
-    returns-3
-    (λ c κs. search needs)
-    (λ c. search needs)
-    (λ c. search needs)
-    returns-4
-    (λ c κs. search needs)
-    returns-5)
+    returns-3)
