@@ -58,11 +58,13 @@ number-few (refusal.ZeroPredictedDensity at) = omega arith
 
 module _ (b : List ℕ) (answers work numbers : List Float) (counts : List ℕ) where
   -- 99
-  unchanged : hasRoom numbers counts ≡ false → StepsTo (hasRoom numbers counts) b answers work numbers counts tooShort answers work numbers counts
+  unchanged : hasRoom numbers counts ≡ false
+      → StepsTo (hasRoom numbers counts) b answers work numbers counts tooShort answers work numbers counts
   unfolding choose
   unchanged h = record { result = rw h; answersThen = rw h; workThen = rw h; numbersThen = rw h; countsThen = rw h }
 
-  pub numbers-short : length numbers < numbersNeeded → StepsTo (hasRoom numbers counts) b answers work numbers counts tooShort answers work numbers counts
+  pub numbers-short : length numbers < numbersNeeded
+      → StepsTo (hasRoom numbers counts) b answers work numbers counts tooShort answers work numbers counts
   unfolding hasRoom
   numbers-short h = unchanged (rw (lt-leb numbersNeeded (length numbers) h))
 

@@ -1,8 +1,8 @@
--- What `iisph_step_keeping` comes to: its `clock` is too short, or as the number that `iisph_step` returned tells, done or
--- not. Assumes nothing.
+-- What `iisph_step_keeping` comes to: its `clock` is too short; or the step is done, or it is not, as the number tells
+-- that `iisph_step` returned. Assumes nothing.
 use Prim.Native.Nat.{ℕ, _<_, _≤_}
 use mathlib.Core.Path.{_≡_, refl, ap, _∙_}
-use mathlib.Core.Bool.{Bool, true, false, _&&_}
+use mathlib.Core.Bool.{Bool, true, false}
 use mathlib.Core.List.{List, [], _∷_}
 use native.Mathlib.Omega.{arith}
 use lib.Ieee.{Float}
@@ -70,7 +70,8 @@ module _ (b : List ℕ) (clock answers work numbers : List Float) (counts : List
       (s : StepsTo (hasRoom numbers counts) b answers work numbers counts n answers′ work′ numbers′ counts′) where
     -- as `iisph_step`, with this clock list
     keeps : {clock′ : List Float}
-        → clock′ ≡ choose (hasRoom numbers counts) (clockListAfter (stepAnswer b (length answers) (length work)) clock) clock
+        → clock′
+        ≡ choose (hasRoom numbers counts) (clockListAfter (stepAnswer b (length answers) (length work)) clock) clock
         → KeepsTo b clock answers work numbers counts n clock′ answers′ work′ numbers′ counts′
     unfolding keepsRoom
     keeps e = let t = le-leb clockNeeded (length clock) room in record { steps = rw t s; clockThen = rw t e }
@@ -81,5 +82,6 @@ module _ (b : List ℕ) (clock answers work numbers : List Float) (counts : List
     done-kept l e f =
         keeps (f ∙ ap (λ (c : Clock). sets clock 0 (clockNumbers c)) e ∙ moved clock _ _ (s .result) l)
 
-    pub not-done-kept : tooShort ≤ n → KeepsTo b clock answers work numbers counts n clock answers′ work′ numbers′ counts′
+    pub not-done-kept : tooShort ≤ n
+        → KeepsTo b clock answers work numbers counts n clock answers′ work′ numbers′ counts′
     not-done-kept l = keeps (stayed clock _ _ (s .result) l room)

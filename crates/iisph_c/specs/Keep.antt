@@ -1,5 +1,5 @@
--- What `iisph_step_keeping` returns, and every element of its five lists afterwards: as of `iisph_step`, and the clock that
--- its caller keeps. Definitions only.
+-- What `iisph_step_keeping` returns, and every element of its five lists afterwards: as of `iisph_step`, and the clock
+-- that its caller keeps. Definitions only.
 use Prim.Native.Nat.{ℕ}
 use mathlib.Core.Path.{_≡_}
 use mathlib.Core.Bool.{Bool, _&&_}

@@ -46,8 +46,8 @@ numbersNeeded = 4
 unfoldable pub hasRoom : List Float → List ℕ → Bool
 hasRoom numbers counts = leb numbersNeeded (length numbers) && countsRoom counts
 
--- where there is room for what is written of every answer, of the bytes b and the four lists: the result r, and the lists
--- afterwards
+-- by whether there is room for what is written of every answer, of the bytes b and the four lists: the result r, and
+-- the lists afterwards
 pub record StepsTo (room : Bool) (b : List ℕ) (answers work numbers : List Float) (counts : List ℕ) (r : ℕ)
     (answers′ work′ numbers′ : List Float) (counts′ : List ℕ) : Type 0 where
   pub result : r ≡ choose room (stepCode (stepAnswer b (length answers) (length work))) tooShort

@@ -79,7 +79,8 @@ pub fn write_report(report: Report, numbers: &mut [f64], counts: &mut [u64]) -> 
 pub fn advance_listed(clock: &mut [f64]) -> Clock
     requires { ⌜ clockNeeded ≤ length (now clock) ⌝ }
     ensures { λ c. ⌜
-        (c ≡ advanced (clockOf (now (clock .entry)))) × (now (clock .exit) ≡ sets (now (clock .entry)) 0 (clockNumbers c))
+        (c ≡ advanced (clockOf (now (clock .entry))))
+        × (now (clock .exit) ≡ sets (now (clock .entry)) 0 (clockNumbers c))
         ⌝ }
 {
     let moved = advance(Clock {

@@ -1,5 +1,4 @@
 -- A step for callers that keep a clock: what becomes of the clock that they lend. Definitions only.
-use mathlib.Core.Bool.{Bool}
 use Rattle.timestep_manager.specs.declared.Clock.{Clock}
 use Rattle.timestep_manager.specs.Clock.{advanced}
 use Rattle.iisph_rules.specs.declared.StepAnswer.{StepAnswer}

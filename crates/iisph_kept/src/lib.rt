@@ -8,6 +8,7 @@ ghost use Rattle.iisph_rules.specs.Answer.{isDone};
 ghost use Rattle.iisph_solver.specs.Step.{Steps};
 ghost use Rattle.iisph_kept.specs.Kept.{clockAfter};
 
+// Whether a step was done.
 fn is_done(answer: StepAnswer) -> bool
     ensures { λ r. ⌜ r ≡ isDone answer ⌝ }
 {
@@ -17,7 +18,8 @@ fn is_done(answer: StepAnswer) -> bool
     }
 }
 
-// A step, and the lent clock moved on in the place where its caller keeps it, if the step is done.
+// A step, over the one without a clock: where it is done the lent clock is moved on in the place where its caller keeps
+// it, and where it is refused the clock is as it was. The report's own clock is made from the scene's header.
 pub fn step_keeping(
     scene: &[u8],
     clock: &mut Clock,

@@ -1,18 +1,18 @@
--- `cases_clock::step_lending` meets its contract: a walk of its MIR, by hand. The clock is copied into a local, which is
--- lent to `step_keeping` for a lifetime that the walk makes; once that is over it comes back at the last value that
--- `step_keeping` says. The scene and the two lists go to it for good. Assumes nothing.
+-- `cases_clock::step_lending` meets its contract: a walk of its MIR, by hand. The clock is copied into a local, which
+-- is lent to `step_keeping` for a lifetime that the walk makes; once that is over, the local is back at the last value
+-- that `step_keeping` says. The scene and the two lists go to it for good. Assumes nothing.
 use Rattle.hand_proofs.proofs.Names.{_≡_, refl, ap, _∙_, ℕ, List, [], _∷_, Holds, Float, length, URA, fullShare, named}
-use Rattle.hand_proofs.proofs.Names.{Val, WT, hasTy, vptr, SProp, ent, sep, id⊢, GName, Lft, Share, Fml, ftrue, flft}
-use Rattle.hand_proofs.proofs.Names.{fat, Memory, Routine, Heap, Calls, Loops, WpFn, Tables, Atoms, Fun, factI, givenOf}
-use Rattle.hand_proofs.proofs.Names.{tables, tablesOf, Given, Item, ‵, raw, _⊛_, ⋆, _$_, _∵_, !, qed, by, move, keep}
-use Rattle.hand_proofs.proofs.Names.{drop, use1, use2, split, join, fsplit, fsplit3, fjoin, feqL, suffices, frame, done}
+use Rattle.hand_proofs.proofs.Names.{Val, WT, hasTy, vptr, SProp, ent, id⊢, GName, Lft, Share, Fml, ftrue, flft, fat}
+use Rattle.hand_proofs.proofs.Names.{Memory, Routine, Heap, Calls, Loops, WpFn, Tables, Atoms, Fun, factI, givenOf}
+use Rattle.hand_proofs.proofs.Names.{tables, tablesOf, Given, ‵, raw, _⊛_, ⋆, _$_, _∵_, !, qed, by, move, keep, drop}
+use Rattle.hand_proofs.proofs.Names.{use1, use2, split, join, fsplit, fsplit3, fjoin, feqL, suffices, frame, done}
 use Rattle.hand_proofs.proofs.Names.{whole, sub, look-in, agg, look, init, forget, stop, hop, fld, from, load, addr}
 use Rattle.hand_proofs.proofs.Names.{of-opd, and-then, no-more, assigns, land, returns, enter, alloc1, alloc0, params1}
 use Rattle.hand_proofs.proofs.Names.{pass1, pass0, free1, free0, Body, FmC, fmOf, owns, Is, shows, mem, u8, f64, RefT}
 use Rattle.hand_proofs.proofs.Names.{MutRef, now, plain, shrSliceOf, sliceVal, ShrSlice, slice-vals, shr-slice-tells}
-use Rattle.hand_proofs.proofs.Names.{shr-slice-lawful, MutSlice, mut-slice-tells, owned, peeks, nothing, Contract, Triple}
-use Rattle.hand_proofs.proofs.Names.{calls-at, onEntry, Meets, tripleOf, entered, cited, says, Stays, stay-dropped}
-use Rattle.hand_proofs.proofs.Names.{gave-slice, walkOf, goes-dropped, goes-gave-slice, ends-at, yes}
+use Rattle.hand_proofs.proofs.Names.{shr-slice-lawful, MutSlice, mut-slice-tells, owned, peeks, nothing, Contract}
+use Rattle.hand_proofs.proofs.Names.{Triple, calls-at, onEntry, Meets, tripleOf, entered, cited, says, Stays}
+use Rattle.hand_proofs.proofs.Names.{stay-dropped, gave-slice, walkOf, goes-dropped, goes-gave-slice, ends-at, yes}
 use base.Fml.{feq, fsep, flent}
 use types.Kit.{some, later, use3, await, pick}
 use types.Tokens.{lft-new, lft-end}
@@ -151,8 +151,8 @@ module _ {M : Type 1} (𝓤 : URA M) (H : Heap 𝓤) (A : Atoms 𝓤) (W : Given
   typed c v is = L.lawful T.the-type T′.the-laws 𝓤 H A W .typed c _ is .0
 
   walk : (C : Calls 𝓤 H) (Λ : Loops 𝓤 H) → FmC 𝓤 H (W .laws) C → Triple 𝓤 (C #keeping) Keep
-      → Is (ShrSlice (named 0) κ₀ u8) s (s′ ∷ []) → Is T.the-row h (h′ ∷ []) → Is (MutSlice (named 1) κ₁ f64) a (a′ ∷ [])
-      → Is (MutSlice (named 2) κ₂ f64) w (w′ ∷ [])
+      → Is (ShrSlice (named 0) κ₀ u8) s (s′ ∷ []) → Is T.the-row h (h′ ∷ [])
+      → Is (MutSlice (named 1) κ₁ f64) a (a′ ∷ []) → Is (MutSlice (named 2) κ₂ f64) w (w′ ∷ [])
       → ent 𝓤 Entry (WpFn 𝓤 H C Λ code.function (s′ ∷ h′ ∷ a′ ∷ w′ ∷ []) Post)
   walk C Λ fm known is-s is-h is-a is-w =
       qed W (raw Entry ∷ []) ∵ enter ! C Λ code.function (s′ ∷ h′ ∷ a′ ∷ w′ ∷ []) _ $
@@ -163,16 +163,17 @@ module _ {M : Type 1} (𝓤 : URA M) (H : Heap 𝓤) (A : Atoms 𝓤) (W : Given
       pass1 ! (init ! 18 refl (typed h h′ is-h)) $
       pass1 ! (init ! 16 refl (tt, (tt, (record { fits = is-a .0 .1 .0 }, tt)))) $
       pass1 ! (init ! 14 refl (tt, (tt, (record { fits = is-w .0 .1 .0 }, tt)))) $ pass0 ! $
-      assigns ! (of-opd ! (load ! (from ! (stop !)) (look ! 18 refl))) (from ! (stop !)) (init ! 12 refl (typed h h′ is-h)) $
+      assigns ! (of-opd ! (load ! (from ! (stop !)) (look ! 18 refl))) (from ! (stop !))
+      (init ! 12 refl (typed h h′ is-h)) $
       assigns ! (addr ! (from ! (stop !))) (from ! (stop !)) (init ! 8 refl (tt, tt)) $
       -- either list is lent on: its pointer, and the slice of it
-      assigns ! (addr ! (from ! (fld ! refl (hop ! (look-in ! 16 (sub ! 0 refl (whole !))) (stop !))))) (from ! (stop !))
-      (init ! 6 refl (tt, tt)) $
+      assigns ! (addr ! (from ! (fld ! refl (hop ! (look-in ! 16 (sub ! 0 refl (whole !))) (stop !)))))
+      (from ! (stop !)) (init ! 6 refl (tt, tt)) $
       assigns ! (agg ! (and-then ! (load ! (from ! (stop !)) (look ! 6 refl))
       (and-then ! (load ! (from ! (fld ! refl (stop !))) (look-in ! 16 (sub ! 1 refl (whole !)))) (no-more !))))
       (from ! (stop !)) (init ! 4 refl (tt, (tt, (record { fits = is-a .0 .1 .0 }, tt)))) $
-      assigns ! (addr ! (from ! (fld ! refl (hop ! (look-in ! 14 (sub ! 0 refl (whole !))) (stop !))))) (from ! (stop !))
-      (init ! 2 refl (tt, tt)) $
+      assigns ! (addr ! (from ! (fld ! refl (hop ! (look-in ! 14 (sub ! 0 refl (whole !))) (stop !)))))
+      (from ! (stop !)) (init ! 2 refl (tt, tt)) $
       assigns ! (agg ! (and-then ! (load ! (from ! (stop !)) (look ! 2 refl))
       (and-then ! (load ! (from ! (fld ! refl (stop !))) (look-in ! 14 (sub ! 1 refl (whole !)))) (no-more !))))
       (from ! (stop !)) (init ! 0 refl (tt, (tt, (record { fits = is-w .0 .1 .0 }, tt)))) $
@@ -184,8 +185,8 @@ module _ {M : Type 1} (𝓤 : URA M) (H : Heap 𝓤) (A : Atoms 𝓤) (W : Given
       use1 W (later (some (λ (δ : GName). ‵ (Lent l₅ α δ) ⊛ ‵ (flent (α ∷ []) (Body (mem T.the-row) l₅ 0 δ)))))
       (lends-ref 𝓤 H A W T.the-row (named 1) (α ∷ []) h l₅ 0) $ await ! tt $ pick ! (λ δ. split ! $
       move ! (26 ∷ 2 ∷ 0 ∷ []) $ use3 W (raw (Keep .pre (to-keep l₅ α δ))) (asked l₅ α δ) $
-      -- [what `step_keeping` asks; the lender's part; _11; …]: the cell of _5 is away, locals 6 to 11 stand at 24 - 2 * i,
-      -- and 0 to 4 at 23 - 2 * i
+      -- [what `step_keeping` asks; the lender's part; _11; …]: the cell of _5 is away, locals 6 to 11 stand at
+      -- 24 - 2 * i, and 0 to 4 at 23 - 2 * i
       calls-at ! fm Keep known (to-keep l₅ α δ) (and-then ! (load ! (from ! (stop !)) (look ! 21 refl))
       (and-then ! (load ! (from ! (stop !)) (look ! 10 refl)) (and-then ! (load ! (from ! (stop !)) (look ! 6 refl))
       (and-then ! (load ! (from ! (stop !)) (look ! 2 refl)) (no-more !))))) (λ u.
@@ -198,7 +199,8 @@ module _ {M : Type 1} (𝓤 : URA M) (H : Heap 𝓤) (A : Atoms 𝓤) (W : Given
       split ! $ move ! (1 ∷ []) $ split ! $ lft-end ! tt $ move ! (3 ∷ []) $ fsplit3 ! $ move ! (3 ∷ 6 ∷ 1 ∷ []) $
       use3 W (later (‵ (mem T.the-row .lies (ws .1 .0) l₅ 0))) (ref-back 𝓤 H A W T.the-row (α ∷ []) δ (ws .1 .0) l₅ 0) $
       await ! tt $
-      use1 W (some (λ (v : Val). ‵ (fat fullShare (lone (T.the-row .mir)) l₅ 0 v) ⊛ ‵ (T.the-row .own (ws .1 .0) (v ∷ []))))
+      use1 W (some (λ (v : Val).
+      ‵ (fat fullShare (lone (T.the-row .mir)) l₅ 0 v) ⊛ ‵ (T.the-row .own (ws .1 .0) (v ∷ []))))
       (part-out 𝓤 H A W T.the-row refl fullShare (ws .1 .0) l₅ 0) $ pick ! (λ v. split ! $ move ! (1 ∷ []) $
       peeks ! T.the-row (Is T.the-row) (shows 𝓤 H A T.the-row) (ws .1 .0) (v ∷ []) (λ is-c.
       -- [what the clock owns; _5; true; the last lists; the tokens of the lists; the scene's; _11; …]

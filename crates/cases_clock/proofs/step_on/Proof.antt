@@ -2,12 +2,12 @@
 -- the step left. Assumes nothing.
 use mathlib.Core.Path.{_∙_}
 use borrow.Author.Needs.{needs}
-use Rattle.cases_clock.specs.Kept.{FromScene}
 use Rattle.cases_clock.proofs.step_on.Statement.{statement}
 use Rattle.cases_clock.proofs.step_on.Tie as tie
 
 returns : tie.Need-returns
-returns c = record { scene = _; clock = c .print-clock .ensures ∙ c .before .before .before .step-lending .ensures .clock }
+returns c =
+    record { scene = _; clock = c .print-clock .ensures ∙ c .before .before .before .step-lending .ensures .clock }
 
 pub step-on-spec : {M : Type 1} → statement M
 step-on-spec =

@@ -1,5 +1,5 @@
--- `iisph_c::iisph_step_keeping` meets its contract: by the length of `clock`, then by the number that `iisph_step` returned.
--- Assumes nothing.
+-- `iisph_c::iisph_step_keeping` meets its contract: by the length of `clock`, then by the number that `iisph_step`
+-- returned. Assumes nothing.
 use native.Mathlib.Omega.{arith}
 use Rattle.iisph_c.proofs.Kept.{clock-short, done-kept, not-done-kept}
 use borrow.Author.Needs.{needs}

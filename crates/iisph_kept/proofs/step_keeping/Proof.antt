@@ -2,25 +2,24 @@
 -- for good: what it says of their last values is said here. Where the answer is done the clock goes to
 -- `advance_in_place` for good; where it is refused, it is given up as it stands. All that the proof knows of the three
 -- functions is that each meets its contract. Assumes nothing.
-use Rattle.hand_proofs.proofs.Names.{_≡_, refl, ap, subst, _∙_, ℕ, List, [], _∷_, Holds, Float, length, URA, fullShare}
-use Rattle.hand_proofs.proofs.Names.{named, Val, WT, hasTy, vptr, SProp, ent, sep, id⊢, GName, Lft, Share, ftrue, flft}
-use Rattle.hand_proofs.proofs.Names.{fat, fres, Memory, Routine, Heap, Env, Calls, Loops, WpFn, Tables, Atoms, Fun}
-use Rattle.hand_proofs.proofs.Names.{factI, givenOf, tables, tablesOf, Given, Item, ‵, raw, _⊛_, ⋆, mean, atRet, _$_, _∵_}
-use Rattle.hand_proofs.proofs.Names.{ !, qed, by, move, keep, drop, use1, split, join, rewrite, fsplit, fsplit3, fjoin}
+use Rattle.hand_proofs.proofs.Names.{_≡_, refl, ap, _∙_, ℕ, List, [], _∷_, Holds, Float, length, URA, fullShare, named}
+use Rattle.hand_proofs.proofs.Names.{Val, WT, hasTy, vptr, SProp, ent, sep, id⊢, GName, Lft, Share, ftrue, flft, fat}
+use Rattle.hand_proofs.proofs.Names.{fres, Memory, Routine, Heap, Env, Calls, Loops, WpFn, Tables, Atoms, Fun, factI}
+use Rattle.hand_proofs.proofs.Names.{givenOf, tables, tablesOf, Given, Item, ‵, raw, _⊛_, ⋆, mean, atRet, _$_, _∵_, ! }
+use Rattle.hand_proofs.proofs.Names.{qed, by, move, keep, drop, use1, split, join, rewrite, fsplit, fsplit3, fjoin}
 use Rattle.hand_proofs.proofs.Names.{feqL, suffices, frame, done, whole, sub, look-in, agg, look, init, stop, hop, fld}
 use Rattle.hand_proofs.proofs.Names.{from, load, addr, of-opd, and-then, no-more, assigns, land, land-last, first}
-use Rattle.hand_proofs.proofs.Names.{branches, skips, exec, returns, enter, alloc1, alloc0, params1, pass1, pass0, free1}
-use Rattle.hand_proofs.proofs.Names.{free0, FmC, fmOf, owns, Is, u8, f64, RefT, MutRef, now, ptr-vals, mut-tells, plain}
-use Rattle.hand_proofs.proofs.Names.{shrSliceOf, sliceVal, ShrSlice, slice-vals, shr-slice-tells, shr-slice-lawful}
-use Rattle.hand_proofs.proofs.Names.{MutSlice, mut-slice-tells, only, owned, nothing, Contract, Triple, calls-at}
-use Rattle.hand_proofs.proofs.Names.{calls-at-last, lasts, onEntry, Meets, tripleOf, entered, cited, says, Stays}
-use Rattle.hand_proofs.proofs.Names.{stay-dropped, gave-ref, gave-slice, walkOf, goes-dropped, goes-gave-ref}
-use Rattle.hand_proofs.proofs.Names.{goes-gave-slice, ends-at, yes}
-use mathlib.Core.Bool.{Bool, not}
-use mir.Syntax.{Local, local, tyBool}
+use Rattle.hand_proofs.proofs.Names.{branches, skips, exec, returns, enter, alloc1, alloc0, params1, pass1, pass0}
+use Rattle.hand_proofs.proofs.Names.{free1, free0, FmC, fmOf, owns, Is, u8, f64, RefT, MutRef, now, ptr-vals, mut-tells}
+use Rattle.hand_proofs.proofs.Names.{plain, shrSliceOf, sliceVal, ShrSlice, slice-vals, shr-slice-tells}
+use Rattle.hand_proofs.proofs.Names.{shr-slice-lawful, MutSlice, mut-slice-tells, only, owned, nothing, Contract}
+use Rattle.hand_proofs.proofs.Names.{Triple, calls-at, calls-at-last, lasts, onEntry, Meets, tripleOf, entered, cited}
+use Rattle.hand_proofs.proofs.Names.{says, Stays, stay-dropped, gave-ref, gave-slice, walkOf, goes-dropped}
+use Rattle.hand_proofs.proofs.Names.{goes-gave-ref, goes-gave-slice, ends-at, yes}
+use mir.Syntax.{tyBool}
 use denote.Plain.{bool-lawful, nothing-lawful}
 use denote.Enum.Laws as LL
-use Rattle.hand_proofs.proofs.Walk.{Of, answered, gives-back, meets-by}
+use Rattle.hand_proofs.proofs.Walk.{Of, answered, env, gives-back, meets-by}
 use Rattle.timestep_manager.specs.declared.Clock.{Clock}
 use Rattle.timestep_manager.specs.Clock.{advanced}
 use Rattle.timestep_manager.proofs.Clock as T
@@ -30,7 +29,6 @@ use Rattle.timestep_manager.proofs.advance_in_place.Symbol.{name as #moves}
 use Rattle.timestep_manager.proofs.advance_in_place.Met as moves-thm
 use Rattle.iisph_rules.specs.Answer.{isDone}
 use Rattle.iisph_rules.specs.declared.StepAnswer.{StepAnswer}
-use Rattle.iisph_rules.specs.declared.StepAnswer.the-variants.{Done, Refused}
 use Rattle.iisph_rules.proofs.StepAnswer as S
 use Rattle.iisph_rules.proofs.StepAnswer.Laws as S′
 use Rattle.iisph_solver.specs.Step.{Steps}
@@ -39,6 +37,7 @@ use Rattle.iisph_solver.proofs.step.step.Symbol as steps-def
 use Rattle.iisph_solver.proofs.step.step.Symbol.{name as #steps}
 use Rattle.iisph_solver.proofs.step.step.Met as steps-thm
 use Rattle.iisph_kept.specs.Kept.{clockAfter}
+use Rattle.iisph_kept.proofs.Clocks.{moved, kept}
 use Rattle.iisph_kept.proofs.is_done as tests
 use Rattle.iisph_kept.proofs.is_done.Symbol as tests-def
 use Rattle.iisph_kept.proofs.is_done.Symbol.{name as #tests}
@@ -57,23 +56,6 @@ stayed = (
     (gave-slice (2 ∷ []) tt (plain (λ _. f64)), (gave-slice (3 ∷ []) tt (plain (λ _. f64)), tt)),
   ),
 )
-
--- the clock at exit, by how the test of the answer came out
-moved : (r : StepAnswer) (h : Clock) {z : Bool} → z ≡ isDone r → Holds z → advanced h ≡ clockAfter r h
-unfolding isDone clockAfter
-moved (Done r) h e z = refl
-moved (Refused r) h e z = absurd (subst Holds e z)
-
-kept : (r : StepAnswer) (h : Clock) {z : Bool} → z ≡ isDone r → Holds (not z) → h ≡ clockAfter r h
-unfolding isDone clockAfter
-kept (Done r) h e z = absurd (subst (λ (t : Bool). Holds (not t)) e z)
-kept (Refused r) h e z = refl
-
--- a body's locals, each with its block
-abbrev env : {M : Type 1} (𝓤 : URA M) (H : Heap 𝓤) → List Local → List ℕ → Env 𝓤 H
-env 𝓤 H [] ls = []
-env 𝓤 H (local τ home ∷ locals) [] = []
-env 𝓤 H (local τ home ∷ locals) (l ∷ ls) = (τ, l) ∷ env 𝓤 H locals ls
 
 module _ {M : Type 1} (𝓤 : URA M) (H : Heap 𝓤) (A : Atoms 𝓤) (W : Given 𝓤 H A) (at-mem : Memory → SProp 𝓤)
     (run : Routine → Fun 𝓤) (κ₀ κ₁ κ₂ κ₃ : Lft) (q₀ q₁ q₂ q₃ : Share)
@@ -146,8 +128,8 @@ module _ {M : Type 1} (𝓤 : URA M) (H : Heap 𝓤) (A : Atoms 𝓤) (W : Given
   parts : ent 𝓤 Entry (sep 𝓤 (Step .pre to-step) (Move .pre to-move))
   parts =
       qed W ((‵ (flft κ₀ q₀) ⊛ ‵ (flft κ₁ q₁) ⊛ ‵ (flft κ₂ q₂) ⊛ ‵ (flft κ₃ q₃) ⊛ ‵ ftrue) ∷ ‵ (owns
-      (ShrSlice (named 0) κ₀ u8 ∷ MutRef (named 1) κ₁ T.the-row ∷ MutSlice (named 2) κ₂ f64 ∷ MutSlice (named 3) κ₃ f64 ∷ [])
-      (bound .0 .3) (bound .0 .4)) ∷ []) ∵
+      (ShrSlice (named 0) κ₀ u8 ∷ MutRef (named 1) κ₁ T.the-row ∷ MutSlice (named 2) κ₂ f64 ∷ MutSlice (named 3) κ₃ f64
+      ∷ []) (bound .0 .3) (bound .0 .4)) ∷ []) ∵
       split ! $ move ! (1 ∷ []) $ split ! $ move ! (2 ∷ 1 ∷ []) $ join ! $
       -- [the tokens of `step`; the clock's; what is owned]
       move ! (2 ∷ []) $ fsplit3 ! $ move ! (0 ∷ 2 ∷ []) $ fjoin ! $ move ! (2 ∷ 0 ∷ []) $ join ! $ nothing ! $
@@ -186,8 +168,8 @@ module _ {M : Type 1} (𝓤 : URA M) (H : Heap 𝓤) (A : Atoms 𝓤) (W : Given
   typed r v is = LL.lawful S.the-type S′.the-laws 𝓤 H A W tt .typed r _ is .0
 
   walk : (C : Calls 𝓤 H) (Λ : Loops 𝓤 H) → FmC 𝓤 H (W .laws) C → Triple 𝓤 (C #steps) Step → Triple 𝓤 (C #tests) Test
-      → Triple 𝓤 (C #moves) Move → Is (ShrSlice (named 0) κ₀ u8) s (s′ ∷ []) → Is (MutSlice (named 2) κ₂ f64) a (a′ ∷ [])
-      → Is (MutSlice (named 3) κ₃ f64) w (w′ ∷ [])
+      → Triple 𝓤 (C #moves) Move → Is (ShrSlice (named 0) κ₀ u8) s (s′ ∷ [])
+      → Is (MutSlice (named 2) κ₂ f64) a (a′ ∷ []) → Is (MutSlice (named 3) κ₃ f64) w (w′ ∷ [])
       → ent 𝓤 Entry (WpFn 𝓤 H C Λ code.function (s′ ∷ vptr b o ∷ a′ ∷ w′ ∷ []) Post)
   walk C Λ fm steps-known tests-known moves-known is-s is-a is-w =
       qed W (raw Entry ∷ []) ∵ enter ! C Λ code.function (s′ ∷ vptr b o ∷ a′ ∷ w′ ∷ []) _ $
@@ -202,13 +184,13 @@ module _ {M : Type 1} (𝓤 : URA M) (H : Heap 𝓤) (A : Atoms 𝓤) (W : Given
       pass1 ! (init ! 18 refl (tt, (tt, (record { fits = is-a .0 .1 .0 }, tt)))) $
       pass1 ! (init ! 16 refl (tt, (tt, (record { fits = is-w .0 .1 .0 }, tt)))) $ pass0 ! $
       -- either list is lent on: its pointer, and the slice of it
-      assigns ! (addr ! (from ! (fld ! refl (hop ! (look-in ! 18 (sub ! 0 refl (whole !))) (stop !))))) (from ! (stop !))
-      (init ! 12 refl (tt, tt)) $
+      assigns ! (addr ! (from ! (fld ! refl (hop ! (look-in ! 18 (sub ! 0 refl (whole !))) (stop !)))))
+      (from ! (stop !)) (init ! 12 refl (tt, tt)) $
       assigns ! (agg ! (and-then ! (load ! (from ! (stop !)) (look ! 12 refl))
       (and-then ! (load ! (from ! (fld ! refl (stop !))) (look-in ! 18 (sub ! 1 refl (whole !)))) (no-more !))))
       (from ! (stop !)) (init ! 10 refl (tt, (tt, (record { fits = is-a .0 .1 .0 }, tt)))) $
-      assigns ! (addr ! (from ! (fld ! refl (hop ! (look-in ! 16 (sub ! 0 refl (whole !))) (stop !))))) (from ! (stop !))
-      (init ! 8 refl (tt, tt)) $
+      assigns ! (addr ! (from ! (fld ! refl (hop ! (look-in ! 16 (sub ! 0 refl (whole !))) (stop !)))))
+      (from ! (stop !)) (init ! 8 refl (tt, tt)) $
       assigns ! (agg ! (and-then ! (load ! (from ! (stop !)) (look ! 8 refl))
       (and-then ! (load ! (from ! (fld ! refl (stop !))) (look-in ! 16 (sub ! 1 refl (whole !)))) (no-more !))))
       (from ! (stop !)) (init ! 6 refl (tt, (tt, (record { fits = is-w .0 .1 .0 }, tt)))) $
@@ -231,8 +213,8 @@ module _ {M : Type 1} (𝓤 : URA M) (H : Heap 𝓤) (A : Atoms 𝓤) (W : Given
       rewrite ! 7 (λ (x : Val). ‵ (fat fullShare tyBool l₁₀ 0 x)) (ap only isz) refl $
       first ! $ branches ! (load ! (from ! (stop !)) (look ! 7 refl))
       -- done: the clock is lent on
-      (λ held. assigns ! (addr ! (from ! (hop ! (look ! 23 refl) (stop !)))) (from ! (stop !)) (init ! 3 refl (tt, tt)) $
-      move ! (2 ∷ []) $
+      (λ held. assigns ! (addr ! (from ! (hop ! (look ! 23 refl) (stop !)))) (from ! (stop !))
+      (init ! 3 refl (tt, tt)) $ move ! (2 ∷ []) $
       calls-at-last ! fm Move moves-known to-move (and-then ! (load ! (from ! (stop !)) (look ! 3 refl)) (no-more !))
       (λ x. answered ! tt moves.ended (moves.clauses 𝓤 H A at-mem run) to-move x (λ _ cs. cs .0 ≡ advanced h)
       (λ _ cs. id⊢ 𝓤 _) (λ n cs ec isn. drop ! $
@@ -240,7 +222,8 @@ module _ {M : Type 1} (𝓤 : URA M) (H : Heap 𝓤) (A : Atoms 𝓤) (W : Given
       -- local i stands at 28 - 2 * i
       land-last ! (from ! (stop !)) (init ! 6 refl (nothing-lawful 𝓤 H A W .typed n _ isn .0)) $
       exec ! C Λ E body.t-8 (atRet E Post) $
-      assigns ! (of-opd ! (load ! (from ! (stop !)) (look ! 18 refl))) (from ! (stop !)) (init ! 28 refl (typed r v is)) $
+      assigns ! (of-opd ! (load ! (from ! (stop !)) (look ! 18 refl))) (from ! (stop !))
+      (init ! 28 refl (typed r v is)) $
       returns ! (look ! 28 refl) $
       gives-back ! 28 refl refl $ gives-back ! 26 refl refl $ gives-back ! 24 refl refl $ gives-back ! 22 refl refl $
       gives-back ! 20 refl refl $ gives-back ! 18 refl refl $ gives-back ! 16 refl refl $ gives-back ! 14 refl refl $
@@ -250,7 +233,8 @@ module _ {M : Type 1} (𝓤 : URA M) (H : Heap 𝓤) (A : Atoms 𝓤) (W : Given
       -- refused: nothing was stored in _11 and _12
       (λ failed. move ! (2 ∷ []) $ use1 W (Token ⊛ LastClock h) as-it-was $ split ! $
       skips ! $ exec ! C Λ E body.t-8 (atRet E Post) $
-      assigns ! (of-opd ! (load ! (from ! (stop !)) (look ! 18 refl))) (from ! (stop !)) (init ! 28 refl (typed r v is)) $
+      assigns ! (of-opd ! (load ! (from ! (stop !)) (look ! 18 refl))) (from ! (stop !))
+      (init ! 28 refl (typed r v is)) $
       returns ! (look ! 28 refl) $
       gives-back ! 28 refl refl $ gives-back ! 26 refl refl $ gives-back ! 24 refl refl $ gives-back ! 22 refl refl $
       gives-back ! 20 refl refl $ gives-back ! 18 refl refl $ gives-back ! 16 refl refl $ gives-back ! 14 refl refl $

@@ -1,5 +1,5 @@
--- `iisph_c::write::advance_listed` meets its contract: four loads and four stores, in the order of the definition. Assumes
--- nothing.
+-- `iisph_c::write::advance_listed` meets its contract: four loads and four stores, in the order of the definition.
+-- Assumes nothing.
 use mathlib.Core.Path.{refl}
 use native.Mathlib.Omega.{arith}
 use lib.ListN.{length-set}
