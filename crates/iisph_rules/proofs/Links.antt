@@ -14,16 +14,7 @@ use Rattle.scene_format.specs.SceneOf.{targetAt, contactAt, contactList, fluidP
 use Rattle.scene_format.specs.declared.Kind.{Kind}
 use Rattle.scene_format.specs.declared.Kind.the-variants.{Fluid, Boundary}
 use Rattle.scene_layout.proofs.Locations.{particle-at, particle-beyond}
-use Rattle.iisph_rules.specs.Locality.{contactsWith, Names}
-
--- the record of fluid particle i is there, and one of its contacts with particles of a kind names particle j: the start
--- of the model that stands there plus the number that stands there is j
-pub record Written (κ : Kind) (b : List ℕ) (i j : ℕ) : Type 0 where
-  pub there : i < fluidSize (sceneOf b)
-  pub contact : ℕ
-  pub listed : contact < contactCount κ b (locationOf Fluid b i .at)
-  pub target : targetAt (startsOf κ b) b (contactsStart κ b (locationOf Fluid b i .at) + contactWidth axes * contact)
-      ≡ j
+use Rattle.iisph_rules.specs.Locality.{contactsWith, Names, Written, NamesAreWritten}
 
 module _ (b : List ℕ) where
   recorded : ℕ → FluidParticle
@@ -44,7 +35,7 @@ module _ (b : List ℕ) where
   none Fluid = refl
   none Boundary = refl
 
-  pub names-written : (κ : Kind) (i j : ℕ) → Names κ (sceneOf b) i j → Written κ b i j
+  names-written : (κ : Kind) (i j : ℕ) → Names κ (sceneOf b) i j → Written κ b i j
   unfolding recorded listedAt contactList contactAt
   names-written κ i j n = go (ltb i (fluidSize (sceneOf b))) refl
     where
@@ -63,7 +54,7 @@ module _ (b : List ℕ) where
           let e = ap (contactsWith κ) (particle-beyond (sceneOf b) i (ltb-false _ _ q)) ∙ none κ in
           absurd (List·Memᴰ·not-nil (subst (List·Memᴰ (n .contact)) e (n .listed)))
 
-  pub written-names : (κ : Kind) (i j : ℕ) → Written κ b i j → Names κ (sceneOf b) i j
+  written-names : (κ : Kind) (i j : ℕ) → Written κ b i j → Names κ (sceneOf b) i j
   unfolding recorded listedAt contactList contactAt
   written-names κ i j w =
       let at = locationOf Fluid b i .at in
@@ -73,3 +64,6 @@ module _ (b : List ℕ) where
         listed = subst (List·Memᴰ _) (sym e) (table-in _ _ (w .contact) (w .listed));
         target = w .target;
       }
+
+pub names-are-written : NamesAreWritten
+names-are-written b κ i j = (names-written b κ i j, written-names b κ i j)
