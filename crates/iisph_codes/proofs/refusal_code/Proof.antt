@@ -1,8 +1,8 @@
--- `iisph_c::write::refusal_code` meets its contract: by the two refusals. Assumes nothing.
+-- `iisph_codes::refusal_code` meets its contract: by the two refusals. Assumes nothing.
 use borrow.Author.Needs.{needs}
-use Rattle.iisph_c.specs.Kernel.{refusalCode}
-use Rattle.iisph_c.proofs.write.refusal_code.Statement.{statement}
-use Rattle.iisph_c.proofs.write.refusal_code.Tie as tie
+use Rattle.iisph_codes.specs.Kernel.{refusalCode}
+use Rattle.iisph_codes.proofs.refusal_code.Statement.{statement}
+use Rattle.iisph_codes.proofs.refusal_code.Tie as tie
 
 returns : tie.Need-returns
 unfolding refusalCode

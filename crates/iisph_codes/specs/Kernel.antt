@@ -10,7 +10,7 @@ use Rattle.cubic_spline.specs.Answer.{number, kernelAnswer}
 use Rattle.cubic_spline.specs.declared.KernelAnswer.{KernelAnswer}
 use Rattle.cubic_spline.specs.declared.KernelRefusal.{KernelRefusal}
 use Rattle.cubic_spline.specs.declared.KernelAnswer.the-variants.{Value, Refused}
-use Rattle.iisph_c.specs.Numbers.{tooShort, refusedBy}
+use Rattle.iisph_codes.specs.Numbers.{tooShort, refusedBy}
 
 unfoldable pub refusalCode : KernelRefusal → ℕ
 refusalCode k = refusedBy (number k)

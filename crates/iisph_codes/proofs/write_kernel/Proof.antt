@@ -1,10 +1,10 @@
--- `iisph_c::write::write_kernel` meets its contract: by the list's length and the kernel's answer. Assumes nothing.
+-- `iisph_codes::write_kernel` meets its contract: by the list's length and the kernel's answer. Assumes nothing.
 use mathlib.Core.Path.{refl}
 use native.Mathlib.Omega.{arith}
 use borrow.Author.Needs.{needs}
-use Rattle.iisph_c.proofs.Calls.{out-empty, value-given, refusal-given}
-use Rattle.iisph_c.proofs.write.write_kernel.Statement.{statement}
-use Rattle.iisph_c.proofs.write.write_kernel.Tie as tie
+use Rattle.iisph_codes.proofs.Kernel.{out-empty, value-given, refusal-given}
+use Rattle.iisph_codes.proofs.write_kernel.Statement.{statement}
+use Rattle.iisph_codes.proofs.write_kernel.Tie as tie
 
 returns : tie.Need-returns
 returns c = out-empty _ _ (omega (arith, c .if1 .taken))

@@ -1,8 +1,8 @@
--- `iisph_c::write::write_lengths` meets its contract: two stores, in the order of the definition. Assumes nothing.
+-- `iisph_codes::write_lengths` meets its contract: two stores, in the order of the definition. Assumes nothing.
 use mathlib.Core.Path.{refl}
 use borrow.Author.Needs.{needs}
-use Rattle.iisph_c.proofs.write.write_lengths.Statement.{statement}
-use Rattle.iisph_c.proofs.write.write_lengths.Tie as tie
+use Rattle.iisph_codes.proofs.write_lengths.Statement.{statement}
+use Rattle.iisph_codes.proofs.write_lengths.Tie as tie
 
 returns : tie.Need-returns
 returns c = (refl, refl)

@@ -1,11 +1,11 @@
--- `iisph_c::write::write_refusal` meets its contract: one store; a refusal's number is small. Assumes nothing.
+-- `iisph_codes::write_refusal` meets its contract: one store; a refusal's number is small. Assumes nothing.
 use Prim.Native.Nat.{ℕ, _+_, _≤_}
 use mathlib.Core.Path.{ap}
 use native.Mathlib.Omega.{arith}
 use borrow.Author.Needs.{needs}
-use Rattle.iisph_c.proofs.Calls.{number-few}
-use Rattle.iisph_c.proofs.write.write_refusal.Statement.{statement}
-use Rattle.iisph_c.proofs.write.write_refusal.Tie as tie
+use Rattle.iisph_codes.proofs.Refusals.{number-few}
+use Rattle.iisph_codes.proofs.write_refusal.Statement.{statement}
+use Rattle.iisph_codes.proofs.write_refusal.Tie as tie
 
 add-result : tie.Need-add-result
 add-result c = let few : c .number .result

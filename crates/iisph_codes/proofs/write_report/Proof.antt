@@ -1,12 +1,12 @@
--- `iisph_c::write::write_report` meets its contract: five stores, in the order of the definition. Assumes nothing.
+-- `iisph_codes::write_report` meets its contract: five stores, in the order of the definition. Assumes nothing.
 use mathlib.Core.Path.{refl}
 use native.Mathlib.Omega.{arith}
 use lib.ListN.{length-set}
 use Rattle.iisph_rules.specs.Endings.{toldOf}
-use Rattle.iisph_c.specs.Step.{reportNumbers}
+use Rattle.iisph_codes.specs.Report.{reportNumbers}
 use borrow.Author.Needs.{needs}
-use Rattle.iisph_c.proofs.write.write_report.Statement.{statement}
-use Rattle.iisph_c.proofs.write.write_report.Tie as tie
+use Rattle.iisph_codes.proofs.write_report.Statement.{statement}
+use Rattle.iisph_codes.proofs.write_report.Tie as tie
 
 slice-write-numbers-2 : tie.Need-slice-write-numbers-2
 slice-write-numbers-2 c = simp length-set (omega arith)

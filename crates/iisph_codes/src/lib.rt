@@ -1,4 +1,5 @@
-// What the C interface writes, and the number that it returns with it.
+// What the C interface writes of an answer, and the number that it returns with it. What is public here is for the crate
+// of that interface, which shows what each function asks: the lent lists have room.
 use cubic_spline::KernelAnswer;
 use cubic_spline::KernelRefusal;
 use iisph_rules::Report;
@@ -11,9 +12,9 @@ ghost use Prim.Native.Nat.{_≤_};
 ghost use lib.ListN.{length, set};
 ghost use lib.Seq.{sets};
 ghost use Rattle.iisph_rules.specs.Endings.{endingNumber};
-ghost use Rattle.iisph_c.specs.Numbers.{countsNeeded, refusedCode, refusedCounts};
-ghost use Rattle.iisph_c.specs.Step.{numbersNeeded, reportNumbers};
-ghost use Rattle.iisph_c.specs.Kernel.{refusalCode, Gives};
+ghost use Rattle.iisph_codes.specs.Numbers.{countsNeeded, refusedCode, refusedCounts};
+ghost use Rattle.iisph_codes.specs.Report.{numbersNeeded, reportNumbers};
+ghost use Rattle.iisph_codes.specs.Kernel.{refusalCode, Gives};
 
 // What a call returns that a list is too short for.
 pub const TOO_SHORT: u64 = 99;
