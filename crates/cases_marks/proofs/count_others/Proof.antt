@@ -1,4 +1,4 @@
--- `cases_short_lists::count_others` meets its contract: after i turns the count is that of the first i elements, and at
+-- `cases_marks::count_others` meets its contract: after i turns the count is that of the first i elements, and at
 -- most i. Assumes nothing.
 use Prim.Native.Nat.{_-_, _≤_}
 use mathlib.Core.Path.{_≡_, refl, ap, _∙_}
@@ -7,9 +7,9 @@ use native.Mathlib.Omega.{arith}
 use denote.Ref.{now}
 use lib.ListN.{length}
 use borrow.Author.Needs.{needs}
-use Rattle.cases_short_lists.specs.Marks.{others}
-use Rattle.cases_short_lists.proofs.count_others.Statement.{statement}
-use Rattle.cases_short_lists.proofs.count_others.Tie as tie
+use Rattle.cases_marks.specs.Marks.{others}
+use Rattle.cases_marks.proofs.count_others.Statement.{statement}
+use Rattle.cases_marks.proofs.count_others.Tie as tie
 
 abbrev Inv-loop : tie.InvT-loop
 Inv-loop list n₀ i₀ n i = (n ≡ others list i) × (n ≤ i) × (i ≤ length list)

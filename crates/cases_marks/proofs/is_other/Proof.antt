@@ -1,11 +1,11 @@
--- `cases_short_lists::is_other` meets its contract: by the test. Assumes nothing.
+-- `cases_marks::is_other` meets its contract: by the test. Assumes nothing.
 use native.Mathlib.Omega.{arith}
 use borrow.Author.Needs.{needs}
 use borrow.Author.Tests.{eq-eqb, ne-eqb}
 use Rattle.lists.specs.Lists.{choose}
-use Rattle.cases_short_lists.specs.Marks.{other}
-use Rattle.cases_short_lists.proofs.is_other.Statement.{statement}
-use Rattle.cases_short_lists.proofs.is_other.Tie as tie
+use Rattle.cases_marks.specs.Marks.{other}
+use Rattle.cases_marks.proofs.is_other.Statement.{statement}
+use Rattle.cases_marks.proofs.is_other.Tie as tie
 
 returns : tie.Need-returns
 unfolding other choose

@@ -1,10 +1,10 @@
--- `iisph_text::run` meets its contract: by its two tests. Assumes nothing.
+-- `iisph_run::run` meets its contract: by its two tests. Assumes nothing.
 use native.Mathlib.Omega.{arith}
 use Rattle.iisph_text.specs.Text.{tooLong}
 use Rattle.iisph_text.proofs.Ran.{no-room, too-long}
 use borrow.Author.Needs.{needs}
-use Rattle.iisph_text.proofs.run.Statement.{statement}
-use Rattle.iisph_text.proofs.run.Tie as tie
+use Rattle.iisph_run.proofs.run.Statement.{statement}
+use Rattle.iisph_run.proofs.run.Tie as tie
 
 returns : tie.Need-returns
 returns c = no-room (c .if1 .taken)

@@ -1,13 +1,13 @@
--- `iisph_text::text` meets its contract: both lists are long enough. Assumes nothing.
+-- `iisph_run::text` meets its contract: both lists are long enough. Assumes nothing.
 use Prim.Native.Nat.{ℕ, _≤_}
 use native.Mathlib.Omega.{arith}
 use lib.ListN.{length, replicate, length-replicate}
 use Rattle.math.specs.Real.{+0}
 use Rattle.iisph_text.specs.Run.{enoughAnswers, enoughWork}
 use Rattle.iisph_text.proofs.Ran.{text-written}
 use borrow.Author.Needs.{needs}
-use Rattle.iisph_text.proofs.text.Statement.{statement}
-use Rattle.iisph_text.proofs.text.Tie as tie
+use Rattle.iisph_run.proofs.text.Statement.{statement}
+use Rattle.iisph_run.proofs.text.Tie as tie
 
 long : (n : ℕ) → n ≤ length (replicate n +0)
 long n = omega (arith, length-replicate n +0)
