@@ -1,5 +1,3 @@
-pub mod Numbers
 pub mod Step
 pub mod Needs
 pub mod Validate
-pub mod Kernel

@@ -1,22 +1,20 @@
 // The C interface (include/iisph.h). A slice is a pointer and a length.
-mod write;
-
-use crate::write::COUNTS;
-use crate::write::NUMBERS;
-use crate::write::TOO_SHORT;
-use crate::write::write_kernel;
-use crate::write::write_lengths;
-use crate::write::write_refusal;
-use crate::write::write_report;
+use iisph_codes::COUNTS;
+use iisph_codes::NUMBERS;
+use iisph_codes::TOO_SHORT;
+use iisph_codes::write_kernel;
+use iisph_codes::write_lengths;
+use iisph_codes::write_refusal;
+use iisph_codes::write_report;
 use iisph_preparation::Readiness;
 use iisph_rules::StepAnswer;
 use scene_lengths::Needs;
 use scene_lengths::lengths_needed;
 ghost use Rattle.cubic_spline.specs.Shape.{weight, slope};
+ghost use Rattle.iisph_codes.specs.Kernel.{KernelTo};
 ghost use Rattle.iisph_c.specs.Step.{StepsTo};
 ghost use Rattle.iisph_c.specs.Needs.{NeedsTo};
 ghost use Rattle.iisph_c.specs.Validate.{ValidatesTo};
-ghost use Rattle.iisph_c.specs.Kernel.{KernelTo};
 
 // One step: 0 unswept, 1 settled, 2 ran out, 100 + n for refusal n, 99 where `numbers` or `counts` is too short. Takes
 // up to 1 MiB of stack.
