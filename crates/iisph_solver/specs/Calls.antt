@@ -1,6 +1,6 @@
--- What is claimed of calls of `step`, each claim as one type: that they answer just the accepted scenes, and locality of
--- two of them (METHOD 8). The claims on the rules stand in iisph_rules/specs/Locality.antt; proofs/TwoSteps.antt proves
--- these from them. Definitions only.
+-- What is claimed of calls of `step`, each claim as one type: that they answer just the accepted scenes, and locality
+-- of two of them (METHOD 8). The claims on the rules stand in iisph_rules/specs/Locality.antt; proofs/TwoSteps.antt
+-- proves these from them. Definitions only.
 use Prim.Native.Nat.{ℕ, _+_, _<_, _≤_}
 use mathlib.Core.Path.{_≡_}
 use mathlib.Core.List.{List, _++_}

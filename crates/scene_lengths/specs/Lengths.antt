@@ -63,7 +63,8 @@ needsAfter b (walk.Refused r) = Refused r
 unfoldable pub needsOf : List ℕ → Needs
 needsOf b = needsAfter b (checked b)
 
--- ---- scaffolding for the code: models of a kind, by whether each keeps forces and how many particles each has, as a layout lists them
+-- ---- scaffolding for the code: models of a kind, by whether each keeps forces and how many particles each has, as a
+-- ---- layout lists them
 
 -- the width of model m's particles, and the answers of the models before it
 abbrev pub widthIn : Kind → List ℕ → ℕ → ℕ
