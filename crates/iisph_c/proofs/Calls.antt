@@ -1,6 +1,6 @@
 -- What the C interface's calls come to, case by case: lists that are too short, done, or refused. Each case unfolds the
 -- call's definitions once. Assumes nothing.
-use Prim.Native.Nat.{ℕ, _+_, _<_, _≤_}
+use Prim.Native.Nat.{ℕ, _<_, _≤_}
 use mathlib.Core.Path.{_≡_, refl, sym, ap, _∙_}
 use mathlib.Core.Bool.{true, false}
 use mathlib.Core.List.{List, [], _∷_}

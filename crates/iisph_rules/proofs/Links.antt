@@ -1,7 +1,7 @@
 -- A link is what the record's bytes say: fluid particle i of a packed scene names j just where one of the contacts in
 -- its record does, by model and number. The scene's lists of contacts are tables over the record's, and a particle past
 -- the end has none. Assumes nothing.
-use Prim.Native.Nat.{ℕ, _+_, _*_, _<_}
+use Prim.Native.Nat.{ℕ, _+_, _*_}
 use mathlib.Core.Path.{_≡_, refl, sym, ap, subst, _∙_}
 use mathlib.Core.Bool.{Bool, true, false}
 use mathlib.Core.List.{List, [], List·Memᴰ, List·Memᴰ·not-nil}
@@ -10,7 +10,7 @@ use borrow.Author.Tests.{ltb-true, ltb-false}
 use Rattle.lists.proofs.Lists.{in-table, table-in}
 use Rattle.scene_format.specs.Format.{axes, contactWidth, contactCount, contactsStart, startsOf, locationOf}
 use Rattle.scene_format.specs.Scene.{Contact, FluidParticle, noFluidParticle, fluidSize}
-use Rattle.scene_format.specs.SceneOf.{targetAt, contactAt, contactList, fluidParticleAt, sceneOf}
+use Rattle.scene_format.specs.SceneOf.{contactAt, contactList, fluidParticleAt, sceneOf}
 use Rattle.scene_format.specs.declared.Kind.{Kind}
 use Rattle.scene_format.specs.declared.Kind.the-variants.{Fluid, Boundary}
 use Rattle.scene_layout.proofs.Locations.{particle-at, particle-beyond}

@@ -44,7 +44,7 @@ use Rattle.iisph_passes.specs.Traverse.{slotOf, rowOf}
 use Rattle.iisph_iterations.specs.declared.«pressure_solve».Solved.{Solved}
 use Rattle.iisph_passes.specs.declared.traverse.Pass.the-variants.{Shares}
 use Rattle.iisph_iterations.proofs.Iterated.{again-ready, again-pressures, drop-times}
-use Rattle.scene_lengths.proofs.Needed.{work-needed, answers-needed, boundaries-total}
+use Rattle.scene_lengths.proofs.Needed.{work-needed, answers-needed}
 use Rattle.iisph_passes.proofs.Passes.{pass-rows, pass-drop}
 use Rattle.lists.proofs.RowParts.{rows-same}
 use Rattle.iisph_passes.proofs.Traversal.{pressures-kept, iteration-same}
