@@ -39,11 +39,13 @@ use Rattle.iisph_c.specs.Validate.{validateCode, validateCounts, Validat
 
 module _ (b : List ℕ) (answers work numbers : List Float) (counts : List ℕ) where
   -- 99
-  unchanged : hasRoom numbers counts ≡ false → StepsTo b answers work numbers counts tooShort answers work numbers counts
+  unchanged : hasRoom numbers counts ≡ false
+      → StepsTo b answers work numbers counts tooShort answers work numbers counts
   unfolding choose
   unchanged h = record { result = rw h; answersThen = rw h; workThen = rw h; numbersThen = rw h; countsThen = rw h }
 
-  pub numbers-short : length numbers < numbersNeeded → StepsTo b answers work numbers counts tooShort answers work numbers counts
+  pub numbers-short : length numbers < numbersNeeded
+      → StepsTo b answers work numbers counts tooShort answers work numbers counts
   unfolding hasRoom
   numbers-short h = unchanged (rw (lt-leb numbersNeeded (length numbers) h))
 
@@ -93,7 +95,8 @@ module _ (b : List ℕ) (answers work numbers : List Float) (counts : List ℕ) 
 -- ---- whether a step would be refused
 
 module _ (a : StepAnswer) where
-  ready-code : readiness.Ready ≡ readiness a → (0 ≡ validateCode a) × ((counts : List ℕ) → counts ≡ validateCounts a counts)
+  ready-code : readiness.Ready ≡ readiness a
+      → (0 ≡ validateCode a) × ((counts : List ℕ) → counts ≡ validateCounts a counts)
   unfolding readiness validateCode validateCounts
   ready-code q = go a q
     where

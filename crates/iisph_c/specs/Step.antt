@@ -10,7 +10,6 @@ use lib.Seq.{sets}
 use Rattle.lists.specs.Lists.{choose}
 use Rattle.iisph_rules.specs.Answer.{stepAnswer, answersAfter, workAfter}
 use Rattle.iisph_rules.specs.Endings.{endingNumber}
-use Rattle.iisph_rules.specs.declared.Report.{Report}
 use Rattle.iisph_rules.specs.declared.StepAnswer.{StepAnswer}
 use Rattle.iisph_rules.specs.declared.StepAnswer.the-variants.{Done, Refused}
 use Rattle.iisph_codes.specs.Numbers.{tooShort, refusedCode, countsRoom, refusedCounts}

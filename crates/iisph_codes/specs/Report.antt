@@ -12,5 +12,6 @@ numbersNeeded = 4
 -- the first four of `numbers`: the ending's error, +0 where it carries none, then the clock's dt, inv_dt and
 -- remaining time
 unfoldable pub reportNumbers : Report → List Float
-reportNumbers r = let clock = r .clock in endingError (r .ending) ∷ clock .dt ∷ clock .«inv_dt» ∷ clock .«remaining_time» ∷
-    []
+reportNumbers r =
+    let clock = r .clock in
+    endingError (r .ending) ∷ clock .dt ∷ clock .«inv_dt» ∷ clock .«remaining_time» ∷ []

@@ -1,5 +1,5 @@
-// What the C interface writes of an answer, and the number that it returns with it. What is public here is for the crate
-// of that interface, which shows what each function asks: the lent lists have room.
+// What the C interface writes of an answer, and the number that it returns with it. What is public here is for the
+// crate of that interface, which shows what each function asks: the lent lists have room.
 use cubic_spline::KernelAnswer;
 use cubic_spline::KernelRefusal;
 use iisph_rules::Report;
@@ -54,7 +54,8 @@ pub fn write_lengths(lengths: Lengths, counts: &mut [u64]) -> u64
 pub fn write_report(report: Report, numbers: &mut [f64], counts: &mut [u64]) -> u64
     requires { ⌜ (numbersNeeded ≤ length (now numbers)) × (countsNeeded ≤ length (now counts)) ⌝ }
     ensures { λ n. ⌜
-        (n ≡ endingNumber (report .ending)) × (now (numbers .exit) ≡ sets (now (numbers .entry)) 0 (reportNumbers report))
+        (n ≡ endingNumber (report .ending))
+        × (now (numbers .exit) ≡ sets (now (numbers .entry)) 0 (reportNumbers report))
         × (now (counts .exit) ≡ set (now (counts .entry)) 0 (report .iterations))
         ⌝ }
 {
