@@ -57,7 +57,8 @@ pub extern "C" fn iisph_needed(scene: &[u8], counts: &mut [u64]) -> u64
     }
 }
 
-// Whether a step with a long enough answer list would be refused: 0, or as there. Takes up to 1 MiB of stack.
+// Whether a step with a long enough answer list would be refused: 0 if not, 100 + n or 99 as there. Takes up to 1 MiB
+// of stack.
 #[no_mangle]
 pub extern "C" fn iisph_validate(scene: &[u8], work: &mut [f64], counts: &mut [u64]) -> u64
     ensures { λ r. ⌜

@@ -39,7 +39,11 @@ module _ (e : Ending) {t : Told} (q : t ≡ toldOf e) where
   pub unswept-text : (n : ℕ) → t .number ≡ 0 → endingWord (t .number) ++ decimalOf n ≡ endingText n e
   unfolding endingText flatten
   unswept-text n h =
-      rw (no-values e (sym number-told ∙ h), number-told, append-nil (endingWord (endingNumber e) ++ decimalOf n))
+      rw (
+        no-values e (sym number-told ∙ h),
+        number-told,
+        append-nil (endingWord (endingNumber e) ++ decimalOf n),
+      )
 
   pub swept-text : (n : ℕ) → (t .number ≡ 0 → ⊥)
       → endingWord (t .number) ++ decimalOf n ++ doubleText (t .error) ≡ endingText n e
