@@ -25,15 +25,18 @@ MACROS = "lib.rs", "macro_rules! par_iter {\n", "pub mod counters;\n"
 EDITS = [
     ("solver/pressure/iisph_solver.rs", "warm pressures go in and pressures come out; what is shown of the iterations",
      "    pressures: Vec<Vec<Real>>,\n    next_pressures: Vec<Vec<Real>>,\n",
-     "    pub pressures: Vec<Vec<Real>>,\n    pub iterations: usize,\n    pub last_error: Option<Real>,\n    pub settled: bool,\n    pub minus_zero: bool,\n"
+     "    pub pressures: Vec<Vec<Real>>,\n    pub iterations: usize,\n    pub last_error: Option<Real>,\n"
+     "    pub settled: bool,\n    pub minus_zero: bool,\n"
      "    next_pressures: Vec<Vec<Real>>,\n"),
     ("solver/pressure/iisph_solver.rs", "their values before a step",
      "            pressures: Vec::new(),\n            next_pressures: Vec::new(),\n",
-     "            pressures: Vec::new(),\n            iterations: 0,\n            last_error: None,\n            settled: false,\n            minus_zero: false,\n"
+     "            pressures: Vec::new(),\n            iterations: 0,\n            last_error: None,\n"
+     "            settled: false,\n            minus_zero: false,\n"
      "            next_pressures: Vec::new(),\n"),
     ("solver/pressure/iisph_solver.rs", "the iterations carried out, and the last error",
      "            std::mem::swap(&mut self.pressures, &mut self.next_pressures);\n",
-     "            std::mem::swap(&mut self.pressures, &mut self.next_pressures);\n            self.iterations = i + 1;\n            self.last_error = Some(avg_err);\n"),
+     "            std::mem::swap(&mut self.pressures, &mut self.next_pressures);\n"
+     "            self.iterations = i + 1;\n            self.last_error = Some(avg_err);\n"),
     ("solver/pressure/iisph_solver.rs", "that the early end was taken",
      "                break;\n",
      "                self.settled = true;\n                break;\n"),
@@ -43,11 +46,13 @@ EDITS = [
     ("solver/pressure/iisph_solver.rs", "refusal 9",
      "                    assert!(!density.is_zero());\n",
      "                    if density.is_zero() {\n"
-     "                        std::panic::panic_any(crate::ZeroDensity { number: 9, fluid: fluid_id, particle: i });\n                    }\n"),
+     "                        std::panic::panic_any(crate::ZeroDensity { number: 9, fluid: fluid_id, particle: i });\n"
+     "                    }\n"),
     ("solver/pressure/iisph_solver.rs", "refusal 10",
      "                    assert!(!predicted_density.is_zero());\n",
      "                    if predicted_density.is_zero() {\n"
-     "                        std::panic::panic_any(crate::ZeroDensity { number: 10, fluid: fluid_id, particle: i });\n                    }\n"),
+     "                        std::panic::panic_any(crate::ZeroDensity { number: 10, fluid: fluid_id, particle: i "
+     "});\n                    }\n"),
     ("timestep_manager.rs", "the remaining time goes in beside the step length, and comes out",
      "    remaining_time: Real,\n",
      "    pub remaining_time: Real,\n"),
@@ -60,7 +65,8 @@ class Stop(Exception):
 
 def place(name, text, piece):
     if text.count(piece) != 1:
-        raise Stop("%s: this text should be there once, but is there %d times, so nothing was written:\n%s" % (name, text.count(piece), piece))
+        raise Stop("%s: this text should be there once, but is there %d times, so nothing was written:\n%s"
+                   % (name, text.count(piece), piece))
     return text.index(piece)
 
 
@@ -71,7 +77,8 @@ def prepared(folder):
         try:
             read[name] = (folder / "src" / name).read_text(encoding="utf-8")
         except (OSError, UnicodeDecodeError) as e:
-            raise Stop("%s can't be read (%s); give the folder with the Rust text as an argument" % (folder / "src" / name, getattr(e, "strerror", None) or e))
+            raise Stop("%s can't be read (%s); give the folder with the Rust text as an argument"
+                       % (folder / "src" / name, getattr(e, "strerror", None) or e))
     lib = read.pop(MACROS[0])
     read["macros.rs"] = lib[place("lib.rs", lib, MACROS[1]):place("lib.rs", lib, MACROS[2])]
     for name, _, old, new in EDITS:
