@@ -353,7 +353,7 @@ def main():
     try:
         options.oracle, options.out = options.oracle.resolve(), options.out.resolve()
         if not options.oracle.is_file():
-            raise Stop("%s is not there: run oracle/prepare.py, then cargo build --release --offline in oracle/"
+            raise Stop("%s is not there: run oracle/prepare.py FOLDER, then cargo build --release --offline in oracle/"
                        % options.oracle)
         default = ROOT / "target/bin/cases_step"
         options.command = command_of(options.subject) if options.subject is not None else None

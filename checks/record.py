@@ -302,7 +302,7 @@ def main():
     try:
         oracle = options.oracle.resolve()
         if not oracle.is_file():
-            raise Stop("%s is not there: run oracle/prepare.py, then cargo build --release --offline in oracle/"
+            raise Stop("%s is not there: run oracle/prepare.py FOLDER, then cargo build --release --offline in oracle/"
                        % oracle)
         return check(oracle) if options.check else write(oracle)
     except (Stop, Failed) as e:

@@ -1,5 +1,5 @@
-"""How each program of tools/ and checks/ takes its arguments, what the two folders may share, and
-tools/run with a stand-in for rt."""
+"""How each program of tools/ and checks/ takes its arguments, what the two folders may share,
+oracle/prepare.py without a Rust text, and tools/run with a stand-in for rt."""
 import ast
 import contextlib
 import importlib
@@ -70,6 +70,18 @@ class Folders(unittest.TestCase):
             text = (ROOT / folder / "README.md").read_text()
             for path in paths:
                 self.assertIn("`%s`" % path.name, text)
+
+
+class Prepare(unittest.TestCase):
+    def test_it_needs_a_folder_with_the_rust_text(self):
+        with tempfile.TemporaryDirectory() as folder:
+            for arguments, piece in (([], "oracle/prepare.py FOLDER"), (["a", "b"], "oracle/prepare.py FOLDER"),
+                                     (["--nonsense"], "oracle/prepare.py FOLDER"),
+                                     ([folder], "give the folder with the Rust text")):
+                done = subprocess.run([sys.executable, "-B", ROOT / "oracle/prepare.py", *arguments],
+                                      capture_output=True, text=True, cwd=folder)
+                self.assertEqual((done.returncode, done.stdout, piece in done.stderr), (2, "", True), done.stderr)
+            self.assertEqual(os.listdir(folder), [])
 
 
 class Run(unittest.TestCase):
