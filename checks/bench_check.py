@@ -1,9 +1,12 @@
 #!/usr/bin/env python3
-"""Times the check of a packed scene of about 4.5 MB. A benchmark, not a test: it prints milliseconds and judges nothing.
+"""Times the check of a packed scene of about 4.5 MB. A benchmark, not a test: it prints
+milliseconds and judges nothing.
 
-  checks/bench_check.py          builds libiisph_c.a (rt staticlib iisph_c, which proves what changed), links it with cc and calls it
+  checks/bench_check.py    builds libiisph_c.a (rt staticlib iisph_c, which proves what changed),
+                           links it with cc and calls it
 
-`iisph_validate` with an empty work list is the check alone: the scene is accepted (1 to 7), and the list is too short (8).
+`iisph_validate` with an empty work list is the check alone: the scene is accepted (1 to 7), and the
+list is too short (8).
 """
 import argparse
 import ctypes
@@ -29,7 +32,8 @@ def library(folder):
     subprocess.run(["rt", "staticlib", "iisph_c"], cwd=ROOT, check=True, stdout=subprocess.DEVNULL)
     shared = str(pathlib.Path(folder) / "iisph.so")
     archive = str(ROOT / "target" / "staticlib" / "libiisph_c.a")
-    subprocess.run(["cc", "-shared", "-o", shared, "-Wl,--whole-archive", archive, "-Wl,--no-whole-archive"], check=True)
+    subprocess.run(["cc", "-shared", "-o", shared, "-Wl,--whole-archive", archive, "-Wl,--no-whole-archive"],
+                   check=True)
     return ctypes.CDLL(shared)
 
 

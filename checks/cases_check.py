@@ -1,7 +1,9 @@
 #!/usr/bin/env python3
-"""Writes crates/cases_check/data/scenes and crates/cases_check/stdout: packed scenes, and what their check must answer.
+"""Writes crates/cases_check/data/scenes and crates/cases_check/stdout: packed scenes, and what
+their check must answer.
 
-The answers come from `verdict`, a reader written from the specification alone: it knows nothing of the code or its definitions.
+The answers come from `verdict`, a reader written from the specification alone: it knows nothing of
+the code or its definitions.
 """
 import argparse
 import math
@@ -136,10 +138,12 @@ def near(model, particle):
     return contact(model, particle, 2.0)
 
 
-# an empty fluid, contacts with itself and repeated ones, an empty boundary, forces kept and not kept
+# An empty fluid, contacts with itself and repeated ones, an empty boundary, forces kept and not
+# kept.
 def rich(fluid_name=(1, 0), boundary_name=(2, 0), own_name=(0, 0)):
     return (header(2, 3) + fluid([]) + fluid([fluid_record([to(*fluid_name), to(1, 0)], [to(*boundary_name)])])
-            + boundary(1, [boundary_record(1, [near(*own_name), near(0, 0)])]) + boundary(0, []) + boundary(0, [boundary_record(0, [near(2, 0)])]))
+            + boundary(1, [boundary_record(1, [near(*own_name), near(0, 0)])]) + boundary(0, [])
+            + boundary(0, [boundary_record(0, [near(2, 0)])]))
 
 
 def changed(data, *bytes_at):

@@ -4,8 +4,9 @@
   checks/cases_clock.py          says whether the crate's files are what is worked out here (status 1 if not)
   checks/cases_clock.py --write  writes them
 
-The program keeps a clock over steps on the scenes below, in this order, with lists for two fluid particles, and writes the clock after each.
-Whether a step is done is what cases_step.py works out from the specification; the clock is moved on here, in floats, by METHOD 2.
+The program keeps a clock over steps on the scenes below, in this order, with lists for two fluid particles, and writes
+the clock after each. Whether a step is done is what cases_step.py works out from the specification; the clock is moved
+on here, in floats, by METHOD 2.
 """
 import argparse
 import pathlib
@@ -18,7 +19,7 @@ CRATE = pathlib.Path(__file__).resolve().parent.parent / "crates" / "cases_clock
 LISTS = {"answers": 14, "work": 28}
 # total_step_size, dt, inv_dt, remaining_time; dt and inv_dt tell whether a step was done
 CLOCKS = (0.1, 7.0, 7.0, 0.3), (-0.0, 7.0, 7.0, 1.0), (5e-324, 7.0, 7.0, -1.0)
-# cut and cut again: 1; idle, no contacts: 9; crowd, three particles: 8; the others are done, with step lengths of their own
+# cut: refused 1; idle, no contacts: 9; crowd, three particles: 8; the others are done, with step lengths of their own
 SCENES = {
     "cut": step.EMPTY[:51],
     "a": step.scene_a(),

@@ -4,9 +4,10 @@
   checks/cases_kernel.py          compares src/cases.rt and stdout with what is worked out here
   checks/cases_kernel.py --write  writes both
 
-Every result is worked out with exact fractions (fractions.Fraction) and rounded once per operation, to the nearest double, ties to even, by `rounded`
-below; zeros, infinities and not-a-numbers follow IEEE 754's rules, spelled out here. No float of this language takes part in a result;
-afterwards the same formulas are run on floats and must agree.
+Every result is worked out with exact fractions (fractions.Fraction) and rounded once per operation,
+to the nearest double, ties to even, by `rounded` below; zeros, infinities and not-a-numbers follow
+IEEE 754's rules, spelled out here. No float of this language takes part in a result; afterwards the
+same formulas are run on floats and must agree.
 """
 import argparse
 import pathlib
@@ -170,10 +171,14 @@ def pairs():
     around = [b(x) + k for x in (0.5, 1.0) for k in (-1, 0, 1)] + [EPS + k for k in (-1, 0, 1)]
     shapes = [0, SIGN, b(0.25), b(0.75), b(0.125), b(2.0)] + around
     cases = [(r, ONE) for r in shapes]
-    cases += [(b(r), b(h)) for r, h in [(1.0, 2.0), (1.5, 2.0), (0.3, 0.7), (0.1, 0.3), (2.0, 3.0), (0.01, 0.02), (7.0, 7.0), (3.0, 10.0)]]
-    cases += [(1, ONE), (1, 1), (0x000FFFFFFFFFFFFF, ONE), (b(1e-310), b(3e-310)), (b(1e-200), b(2e-200)), (b(1e-105), b(1.5e-105))]
-    cases += [(b(1e200), b(2e200)), (b(1.5e308), b(1.7e308)), (b(1.7e308), b(1e-300)), (b(1e100), b(3e102)), (b(1.0), b(1e103)), (0, b(1e-320))]
-    refused = [(b(-1.0), ONE), (SIGN | 1, ONE), (inf, ONE), (SIGN | inf, ONE), (nan, ONE), (other_nan, ONE), (b(-1.0), 0)]
+    cases += [(b(r), b(h)) for r, h in [(1.0, 2.0), (1.5, 2.0), (0.3, 0.7), (0.1, 0.3), (2.0, 3.0), (0.01, 0.02),
+                                        (7.0, 7.0), (3.0, 10.0)]]
+    cases += [(1, ONE), (1, 1), (0x000FFFFFFFFFFFFF, ONE), (b(1e-310), b(3e-310)), (b(1e-200), b(2e-200)),
+              (b(1e-105), b(1.5e-105))]
+    cases += [(b(1e200), b(2e200)), (b(1.5e308), b(1.7e308)), (b(1.7e308), b(1e-300)), (b(1e100), b(3e102)),
+              (b(1.0), b(1e103)), (0, b(1e-320))]
+    refused = [(b(-1.0), ONE), (SIGN | 1, ONE), (inf, ONE), (SIGN | inf, ONE), (nan, ONE), (other_nan, ONE),
+               (b(-1.0), 0)]
     refused += [(ONE, 0), (ONE, SIGN), (ONE, b(-2.0)), (ONE, inf), (ONE, SIGN | inf), (ONE, nan), (SIGN, SIGN | 1)]
     rng = random.Random(34)
     draw = [(rng.uniform(0, 1.2), rng.uniform(0.05, 1.5)) for _ in range(24)]
@@ -182,7 +187,8 @@ def pairs():
 
 def clocks():
     b = bits
-    return [(b(0.5), b(1.0)), (0, b(1.0)), (SIGN, b(1.0)), (SIGN, SIGN), (b(1.0), 0), (b(-0.25), b(0.1)), (b(0.1), b(0.3)), (b(3.0), b(1e16)), (1, 0), (1, 1),
+    return [(b(0.5), b(1.0)), (0, b(1.0)), (SIGN, b(1.0)), (SIGN, SIGN), (b(1.0), 0), (b(-0.25), b(0.1)),
+            (b(0.1), b(0.3)), (b(3.0), b(1e16)), (1, 0), (1, 1),
             (0x0010000000000000, b(1e-308)), (b(1.7e308), b(-1.7e308)), (0x7FD0000000000001, b(1e300))]
 
 
@@ -195,7 +201,9 @@ def as_float(b):
 def float_div(a, b):
     if b != 0:
         return a / b
-    return float("nan") if a == 0 or a != a else float("inf") * (1 if (a > 0) == (struct.pack(">d", b)[0] < 128) else -1)
+    if a == 0 or a != a:
+        return float("nan")
+    return float("inf") * (1 if (a > 0) == (struct.pack(">d", b)[0] < 128) else -1)
 
 
 def float_kernel(r, h):
@@ -225,7 +233,8 @@ def lines():
             out.append(f"{name} {hexed(r, h)} " + (f"refused {number}" if number else hexed(a)))
     for step, remaining in clocks():
         dt, inverse, left = advanced(step, remaining)
-        assert agrees(left, as_float(remaining) - as_float(step)) and (magnitude_zero(step) or agrees(inverse, float_div(1.0, as_float(step))))
+        assert agrees(left, as_float(remaining) - as_float(step))
+        assert magnitude_zero(step) or agrees(inverse, float_div(1.0, as_float(step)))
         out.append(f"clock {hexed(step, remaining)} {hexed(dt, inverse, left)}")
     return "".join(line + "\n" for line in out)
 

@@ -1,23 +1,31 @@
 #!/usr/bin/env python3
-"""Holds a program that answers packed scenes against the Rust's own step (oracle/), output for output.
+"""Holds a program that answers packed scenes against the Rust's own step (oracle/), output for
+output.
 
-  checks/compare.py [--scenes N] [--seed N] [--only CLASS] [--subject COMMAND | --reference] [--stdin] [--oracle FILE] [--out FILE] [--bytes N]
+  checks/compare.py [--scenes N] [--seed N] [--only CLASS] [--subject COMMAND | --reference]
+                    [--stdin] [--oracle FILE] [--out FILE] [--bytes N]
   checks/compare.py --kernel N [--seed N] [--subject COMMAND]
 
-  --scenes N        so many scenes, shared out over the classes of checks/made_scenes.py (15,000), after the cases of checks/cases_step.py
+  --scenes N        so many scenes, shared out over the classes of checks/made_scenes.py (15,000),
+                    after the cases of checks/cases_step.py
   --seed N          another seed gives other scenes (1)
-  --only CLASS      this class alone; `large` is there only so, and its scenes are then never `too long` to the oracle
-  --subject COMMAND the program to compare; it is run in a folder with the file `scenes` and prints the lines of all its scenes (target/bin/cases_step)
+  --only CLASS      this class alone; `large` is there only so, and its scenes are then never
+                    `too long` to the oracle
+  --subject COMMAND the program to compare; it is run in a folder with the file `scenes` and prints
+                    the lines of all its scenes (target/bin/cases_step)
   --reference       compare checks/cases_step.py instead
-  --stdin           run the command once for each scene, which it reads from standard input, as the program iisph does
+  --stdin           run the command once for each scene, which it reads from standard input, as the
+                    program iisph does
   --bytes N         at most so many bytes in one file `scenes` (300,000)
   --oracle FILE     the built oracle (oracle/target/release/oracle)
   --out FILE        where the smallest scene with a difference goes (target/difference.bin)
-  --kernel N        instead of scenes, N distances and radii: the command reads a pair of doubles per line, in hex, and prints weight and slope or the
-                    refusal; without a command, METHOD's formulas in Python
+  --kernel N        instead of scenes, N distances and radii: the command reads a pair of doubles
+                    per line, in hex, and prints weight and slope or the refusal; without a command,
+                    METHOD's formulas in Python
 
-Needs Python 3 and its own library only. Ends with 0 if nothing differs, 1 after a difference, 2 if a file is missing or the use is wrong.
-Scenes in which an average was -0 are skipped, as the specification says, and counted.
+Needs Python 3 and its own library only. Ends with 0 if nothing differs, 1 after a difference, 2 if
+a file is missing or the use is wrong. Scenes in which an average was -0 are skipped, as the
+specification says, and counted.
 """
 import argparse
 import collections
@@ -51,7 +59,8 @@ def ran(command, folder, given=None):
     except OSError as e:
         raise Stop("%s can't be run: %s" % (command[0], e.strerror))
     if done.returncode != 0:
-        raise Failed("%s ended with status %d\n%s" % (" ".join(command), done.returncode, done.stderr.decode(errors="replace")[-2000:]))
+        raise Failed("%s ended with status %d\n%s"
+                     % (" ".join(command), done.returncode, done.stderr.decode(errors="replace")[-2000:]))
     return done.stdout.decode("ascii", errors="replace")
 
 
@@ -69,7 +78,10 @@ class Sides:
                 rust = texts(ran(self.oracle, folder))
             except Failed as e:
                 raise Stop(str(e))
-            ours = [ran(self.subject, folder, data) for data in scenes] if self.alone else texts(ran(self.subject, folder))
+            if self.alone:
+                ours = [ran(self.subject, folder, data) for data in scenes]
+            else:
+                ours = texts(ran(self.subject, folder))
         if len(rust) != len(scenes):
             raise Stop("the oracle gave %d answers to %d scenes" % (len(rust), len(scenes)))
         return rust, ours
@@ -188,13 +200,15 @@ def kinds(answer):
     return found + (["3 or more iterations"] if words[1] != "unswept" and int(words[2]) > 2 else [])
 
 
-ORDER = ["accepted", "settled", "ranout", "unswept", "3 or more iterations", "pressure above 0", "infinity", "not-a-number", "skipped",
+ORDER = ["accepted", "settled", "ranout", "unswept", "3 or more iterations", "pressure above 0", "infinity",
+         "not-a-number", "skipped",
          "too long"] + ["refused %d" % n for n in range(1, 11)]
 
 
 def summary(counts):
     for name, count in counts.items():
-        seen = [(kind, count[kind]) for kind in ORDER if count[kind]] + [(k, n) for k, n in count.items() if k not in ORDER and k != "all"]
+        seen = [(kind, count[kind]) for kind in ORDER if count[kind]]
+        seen += [(kind, n) for kind, n in count.items() if kind not in ORDER and kind != "all"]
         print("%-13s %7d: %s" % (name, count["all"], ", ".join("%s %d" % pair for pair in seen)))
 
 
@@ -205,7 +219,8 @@ def report(data, sides, options):
     print("%s: %d bytes\n%s" % (options.out, len(data), data.hex() if len(data) < 1500 else ""))
     try:
         rust, ours = sides.ask([data])
-        rows = list(itertools.zip_longest("".join(rust).splitlines(), "".join(ours).splitlines(), fillvalue="(nothing)"))
+        lines = ("".join(answers).splitlines() for answers in (rust, ours))
+        rows = list(itertools.zip_longest(*lines, fillvalue="(nothing)"))
         different = [row for row in rows if row[0] != row[1]]
         for row in different[:10]:
             print("the Rust:    %s\nthe subject: %s" % row)
@@ -260,12 +275,15 @@ def pairs(seed, n):
         odd = d.of((abs(d.extreme()), d.extreme(), abs(d.subnormal()), d.zero()))
         h = d.weighted(((8, abs(d.random()) or 1.0), (6, abs(d.nice()) or 1.0), (1, odd)))
         q = d.weighted(((6, 1.25 * d.unit()), (3, edge), (1, 1e-4 * d.unit())))
-        r = d.weighted(((20, q * abs(h)), (1, abs(d.extreme())), (1, d.random()), (1, d.of((math.inf, math.nan, -0.0, -1.0)))))
+        r = d.weighted(((20, q * abs(h)), (1, abs(d.extreme())), (1, d.random()),
+                        (1, d.of((math.inf, math.nan, -0.0, -1.0)))))
         yield r, d.of((math.inf, math.nan, -h)) if d.one_in(40) else h
 
 
 def divided(a, b):
-    return a / b if b != 0.0 else math.nan if a == 0.0 or math.isnan(a) else math.copysign(math.inf, a) * math.copysign(1.0, b)
+    if b != 0.0:
+        return a / b
+    return math.nan if a == 0.0 or math.isnan(a) else math.copysign(math.inf, a) * math.copysign(1.0, b)
 
 
 def kernel_line(r, h):
@@ -277,19 +295,28 @@ def kernel_line(r, h):
     return "%s %s" % (bits(normaliser * weight), bits((normaliser * slope) / h))
 
 
+def kernel_kind(answer):
+    """What the summary counts of one answer."""
+    if answer.startswith("refused"):
+        return answer
+    return "not-a-number" if NAN in answer else "slope 0" if answer[17:].strip("08") == "" else "slope not 0"
+
+
 def kernel_run(options):
     cases = list(pairs(options.seed, options.kernel))
     lines = "".join("%s %s\n" % (bits(r), bits(h)) for r, h in cases)
     rust = ran([str(options.oracle), "kernel"], None, lines.encode()).splitlines()
-    ours = ran(options.command, None, lines.encode()).splitlines() if options.command else [kernel_line(r, h) for r, h in cases]
+    if options.command:
+        ours = ran(options.command, None, lines.encode()).splitlines()
+    else:
+        ours = [kernel_line(r, h) for r, h in cases]
     for (r, h), a, b in zip(cases, rust, ours):
         if a != b:
             print("distance %s radius %s\nthe Rust:    %s\nthe subject: %s" % (bits(r), bits(h), a, b))
             return 1
     if len(rust) != len(cases) or len(ours) != len(cases):
         raise Stop("%d pairs, but %d and %d answers" % (len(cases), len(rust), len(ours)))
-    count = collections.Counter(a if a.startswith("refused") else "not-a-number" if NAN in a else "slope 0" if a[17:].strip("08") == "" else "slope not 0"
-                                for a in rust)
+    count = collections.Counter(map(kernel_kind, rust))
     print(", ".join("%s %d" % pair for pair in sorted(count.items())))
     print("%d pairs, seed %d: no difference" % (len(cases), options.seed))
     return 0
@@ -306,7 +333,8 @@ def command_of(words):
     command = shlex.split(words)
     if not command:
         raise Stop("--subject needs a command")
-    return [str(pathlib.Path(word).resolve()) if "/" in word and pathlib.Path(word).exists() else word for word in command]
+    return [str(pathlib.Path(word).resolve()) if "/" in word and pathlib.Path(word).exists() else word
+            for word in command]
 
 
 def main():
@@ -325,13 +353,15 @@ def main():
     try:
         options.oracle, options.out = options.oracle.resolve(), options.out.resolve()
         if not options.oracle.is_file():
-            raise Stop("%s is not there: run oracle/prepare.py, then cargo build --release --offline in oracle/" % options.oracle)
+            raise Stop("%s is not there: run oracle/prepare.py FOLDER, then cargo build --release --offline in oracle/"
+                       % options.oracle)
         default = ROOT / "target/bin/cases_step"
         options.command = command_of(options.subject) if options.subject is not None else None
         if options.kernel is not None:
             return kernel_run(options)
         if options.reference:
-            options.command = [sys.executable, str(ROOT / "checks/reference.py")] + ["--any-length"] * (options.only in LARGE)
+            options.command = [sys.executable, str(ROOT / "checks/reference.py")]
+            options.command += ["--any-length"] * (options.only in LARGE)
         elif options.command is None and not default.is_file():
             raise Stop("%s is not there: build it, or give --subject COMMAND or --reference" % default)
         options.command = options.command or [str(default)]

@@ -1,10 +1,13 @@
 #!/usr/bin/env python3
-"""Counts the loads of the solver's inner loops in the built archive: each double of a contact is to be one 8-byte load and one byte swap.
+"""Counts the loads of the solver's inner loops in the built archive: each double of a contact is to
+be one 8-byte load and one byte swap.
 
-  checks/count_loads.py          builds libiisph_c.a (rt staticlib iisph_c), disassembles it with objdump and compares
+  checks/count_loads.py    builds libiisph_c.a (rt staticlib iisph_c), disassembles it with objdump
+                           and compares
 
-Per function: how many byte swaps there are, one for each double that is read from the packed scene, and how many single bytes are loaded at most
-(a contact's name is two; the kind of contact is one). A change that breaks a read up shows as fewer swaps or more bytes.
+Per function: how many byte swaps there are, one for each double that is read from the packed scene,
+and how many single bytes are loaded at most (a contact's name is two; the kind of contact is one).
+A change that breaks a read up shows as fewer swaps or more bytes.
 """
 import argparse
 import collections
@@ -48,7 +51,8 @@ def main():
     for name, (doubles, most) in EXPECTED.items():
         good = swaps[name] == doubles and singles[name] <= most
         wrong += not good
-        print(f"{'as expected' if good else 'DIFFERS'}: {name}: {swaps[name]} byte swaps (expected {doubles}), {singles[name]} single bytes (at most {most})")
+        print("%s: %s: %d byte swaps (expected %d), %d single bytes (at most %d)"
+              % ("as expected" if good else "DIFFERS", name, swaps[name], doubles, singles[name], most))
     sys.exit(1 if wrong else 0)
 
 

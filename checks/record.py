@@ -1,13 +1,17 @@
 #!/usr/bin/env python3
 """Chooses the recorded scenes of crates/cases_replay and writes them with the Rust's answers.
 
-  checks/record.py [--oracle FILE]           writes crates/cases_replay/data/scenes and crates/cases_replay/stdout
-  checks/record.py --check [--oracle FILE]   asks the Rust again about the recorded scenes (status 1 if an answer differs)
+  checks/record.py [--oracle FILE]           writes crates/cases_replay/data/scenes and
+                                             crates/cases_replay/stdout
+  checks/record.py --check [--oracle FILE]   asks the Rust again about the recorded scenes (status 1
+                                             if an answer differs)
 
-The scenes come from checks/made_scenes.py and checks/cases_step.py, small ones only, the answers from the oracle. Scenes are taken, short ones first, until
-each branch of the rules and each refusal (BRANCHES) has been met some times, each class has its share, and each wrong version of
-checks/wrong_versions.py is noticed by several. Which branches a scene meets is seen by notes put into checks/cases_step.py's text. Status 2 if a file is
-missing, the use is wrong, or a branch or a wrong version is met by no scene.
+The scenes come from checks/made_scenes.py and checks/cases_step.py, small ones only, the answers
+from the oracle. Scenes are taken, short ones first, until each branch of the rules and each refusal
+(BRANCHES) has been met some times, each class has its share, and each wrong version of
+checks/wrong_versions.py is noticed by several. Which branches a scene meets is seen by notes put
+into checks/cases_step.py's text. Status 2 if a file is missing, the use is wrong, or a branch or a
+wrong version is met by no scene.
 """
 import argparse
 import collections
@@ -38,18 +42,23 @@ BRANCHES = """no fluids|no walls|an empty fluid|an empty wall|eight fluids|eight
 a wall sum 0 without contacts|a wall sum 0 that cancels|a wall sum below 0|a wall sum above 0|a wall volume infinite
 a wall keeps forces|a wall keeps none
 step length above 0|step length +0|step length -0|step length below 0|inv_dt infinite
-a density below 0|a density infinite|a density not a number|a square of a density 0|a predicted density below 0|a predicted density not a number
+a density below 0|a density infinite|a density not a number|a square of a density 0
+a predicted density below 0|a predicted density not a number
 aii above 1e-9|aii below -1e-9|aii small|aii infinite|aii not a number
 next pressure above 0|next pressure below 0|next pressure +0|next pressure infinite|next pressure not a number
 an average greater|an average not greater|an average below 0|an average not a number|an average infinite
-error above the limit|limit met before least|limit met at least|limit met after least|limit met exactly|limit met in the last iteration|ran out with the limit met
+error above the limit|limit met before least|limit met at least|limit met after least|limit met exactly
+limit met in the last iteration|ran out with the limit met
 unswept|settled|ran out|255 iterations|a warm pressure below 0 stays|a pressure infinite at the end
 a contact with itself|a repeated contact|no fluid contacts|wall contacts alone|a link to another fluid
 a push on a kept force|a push on no force|a push of pressure 0|two pushes on one force
-refused 9 without contacts|refused 9 by terms|refused 9 at a later fluid|refused 10|refused 10 at a later particle""".replace("\n", "|").split("|")
+refused 9 without contacts|refused 9 by terms|refused 9 at a later fluid
+refused 10|refused 10 at a later particle""".replace("\n", "|").split("|")
 BRANCHES += ["refused 1 in the %s" % part for part in ("header", "count", "rest density", "records")]
-BRANCHES += ["refused 2 at 0", "refused 2 at 1", "refused 3 at 0", "refused 3 at 1", "refused 4 at 52", "refused 4 later", "refused 5", "refused 6 in the header",
-             "refused 6 at the rest density", "refused 6 in the records", "refused 7 by the model", "refused 7 by the number", "refused 7 at a wall contact"]
+BRANCHES += ["refused 2 at 0", "refused 2 at 1", "refused 3 at 0", "refused 3 at 1", "refused 4 at 52",
+             "refused 4 later", "refused 5", "refused 6 in the header",
+             "refused 6 at the rest density", "refused 6 in the records", "refused 7 by the model",
+             "refused 7 by the number", "refused 7 at a wall contact"]
 
 
 class Branches:
@@ -59,7 +68,8 @@ class Branches:
         for old, note in NOTES:
             source = edited(source, old, note + old)
         self.names = load(source)
-        self.names.update(note_pressure=self.pressure, note_average=self.average, note_end=self.end, note_wall=self.wall, note_coefficients=self.coefficients)
+        self.names.update(note_pressure=self.pressure, note_average=self.average, note_end=self.end,
+                          note_wall=self.wall, note_coefficients=self.coefficients)
 
     def of(self, data):
         self.met, self.pushed = set(), set()
@@ -67,7 +77,8 @@ class Branches:
         if line.startswith("refused"):
             self.refusal(data, *map(int, line.split(" ")[1:]))
         if line.startswith("step"):
-            self.add({"step unswept": "unswept", "step settled": "settled", "step ranout": "ran out"}[" ".join(line.split(" ")[:2])], True)
+            endings = {"unswept": "unswept", "settled": "settled", "ranout": "ran out"}
+            self.add(endings[line.split(" ")[1]], True)
             self.add("255 iterations", line.split(" ")[2] == "255")
         return self.met
 
@@ -77,7 +88,8 @@ class Branches:
             self.met.add(name)
 
     def sized(self, what, x, *names):
-        for name, holds in (("above 0", 0.0 < x < math.inf), ("below 0", x < 0.0), ("infinite", math.isinf(x)), ("not a number", math.isnan(x))):
+        for name, holds in (("above 0", 0.0 < x < math.inf), ("below 0", x < 0.0), ("infinite", math.isinf(x)),
+                            ("not a number", math.isnan(x))):
             self.add("%s %s" % (what, name), holds and name in names)
 
     def pressure(self, x):
@@ -161,7 +173,8 @@ class Branches:
         elif number == 5:
             self.add("refused 5", True)
         elif number == 6:
-            self.add("refused 6 at the rest density" if part == "rest density" else "refused 6 in the " + ("header" if part == "header" else "records"), True)
+            parts = {"header": "in the header", "rest density": "at the rest density"}
+            self.add("refused 6 " + parts.get(part, "in the records"), True)
         elif number == 7:
             self.missing(data, place)
         elif number == 9:
@@ -201,13 +214,15 @@ def asked(oracle, scenes):
 
 
 def pool(source, oracle):
-    """Class, scene and the Rust's answer; short scenes of all classes, each once, without those that runs skip."""
+    """Class, scene and the Rust's answer; short scenes of all classes, each once, without those
+    that runs skip."""
     found = [("cases_step", case[1]) for case in load(source)["cases"]()]
     found = [(name, data) for name, data in found if len(data) <= LONGEST_SCENE[name]]
     for name in CLASSES:
         found += itertools.islice(((name, data) for data in made(SEED, name) if len(data) <= LONGEST_SCENE[name]), POOL)
     found = list({data: (name, data) for name, data in reversed(found)}.values())[::-1]
-    return [(name, data, answer) for (name, data), answer in zip(found, asked(oracle, [data for _, data in found])) if answer != "skipped\n"]
+    answers = asked(oracle, [data for _, data in found])
+    return [(name, data, answer) for (name, data), answer in zip(found, answers) if answer != "skipped\n"]
 
 
 def chosen(candidates, source):
@@ -266,14 +281,16 @@ def write(oracle):
     SCENES.parent.mkdir(parents=True, exist_ok=True)
     SCENES.write_bytes(scenes)
     LINES.write_text(lines, encoding="ascii")
-    print("%d scenes: %s %d bytes, %s %d bytes" % (len(sample), SCENES.relative_to(ROOT), len(scenes), LINES.relative_to(ROOT), len(lines)))
+    print("%d scenes: %s %d bytes, %s %d bytes"
+          % (len(sample), SCENES.relative_to(ROOT), len(scenes), LINES.relative_to(ROOT), len(lines)))
     return 0
 
 
 def check(oracle):
     scenes = unbatch(SCENES)
     same = "".join(asked(oracle, scenes)).encode() == LINES.read_bytes()
-    print("%d scenes: %s" % (len(scenes), "the Rust gives the recorded answers" if same else "the Rust's answers differ from the recorded ones"))
+    said = "the Rust gives the recorded answers" if same else "the Rust's answers differ from the recorded ones"
+    print("%d scenes: %s" % (len(scenes), said))
     return 0 if same else 1
 
 
@@ -285,7 +302,8 @@ def main():
     try:
         oracle = options.oracle.resolve()
         if not oracle.is_file():
-            raise Stop("%s is not there: run oracle/prepare.py, then cargo build --release --offline in oracle/" % oracle)
+            raise Stop("%s is not there: run oracle/prepare.py FOLDER, then cargo build --release --offline in oracle/"
+                       % oracle)
         return check(oracle) if options.check else write(oracle)
     except (Stop, Failed) as e:
         print(e, file=sys.stderr)

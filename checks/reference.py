@@ -1,8 +1,10 @@
 #!/usr/bin/env python3
-"""The step of checks/cases_step.py, loaded without running its commands; and a subject for compare.py.
+"""The step of checks/cases_step.py, loaded without running its commands; and a subject for
+compare.py.
 
-  checks/reference.py [--any-length]    prints the lines of all cases of the file `scenes` in the current folder, as the program cases_step does;
-                                        with --any-length no scene is `too long`
+  checks/reference.py [--any-length]    prints the lines of all cases of the file `scenes` in the
+                                        current folder, as the program cases_step does; with
+                                        --any-length no scene is `too long`
 """
 import pathlib
 import struct
@@ -52,7 +54,8 @@ def unbatch(path):
 
 
 def texts(output):
-    """The text of each case: a case's first line is its only one that begins with one of these words."""
+    """The text of each case: a case's first line is its only one that begins with one of these
+    words."""
     found = []
     for line in output.splitlines(keepends=True):
         if line.split(" ")[0].strip() in ("step", "refused", "too", "skipped") or not found:

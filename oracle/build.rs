@@ -9,7 +9,9 @@ fn main() {
     }
     println!("cargo:rerun-if-changed=src/salva");
     if !std::path::Path::new("src/salva/solver/pressure/iisph_solver.rs").is_file() {
-        eprintln!("oracle/src/salva is not there: first run oracle/prepare.py [FOLDER], which copies the Rust text to it");
+        eprintln!(
+            "oracle/src/salva is not there: first run oracle/prepare.py FOLDER, which copies the Rust text to it"
+        );
         std::process::exit(1);
     }
 }

@@ -1,4 +1,5 @@
-"""tools/answers.py on the texts of the cases of checks/cases_step.py and on damaged ones; and the examples."""
+"""tools/answers.py on the texts of the cases of checks/cases_step.py and on damaged ones; and the
+examples."""
 import contextlib
 import io
 import json
@@ -49,7 +50,8 @@ def done(*arguments):
 
 def command(*arguments):
     """The same, as a program."""
-    done = subprocess.run([sys.executable, "-B", str(ROOT / "tools/answers.py"), *map(str, arguments)], capture_output=True, cwd=ROOT)
+    done = subprocess.run([sys.executable, "-B", str(ROOT / "tools/answers.py"), *map(str, arguments)],
+                          capture_output=True, cwd=ROOT)
     return done.returncode, done.stdout.decode(), done.stderr.decode()
 
 
@@ -66,7 +68,8 @@ class Reading(unittest.TestCase):
         for text in DONE:
             answer = answers.parse(text)
             self.assertTrue(answers.table(answer) and answers.fluid_vtk(answer))
-            answers.place_walls(answer, "\n".join("%d %d %d 0 %d # here" % (w.model, w.number, w.number, w.model) for w in answer.wall), "walls")
+            answers.place_walls(answer, "\n".join("%d %d %d 0 %d # here" % (w.model, w.number, w.number, w.model)
+                                                  for w in answer.wall), "walls")
             self.assertTrue(answers.wall_vtk(answer))
             try:
                 ElementTree.fromstring(answers.picture(answer)[0])
@@ -84,7 +87,8 @@ class Reading(unittest.TestCase):
         draw = random.Random(2)
         for _ in range(60):
             at = draw.randrange(1, len(CHAMBER))
-            for text in [CHAMBER[at:], CHAMBER[:at] + draw.choice("\0 \nxG_é") + CHAMBER[at + 1:]] + [CHAMBER[:at]] * (CHAMBER[at - 1] != "\n"):
+            cut = [CHAMBER[:at]] * (CHAMBER[at - 1] != "\n")
+            for text in [CHAMBER[at:], CHAMBER[:at] + draw.choice("\0 \nxG_é") + CHAMBER[at + 1:], *cut]:
                 if text != CHAMBER:
                     self.refused(text)
 
@@ -100,10 +104,13 @@ class Reading(unittest.TestCase):
         self.refused(CHAMBER + CHAMBER, "a second `step ..`")
         self.refused(CHAMBER + "refused 9 310\n", "line 142")
         self.refused("".join(lines[:2] + lines[62:] + lines[2:62]), "line 82 is of a fluid, but stands behind")
-        self.refused("".join(lines[:62] + lines[77:89] + lines[62:77] + lines[89:]), "line 75, of wall 0, particle 0, does not follow")
+        self.refused("".join(lines[:62] + lines[77:89] + lines[62:77] + lines[89:]),
+                     "line 75, of wall 0, particle 0, does not follow")
         self.refused(lines[0] + "".join(lines[2:]), "line 2 should be `clock ..`")
-        self.refused("".join(lines[:-1] + [" ".join(lines[-1].split() + ["0" * 16] * 3) + "\n"]), "wall 3 has forces in some lines")
-        for line in "step unswept 1\n", "step settled 0 %s\n" % lines[0].split()[3], "step settled 041 %s\n" % lines[0].split()[3]:
+        self.refused("".join(lines[:-1] + [" ".join(lines[-1].split() + ["0" * 16] * 3) + "\n"]),
+                     "wall 3 has forces in some lines")
+        error = lines[0].split()[3]
+        for line in "step unswept 1\n", "step settled 0 %s\n" % error, "step settled 041 %s\n" % error:
             self.refused("".join([line] + lines[1:]), "line 1 is none")
 
     def test_an_answer_is_held_to_its_scene(self):
@@ -114,15 +121,18 @@ class Reading(unittest.TestCase):
                 self.assertTrue(answer.held)
                 for k in range(2, len(lines)):
                     self.refused("".join(lines[:k]), data=data)
-        self.refused("".join(CHAMBER.splitlines(keepends=True)[:85]), "the answer has 8 particles of wall 1, but its scene has 12; ", CHAMBER_SCENE)
+        self.refused("".join(CHAMBER.splitlines(keepends=True)[:85]),
+                     "the answer has 8 particles of wall 1, but its scene has 12; ", CHAMBER_SCENE)
 
     def test_another_scene_is_noticed(self):
         rich = cases_step.rich()      # fluid 0 and wall 1 are empty, wall 0 keeps forces
         text, head, kept = cases_step.lines(rich), struct.pack(">d", 0.25), scene.tree(scene.Walk(rich))
         lines = text.splitlines(keepends=True)
         answers.hold(answers.parse(text), rich, "its scene")
-        self.refused("".join(lines[:4] + lines[5:]), "the answer has 0 particles of wall 0, but its scene has 1; ", rich)
-        self.refused(text + lines[-1].replace("wall 2 0", "wall 4 0"), "the answer has 1 particle of wall 4, but its scene has 0; ", rich)
+        self.refused("".join(lines[:4] + lines[5:]), "the answer has 0 particles of wall 0, but its scene has 1; ",
+                     rich)
+        self.refused(text + lines[-1].replace("wall 2 0", "wall 4 0"),
+                     "the answer has 1 particle of wall 4, but its scene has 0; ", rich)
         self.refused(text, "is no scene that has an answer", rich[:-1])
         for at in 4, 12:      # step length, remaining time
             self.refused(text, "clock is not the one of its scene", rich[:at] + head + rich[at + 8:])
@@ -130,14 +140,18 @@ class Reading(unittest.TestCase):
             self.refused(text, "ended after 2 iterations", rich[:3] + bytes([most]) + rich[4:])
         self.refused(text.replace("ranout", "settled"), "ended after 2 iterations", rich[:2] + b"\2" + rich[3:])
         kept["walls"][2]["keeps_forces"] = True
-        self.refused(text, "wall 2 keeps its forces in its scene, but its lines have none", scene.pack(json.dumps(kept))[0])
+        self.refused(text, "wall 2 keeps its forces in its scene, but its lines have none",
+                     scene.pack(json.dumps(kept))[0])
         kept["walls"][0]["keeps_forces"] = kept["walls"][2]["keeps_forces"] = False
         del kept["walls"][0]["particles"][0]["force"]
-        self.refused(text, "wall 0 keeps no forces in its scene, but its lines have some", scene.pack(json.dumps(kept))[0])
+        self.refused(text, "wall 0 keeps no forces in its scene, but its lines have some",
+                     scene.pack(json.dumps(kept))[0])
 
     def test_refusals_lead_to_their_place(self):
-        for text, piece in (("refused 7 152\n", "tools/scene.py at 152 SCENE.bin"), ("too long\n", "at most 32,768 bytes"),
-                            ("", "`step ..`"), ("refused 77 1\n", "line 1"), ("refused 7 15", "cut off"), ("refused 8 0\n", "a work list of 14")):
+        for text, piece in (("refused 7 152\n", "tools/scene.py at 152 SCENE.bin"),
+                            ("too long\n", "at most 32,768 bytes"),
+                            ("", "`step ..`"), ("refused 77 1\n", "line 1"), ("refused 7 15", "cut off"),
+                            ("refused 8 0\n", "a work list of 14")):
             self.refused(text, piece)
         with self.assertRaises(answers.Wrong) as raised:
             answers.parse("refused 8 0\n")
@@ -165,7 +179,8 @@ class Pictures(unittest.TestCase):
     def test_forces_point_out_of_the_ink(self):
         for w in in_chamber().wall:
             if w.force:
-                self.assertTrue((w.force[2] < 0 if w.model == 0 else w.force[2] == 0) and (w.force[0] <= 0 if w.model == 1 else w.force[0] >= 0))
+                self.assertTrue((w.force[2] < 0 if w.model == 0 else w.force[2] == 0)
+                                and (w.force[0] <= 0 if w.model == 1 else w.force[0] >= 0))
 
     def test_without_wall_positions(self):
         text, notes = answers.picture(answers.parse((EXAMPLES / "chamber.txt").read_text()), "yz")
@@ -180,10 +195,12 @@ class Pictures(unittest.TestCase):
         self.assertIn(">not held against a scene<", text)
         self.assertNotIn("left out", text)
         self.assertIn(">left out: what wall forces have along z, across the picture<", answers.picture(answer, "xy")[0])
-        answer.wall[0].force, answer.wall[1].force, answer.wall[7].force = [0.0, 1.0, 0.0], [1.0, 0.0, 0.0], [0.0, 0.0, 1e-9]
+        for k, force in (0, [0.0, 1.0, 0.0]), (1, [1.0, 0.0, 0.0]), (7, [0.0, 0.0, 1e-9]):
+            answer.wall[k].force = force
         answer.fluid[0].pressure, answer.fluid[1].pressure = math.nan, math.inf
         text, notes = answers.picture(answer)
-        for piece in ("left out: what wall forces have along y, across the picture", "left out: 2 fluid particles with a number that is not finite"):
+        for piece in ("left out: what wall forces have along y, across the picture",
+                      "left out: 2 fluid particles with a number that is not finite"):
             self.assertIn(">%s<" % piece, text)
         self.assertRegex(text, ">left out: [0-9]+ wall forces below a fiftieth of the strongest<")
         answer.fluid[1].pressure = 0.0
@@ -195,7 +212,8 @@ class Pictures(unittest.TestCase):
         self.assertEqual(answers.ended(answer), "ran out after 1 iteration, error 0")
         answer.held = True
         self.assertIn("1 fluid particle and 0 wall particles\n", answers.table(answer))
-        self.assertEqual(answers.ended(answers.parse("step unswept 0\n" + CHAMBER.splitlines(keepends=True)[1])), "done without iterations")
+        self.assertEqual(answers.ended(answers.parse("step unswept 0\n" + CHAMBER.splitlines(keepends=True)[1])),
+                         "done without iterations")
 
 
 class Files(unittest.TestCase):
@@ -207,18 +225,22 @@ class Files(unittest.TestCase):
             words, n = text.split("POLYDATA")[1].split(), len(particles)
             at = words.index("POINTS")
             self.assertEqual(words[at + 1:at + 3], [str(n), "double"])
-            self.assertEqual([float(x) for x in words[at + 3:at + 3 + 3 * n]], [x for p in particles for x in p.position])
+            self.assertEqual([float(x) for x in words[at + 3:at + 3 + 3 * n]],
+                             [x for p in particles for x in p.position])
             at = words.index("VERTICES")
-            self.assertEqual(words[at + 1:at + 3 + 2 * n], [str(n), str(2 * n)] + [x for k in range(n) for x in ("1", str(k))])
+            self.assertEqual(words[at + 1:at + 3 + 2 * n], [str(n), str(2 * n)]
+                             + [x for k in range(n) for x in ("1", str(k))])
             at = words.index(field)
             self.assertEqual(words[at - 1:at + 5], ["SCALARS", field, "double", "1", "LOOKUP_TABLE", "default"])
             self.assertEqual([float(x) for x in words[at + 5:at + 5 + n]], [getattr(p, field) for p in particles])
             at = words.index(vectors)
-            self.assertEqual([float(x) for x in words[at + 2:at + 2 + 3 * n]], [x for p in particles for x in getattr(p, vectors) or [0, 0, 0]])
+            self.assertEqual([float(x) for x in words[at + 2:at + 2 + 3 * n]],
+                             [x for p in particles for x in getattr(p, vectors) or [0, 0, 0]])
             self.assertEqual(len(words), at + 2 + 3 * n)
 
     def test_wall_positions(self):
-        for text, piece in (("0 0 1 2", "line 1: give"), ("0 0 1 2 nan", "line 1: give"), ("0 x 1 2 3", "line 1: give"), ("", "add a line: 0 0 X Y Z"),
+        for text, piece in (("0 0 1 2", "line 1: give"), ("0 0 1 2 nan", "line 1: give"), ("0 x 1 2 3", "line 1: give"),
+                            ("", "add a line: 0 0 X Y Z"),
                             ("0 0 1 2 3\n0 0 1 2 4", "line 2: wall 0, particle 0 stands there twice"),
                             ((EXAMPLES / "chamber.walls").read_text() + "9 0 1 2 3", "is it the file of this scene?")):
             with self.assertRaises(answers.Wrong) as raised:
@@ -231,18 +253,26 @@ class Files(unittest.TestCase):
         self.assertEqual((status, table.splitlines()[0]), (0, "settled after 41 iterations, error 0.00621438"))
         self.assertIn("not held against a scene", table.splitlines()[-1])
         held = ["--scene", EXAMPLES / "chamber.bin"]
-        self.assertEqual(done("table", text, *held)[1].splitlines()[-1], "held against the scene: all its particles are there, 60 fluid particles and 79 wall particles")
-        self.assertEqual(command("svg", text, "-", EXAMPLES / "chamber.walls", *held), (0, (EXAMPLES / "chamber.svg").read_text(), ""))
-        self.assertEqual([done("csv", text, "-", *more)[2][:24] for more in ([], held)], ["not held against a scene", ""])
+        self.assertEqual(done("table", text, *held)[1].splitlines()[-1],
+                         "held against the scene: all its particles are there, "
+                         "60 fluid particles and 79 wall particles")
+        self.assertEqual(command("svg", text, "-", EXAMPLES / "chamber.walls", *held),
+                         (0, (EXAMPLES / "chamber.svg").read_text(), ""))
+        self.assertEqual([done("csv", text, "-", *more)[2][:24] for more in ([], held)],
+                         ["not held against a scene", ""])
         for arguments, status, piece in ((["table", ROOT / "none.txt"], 2, "check the file's name"),
-                                         (["svg", text, "-", "--plane", "xx"], 2, "two of the letters"), ([], 2, "how to use"),
+                                         (["svg", text, "-", "--plane", "xx"], 2, "two of the letters"),
+                                         ([], 2, "how to use"),
                                          (["tabel", text], 2, "there is no command tabel"),
-                                         (["table", text, "-"], 2, "`table` got 2 arguments; this is what it takes: tools/answers.py table ANSWER.txt [--scene SCENE.bin]\n"),
+                                         (["table", text, "-"], 2,
+                                          "`table` got 2 arguments; this is what it takes: tools/answers.py table "
+                                          "ANSWER.txt [--scene SCENE.bin]\n"),
                                          (["csv", text], 2, "tools/answers.py csv ANSWER.txt TABLE.csv [WALLS.txt]"),
                                          (["table", text, "--plane", "xz"], 2, "`table` has no option --plane"),
                                          (["table", text, "--scene"], 2, "--scene stands without its value"),
                                          (["table", "-", "--scene", "-"], 2, "only one file"),
-                                         (["table", text, "--scene", EXAMPLES / "scene-a.bin"], 1, "the answer has 60 particles of fluid 0, but the scene"),
+                                         (["table", text, "--scene", EXAMPLES / "scene-a.bin"], 1,
+                                          "the answer has 60 particles of fluid 0, but the scene"),
                                          (["table", EXAMPLES / "torn-droplet.txt"], 1, "tools/scene.py at 310"),
                                          (["table", EXAMPLES / "chamber.bin"], 1, "give the whole output")):
             found, said = refused(*arguments)
@@ -257,21 +287,25 @@ class Examples(unittest.TestCase):
             self.assertEqual(scene.pack((EXAMPLES / (name + ".json")).read_text()), (data, []))
             self.assertEqual(cases_step.lines(data), text)
             if "IISPH" in os.environ:      # the built program: IISPH=target/bin/iisph python3 -m unittest
-                self.assertEqual(subprocess.run([os.environ["IISPH"]], input=data, capture_output=True).stdout.decode(), text)
+                done = subprocess.run([os.environ["IISPH"]], input=data, capture_output=True)
+                self.assertEqual(done.stdout.decode(), text)
 
     def test_the_chamber_is_what_its_tool_writes(self):
         self.assertEqual(json.loads((EXAMPLES / "chamber.json").read_text()), json.loads(json.dumps(chamber.chamber())))
         self.assertEqual((EXAMPLES / "chamber.walls").read_text(), chamber.positions())
 
-    def test_its_spline_is_document_01s(self):
-        for r, shape, fall in ((0.0, 1.0, 0.0), (0.5, 0.25, -1.5), (0.75, 0.03125, -0.375), (1.0, 0.0, 0.0), (1.5, 0.0, 0.0)):
-            self.assertEqual((chamber.weight(r, 1.0), chamber.slope(r, 1.0)), (8.0 / math.pi * shape, 8.0 / math.pi * fall))
+    def test_its_spline_is_the_specifications(self):
+        for r, shape, fall in ((0.0, 1.0, 0.0), (0.5, 0.25, -1.5), (0.75, 0.03125, -0.375), (1.0, 0.0, 0.0),
+                               (1.5, 0.0, 0.0)):
+            self.assertEqual((chamber.weight(r, 1.0), chamber.slope(r, 1.0)),
+                             (8.0 / math.pi * shape, 8.0 / math.pi * fall))
 
     def test_the_faint_droplet_hides_a_coefficient(self):
         read = cases_step.walk((EXAMPLES / "torn-droplet-faint.bin").read_bytes())
         cases_step.step(read)
         drop = read.all[2][1]
-        self.assertTrue(drop.rho > 0.0 and math.isnan(drop.aii) and drop.pressure == 0.0 and all(map(math.isfinite, [*drop.position, *drop.velocity])))
+        self.assertTrue(drop.rho > 0.0 and math.isnan(drop.aii) and drop.pressure == 0.0
+                        and all(map(math.isfinite, [*drop.position, *drop.velocity])))
 
 
 if __name__ == "__main__":

@@ -1,4 +1,5 @@
-"""tools/scene.py against the scenes of cases_step and cases_check, and against the reading of the specification in checks/cases_step.py."""
+"""tools/scene.py against the scenes of cases_step and cases_check, and against the reading of the
+specification in checks/cases_step.py."""
 import contextlib
 import functools
 import io
@@ -28,8 +29,10 @@ def listed():
 
 
 def blocks():
-    """The scenes of crates/cases_check, in blocks of 512 bytes whose last two are the length, with their verdicts."""
-    data, lines = (ROOT / "crates/cases_check/data/scenes").read_bytes(), (ROOT / "crates/cases_check/stdout").read_text().splitlines()
+    """The scenes of crates/cases_check, in blocks of 512 bytes whose last two are the length, with
+    their verdicts."""
+    data = (ROOT / "crates/cases_check/data/scenes").read_bytes()
+    lines = (ROOT / "crates/cases_check/stdout").read_text().splitlines()
     found = [data[at:at + 512] for at in range(0, len(data), 512)]
     return [(block[:struct.unpack(">H", block[510:])[0]], line) for block, line in zip(found, lines, strict=True)]
 
@@ -60,7 +63,8 @@ def refused(*arguments):
 
 
 def command(*arguments, given=b""):
-    done = subprocess.run([sys.executable, "-B", str(ROOT / "tools/scene.py"), *map(str, arguments)], input=given, capture_output=True, cwd=ROOT)
+    done = subprocess.run([sys.executable, "-B", str(ROOT / "tools/scene.py"), *map(str, arguments)], input=given,
+                          capture_output=True, cwd=ROOT)
     return done.returncode, done.stdout, done.stderr.decode()
 
 
@@ -92,7 +96,8 @@ class Packed(unittest.TestCase):
                 self.assertEqual(at, len(data))
 
     def test_doubles_keep_their_bits(self):
-        for digits in "8000000000000000", "0000000000000001", "7FF8000000000001", "FFF0000000000000", "3FB999999999999A":
+        for digits in ("8000000000000000", "0000000000000001", "7FF8000000000001", "FFF0000000000000",
+                       "3FB999999999999A"):
             data = scene.pack(json.dumps({"step_length": digits, "remaining_time": 0.1, "error_limit": 1e-320}))[0]
             self.assertEqual(data[4:12].hex().upper(), digits)
             self.assertEqual(scene.pack(scene.show(data, True)[0])[0], data)
@@ -108,21 +113,28 @@ class Places(unittest.TestCase):
 
     def test_every_field_has_its_name(self):
         rich = cases_step.rich()
-        for at, name in ((0, "header: version and fluids"), (1, "header: walls"), (2, "header: least iterations"), (3, "header: most iterations"),
-                         (4, "header: step length"), (51, "header: gravity z"), (52, "fluid 0: count"), (54, "fluid 0: rest density"), (62, "fluid 1: count"),
+        for at, name in ((0, "header: version and fluids"), (1, "header: walls"), (2, "header: least iterations"),
+                         (3, "header: most iterations"),
+                         (4, "header: step length"), (51, "header: gravity z"), (52, "fluid 0: count"),
+                         (54, "fluid 0: rest density"), (62, "fluid 1: count"),
                          (72, "fluid 1, particle 0: position x"),
                          (152, "fluid 1, particle 0: warm pressure"),
-                         (160, "fluid 1, particle 0: number of fluid contacts"), (161, "fluid 1, particle 0: number of wall"),
-                         (196, "fluid 1, particle 0, fluid contact 1: the particle"), (230, "fluid 1, particle 0, wall contact 0: the particle"),
-                         (263, "fluid 1, particle 0, wall contact 0: gradient z"), (388, "wall 0: count"), (414, "wall 0, particle 0: force x"),
-                         (441, "wall 0, particle 0, contact 0: weight"), (459, "wall 1: count"), (487, "wall 2, particle 0: number of contacts")):
+                         (160, "fluid 1, particle 0: number of fluid contacts"),
+                         (161, "fluid 1, particle 0: number of wall"),
+                         (196, "fluid 1, particle 0, fluid contact 1: the particle"),
+                         (230, "fluid 1, particle 0, wall contact 0: the particle"),
+                         (263, "fluid 1, particle 0, wall contact 0: gradient z"), (388, "wall 0: count"),
+                         (414, "wall 0, particle 0: force x"),
+                         (441, "wall 0, particle 0, contact 0: weight"), (459, "wall 1: count"),
+                         (487, "wall 2, particle 0: number of contacts")):
             self.assertTrue(scene.at(rich, at)[0][0].startswith(name), (at, scene.at(rich, at)))
 
     def test_a_refusal_is_explained_where_it_stands(self):
         for data, line in blocks()[::7]:
             if line != "accepted":
                 number, place = map(int, line.split())
-                self.assertTrue(any(said.startswith("refusal %d at %d: " % (number, place)) for said in scene.at(data, place)[0]), (line, scene.at(data, place)))
+                self.assertTrue(any(said.startswith("refusal %d at %d: " % (number, place))
+                                    for said in scene.at(data, place)[0]), (line, scene.at(data, place)))
 
     def test_damage_never_stops_it(self):
         draw, rich = random.Random(1), cases_step.rich()
@@ -146,15 +158,23 @@ class Mistakes(unittest.TestCase):
                 ("9" * 5000, "no JSON"), ("[]", "the scene: give an object"),
                 ('{"step_length": NaN}', "16 hex digits"), ('{"a": 1, "a": 2}', "stands twice"),
                 ({}, "step_length is missing"), ({**head, "gravty": 0}, "'gravty' is no name"),
-                ({**head, "least_iterations": 256}, "from 0 to 255"), ({**head, "most_iterations": True}, "whole number"), ({**head, "gravity": [0, 1]}, "three numbers"),
-                ({**head, "step_length": "0.5"}, "16 hex digits"), ({**head, "step_length": None}, "step_length: give a decimal"),
-                ('{"step_length": 1e999, "remaining_time": 0, "error_limit": 0}', "too large"), ({**head, "step_length": 10**400}, "too large"),
-                ({**head, "fluids": [{"rest_density": 1}] * 9}, "fluids: give a list of at most 8, not of 9"), ({**head, "walls": {}}, "walls: give a list"),
-                ({**head, "fluids": [{}]}, "fluids[0].rest_density is missing"), (ink(volume=[1]), "fluids[0].particles[0].volume: give a decimal"),
+                ({**head, "least_iterations": 256}, "from 0 to 255"),
+                ({**head, "most_iterations": True}, "whole number"), ({**head, "gravity": [0, 1]}, "three numbers"),
+                ({**head, "step_length": "0.5"}, "16 hex digits"),
+                ({**head, "step_length": None}, "step_length: give a decimal"),
+                ('{"step_length": 1e999, "remaining_time": 0, "error_limit": 0}', "too large"),
+                ({**head, "step_length": 10**400}, "too large"),
+                ({**head, "fluids": [{"rest_density": 1}] * 9}, "fluids: give a list of at most 8, not of 9"),
+                ({**head, "walls": {}}, "walls: give a list"),
+                ({**head, "fluids": [{}]}, "fluids[0].rest_density is missing"),
+                (ink(volume=[1]), "fluids[0].particles[0].volume: give a decimal"),
                 (ink(fluid_contacts=[name] * 256), "at most 255"),
-                (ink(fluid_contacts=[{**name, "fluid": 16}]), "fluid_contacts[0].fluid: give a whole number from 0 to 15"),
-                (ink(fluid_contacts=[{**name, "particle": 4096}]), "from 0 to 4095"), (ink(wall_contacts=[name]), "'fluid' is no name"),
-                ({**head, "walls": [{"keeps_forces": 1}]}, "true or false"), ({**head, "walls": [{"particles": [{"force": [0, 0, 0]}]}]}, "keeps none; take it out"),
+                (ink(fluid_contacts=[{**name, "fluid": 16}]),
+                 "fluid_contacts[0].fluid: give a whole number from 0 to 15"),
+                (ink(fluid_contacts=[{**name, "particle": 4096}]), "from 0 to 4095"),
+                (ink(wall_contacts=[name]), "'fluid' is no name"),
+                ({**head, "walls": [{"keeps_forces": 1}]}, "true or false"),
+                ({**head, "walls": [{"particles": [{"force": [0, 0, 0]}]}]}, "keeps none; take it out"),
                 ({**head, "walls": [{"particles": [{}] * 4097}]}, "at most 4096")):
             with self.assertRaises(scene.Wrong) as raised:
                 scene.pack(text if isinstance(text, (str, bytes)) else json.dumps(text))
@@ -169,16 +189,24 @@ class Mistakes(unittest.TestCase):
     def test_commands(self):
         whole = ROOT / "examples/scene-a.bin"
         self.assertEqual(command("pack", ROOT / "examples/scene-a.json", "-")[:2], (0, whole.read_bytes()))
-        for arguments, status, piece in ((["show", ROOT / "none.bin"], 2, "check the file's name"), (["at", "here", whole], 2, "is no offset"),
+        for arguments, status, piece in ((["show", ROOT / "none.bin"], 2, "check the file's name"),
+                                         (["at", "here", whole], 2, "is no offset"),
                                          (["show", ROOT], 2, "check"),
-                                         (["pack", whole, "-"], 1, "no JSON"), ([], 2, "here is how to use it"), (["shew"], 2, "there is no command shew"),
-                                         (["show"], 2, "`show` got 0 arguments; this is what it takes: tools/scene.py show [--json] SCENE.bin\n"),
-                                         (["at", whole], 2, "`at` got 1 argument; this is what it takes: tools/scene.py at OFFSET SCENE.bin\n"),
-                                         (["pack", "--json", whole, "-"], 2, "`pack` has no option --json; this is what it takes: tools/scene.py pack"),
+                                         (["pack", whole, "-"], 1, "no JSON"), ([], 2, "here is how to use it"),
+                                         (["shew"], 2, "there is no command shew"),
+                                         (["show"], 2,
+                                          "`show` got 0 arguments; this is what it takes: tools/scene.py show [--json] "
+                                          "SCENE.bin\n"),
+                                         (["at", whole], 2,
+                                          "`at` got 1 argument; this is what it takes: tools/scene.py at OFFSET "
+                                          "SCENE.bin\n"),
+                                         (["pack", "--json", whole, "-"], 2,
+                                          "`pack` has no option --json; this is what it takes: tools/scene.py pack"),
                                          (["show", "--json", "--json", whole], 2, "`show` takes only one --json")):
             found, said = refused(*arguments)
             self.assertEqual((found, piece in said), (status, True), said)
-            self.assertEqual("JSON, in the words" in said, status == 2 and "here is how" in said)      # the whole head only where no command is known
+            # the whole head only where no command is known
+            self.assertEqual("JSON, in the words" in said, status == 2 and "here is how" in said)
         found, text, said = command("show", "-", given=whole.read_bytes()[:100])
         self.assertEqual((found, said[:18]), (1, "refusal 1 at 94: f"))
         self.assertIn(b"velocity (0.0), velocity y cut short", text)
@@ -186,9 +214,11 @@ class Mistakes(unittest.TestCase):
     def test_a_look_up_in_a_damaged_scene(self):
         sound = (ROOT / "examples/torn-droplet.bin").read_bytes()
         self.assertEqual(scene.at(sound, 310)[1:], ([], True))      # refused 9, but not damaged
-        for data, offset, said in ((sound[:-1], 4, "refusal 1 at 399: "), (sound + b"x", 4, "refusal 5 at 400: "), (b"\x20" + sound[1:], 4, "refusal 2 at 0: ")):
+        for data, offset, said in ((sound[:-1], 4, "refusal 1 at 399: "), (sound + b"x", 4, "refusal 5 at 400: "),
+                                   (b"\x20" + sound[1:], 4, "refusal 2 at 0: ")):
             _, notes, whole = scene.at(data, offset)
-            self.assertEqual((len(notes), notes[0].startswith("a step refuses this scene, " + said), whole), (1, True, False))
+            self.assertEqual((len(notes), notes[0].startswith("a step refuses this scene, " + said), whole),
+                             (1, True, False))
         for data, offset in ((sound, 400), (cases_step.scene_a([cases_step.to(0, 1, 2.0)]), 152)):
             self.assertEqual(scene.at(data, offset)[1:], ([], False))
         found, text, said = command("at", 4, "-", given=sound[:-1])

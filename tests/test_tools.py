@@ -1,5 +1,5 @@
-"""How each program of tools/ and checks/ takes its arguments, what the two folders may share, and
-tools/run with a stand-in for rt."""
+"""How each program of tools/ and checks/ takes its arguments, what the two folders may share,
+oracle/prepare.py without a Rust text, and tools/run with a stand-in for rt."""
 import ast
 import contextlib
 import importlib
@@ -22,7 +22,8 @@ TOOLS = [path.stem for paths in FILES.values() for path in paths if os.access(pa
 def called(name, *arguments):
     """Status and both outputs of a tool's main; no process may be started."""
     tool, out, err = importlib.import_module(name), io.StringIO(), io.StringIO()
-    with contextlib.redirect_stdout(out), contextlib.redirect_stderr(err), mock.patch.object(sys, "argv", [name, *arguments]), mock.patch("subprocess.run", None):
+    given, idle = mock.patch.object(sys, "argv", [name, *arguments]), mock.patch("subprocess.run", None)
+    with contextlib.redirect_stdout(out), contextlib.redirect_stderr(err), given, idle:
         try:
             status = tool.main(list(arguments)) if tool.main.__code__.co_argcount else tool.main()
         except SystemExit as e:
@@ -71,8 +72,21 @@ class Folders(unittest.TestCase):
                 self.assertIn("`%s`" % path.name, text)
 
 
+class Prepare(unittest.TestCase):
+    def test_it_needs_a_folder_with_the_rust_text(self):
+        with tempfile.TemporaryDirectory() as folder:
+            for arguments, piece in (([], "oracle/prepare.py FOLDER"), (["a", "b"], "oracle/prepare.py FOLDER"),
+                                     (["--nonsense"], "oracle/prepare.py FOLDER"),
+                                     ([folder], "give the folder with the Rust text")):
+                done = subprocess.run([sys.executable, "-B", ROOT / "oracle/prepare.py", *arguments],
+                                      capture_output=True, text=True, cwd=folder)
+                self.assertEqual((done.returncode, done.stdout, piece in done.stderr), (2, "", True), done.stderr)
+            self.assertEqual(os.listdir(folder), [])
+
+
 class Run(unittest.TestCase):
-    """In a folder of its own, with an rt that writes down its arguments and makes a program that says `new` or, on request, fails."""
+    """In a folder of its own, with an rt that writes down its arguments and makes a program that says
+    `new` or, on request, fails."""
 
     def setUp(self):
         self.root = pathlib.Path(tempfile.mkdtemp())
@@ -80,10 +94,13 @@ class Run(unittest.TestCase):
         for folder in "tools", "kit", "plain", "crates", "target/bin":
             (self.root / folder).mkdir(parents=True)
         shutil.copy(ROOT / "tools/run", self.root / "tools/run")
-        (self.root / "plain/dirname").symlink_to(shutil.which("dirname"))      # all that it needs before it looks for rt
+        # all that it needs before it looks for rt
+        (self.root / "plain/dirname").symlink_to(shutil.which("dirname"))
         (self.root / "crates.txt").write_text("")
         (self.root / "scene.bin").write_bytes(b"the scene")
-        self.script("kit/rt", "echo rt $*; [ ! -e fails ] || exit 1; printf '#!/bin/sh\\necho new; cat\\n' > target/bin/iisph; chmod +x target/bin/iisph")
+        self.script("kit/rt",
+                    "echo rt $*; [ ! -e fails ] || exit 1; printf '#!/bin/sh\\necho new; cat\\n"
+                    "' > target/bin/iisph; chmod +x target/bin/iisph")
 
     def script(self, name, text):
         (self.root / name).write_text("#!/bin/sh\n" + text + "\n")
@@ -91,7 +108,8 @@ class Run(unittest.TestCase):
 
     def ran(self, *arguments, kit=True):
         path = "%s:/usr/bin:/bin" % (self.root / "kit") if kit else str(self.root / "plain")
-        done = subprocess.run([self.root / "tools/run", *arguments], capture_output=True, text=True, cwd=self.root, env={"PATH": path})
+        done = subprocess.run([self.root / "tools/run", *arguments], capture_output=True, text=True, cwd=self.root,
+                              env={"PATH": path})
         return done.returncode, done.stdout, done.stderr
 
     def test_an_old_program_is_never_run(self):
@@ -100,7 +118,8 @@ class Run(unittest.TestCase):
         self.assertEqual((self.root / "target/run.log").read_text(), "rt check iisph\n")
 
     def test_every_message_says_what_to_do(self):
-        for arguments, piece in (((), "give one packed scene"), (("a", "b"), "give one packed scene"), (("none.bin",), "there is no file none.bin; check its name"),
+        for arguments, piece in (((), "give one packed scene"), (("a", "b"), "give one packed scene"),
+                                 (("none.bin",), "there is no file none.bin; check its name"),
                                  (("crates",), "crates is a folder; give a packed scene")):
             status, out, err = self.ran(*arguments)
             self.assertEqual((status, out, piece in err), (2, "", True), err)
@@ -108,7 +127,8 @@ class Run(unittest.TestCase):
         self.assertEqual((status, out, "put the kit's bin folder on PATH" in err), (2, "", True), err)
         (self.root / "fails").touch()
         status, out, err = self.ran("scene.bin")
-        self.assertEqual((status, out, "the whole log is %s" % (self.root / "target/run.log") in err), (1, "", True), err)
+        self.assertEqual((status, out, "the whole log is %s" % (self.root / "target/run.log") in err), (1, "", True),
+                         err)
         self.assertEqual(self.ran("--help")[::2], (0, ""))
 
 

@@ -1,9 +1,12 @@
 #!/usr/bin/env python3
-"""Writes examples/chamber.json and examples/chamber.walls: a small chamber of ink, with weights and gradients of the cubic spline.
+"""Writes examples/chamber.json and examples/chamber.walls: a small chamber of ink, with weights and
+gradients of the cubic spline.
 
-A lattice of 5 x 3 x 4 particles at distances of 1 mm, still and of rest density 1000 kg/m3, under gravity for 1 ms; SI units. Below it is a floor, to the left a
-blade that moves in at 20 mm/s, to the right a wall: these keep forces. Glass in front and behind keeps none. The top is open. The spline's radius is
-1.4 mm, so that a particle touches those at a distance of 1 mm alone. tools/scene.py packs the scene, and tools/answers.py takes the wall positions.
+A lattice of 5 x 3 x 4 particles at distances of 1 mm, still and of rest density 1000 kg/m3, under
+gravity for 1 ms; SI units. Below it is a floor, to the left a blade that moves in at 20 mm/s, to
+the right a wall: these keep forces. Glass in front and behind keeps none. The top is open. The
+spline's radius is 1.4 mm, so that a particle touches those at a distance of 1 mm alone.
+tools/scene.py packs the scene, and tools/answers.py takes the wall positions.
 """
 import argparse
 import importlib.util
@@ -15,7 +18,8 @@ TOOLS = pathlib.Path(__file__).resolve().parent
 EXAMPLES = TOOLS.parent / "examples"
 APART, RADIUS, REST = 0.001, 0.0014, 1000.0
 WIDE, DEEP, TALL = 5, 3, 4
-COMMENT = "60 particles of ink on a floor, between a blade that moves in, a wall and two panes of glass: the wall forces of one step"
+COMMENT = ("60 particles of ink on a floor, between a blade that moves in, a wall and two panes of glass: "
+           "the wall forces of one step")
 
 
 # ---- the cubic spline of METHOD 1
@@ -30,7 +34,8 @@ def weight(r, h):
 
 def slope(r, h):
     q, t = r / h, 1.0 - r / h
-    return normalizer(h) * (0.0 if q > 1.0 or q <= 1e-5 else (((q * 3.0) - 2.0) * q) * 6.0 if q <= 0.5 else ((-t) * t) * 6.0) / h
+    shape = 0.0 if q > 1.0 or q <= 1e-5 else (((q * 3.0) - 2.0) * q) * 6.0 if q <= 0.5 else ((-t) * t) * 6.0
+    return normalizer(h) * shape / h
 
 
 def gradient(a, b):
@@ -59,19 +64,24 @@ def near(place, models, word, with_gradient=True):
 
 
 def chamber():
-    volume = 1.0 / (weight(0.0, RADIUS) + 6.0 * weight(APART, RADIUS))      # gives a particle amid six others the rest density
+    # the volume that gives a particle amid six others the rest density
+    volume = 1.0 / (weight(0.0, RADIUS) + 6.0 * weight(APART, RADIUS))
     stones = [places for places, _, _ in WALLS]
-    ink = [{"position": [round(APART * x, 6) for x in place], "volume": volume, "fluid_contacts": near(place, [INK], "fluid"),
+    ink = [{"position": [round(APART * x, 6) for x in place], "volume": volume,
+            "fluid_contacts": near(place, [INK], "fluid"),
             "wall_contacts": near(place, stones, "wall")} for place in INK]
-    walls = [{"keeps_forces": keeps, "particles": [{"velocity": velocity, "contacts": near(place, stones, "wall", False)} for place in places]}
+    walls = [{"keeps_forces": keeps,
+              "particles": [{"velocity": velocity, "contacts": near(place, stones, "wall", False)} for place in places]}
              for places, keeps, velocity in WALLS]
-    return {"comment": COMMENT, "least_iterations": 40, "most_iterations": 100, "step_length": 0.001, "remaining_time": 0.001, "error_limit": 0.05,
+    return {"comment": COMMENT, "least_iterations": 40, "most_iterations": 100, "step_length": 0.001,
+            "remaining_time": 0.001, "error_limit": 0.05,
             "gravity": [0, 0, -9.81], "fluids": [{"rest_density": REST, "particles": ink}], "walls": walls}
 
 
 def positions():
     lines = ["# wall, particle, x, y, z: floor, blade, wall, glass"]
-    lines += ["%d %d %s" % (m, k, " ".join(repr(round(APART * x, 6)) for x in place)) for m, (places, _, _) in enumerate(WALLS) for k, place in enumerate(places)]
+    lines += ["%d %d %s" % (m, k, " ".join(repr(round(APART * x, 6)) for x in place))
+              for m, (places, _, _) in enumerate(WALLS) for k, place in enumerate(places)]
     return "\n".join(lines) + "\n"
 
 

@@ -1,5 +1,6 @@
-//! The Rust pressure solver under its own module names. Files under salva/ are the Rust's text as prepare.py copies it; `not_given` has what that text
-//! names but was not handed over; `scene`, `run` and this file are ours.
+//! The Rust pressure solver under its own module names. Files under salva/ are the Rust's text as
+//! prepare.py copies it; `not_given` has what that text names but was not handed over; `scene`, `run`
+//! and this file are ours.
 
 #[macro_use]
 #[path = "salva/macros.rs"]

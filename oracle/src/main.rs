@@ -1,6 +1,10 @@
-//! oracle scenes FILE [--any-length]   for each packed scene of the file (its length in four bytes, most significant first, then its bytes) FORMAT 4's
-//!                                     lines, from the Rust's own step; `skipped` where an average was -0; with --any-length no scene is `too long`
-//! oracle kernel                       for each line of standard input with a distance and a radius (16 hex digits each): weight and slope, or the refusal
+//! oracle scenes FILE [--any-length]
+//!     for each packed scene of the file (its length in four bytes, most significant first, then its
+//!     bytes) FORMAT 4's lines, from the Rust's own step; `skipped` where an average was -0; with
+//!     --any-length no scene is `too long`
+//! oracle kernel
+//!     for each line of standard input with a distance and a radius (16 hex digits each): weight and
+//!     slope, or the refusal
 
 use std::io::{BufRead, Write};
 
@@ -37,7 +41,8 @@ fn scenes(file: &str, any_length: bool) -> Result<(), String> {
     let mut rest = &all[..];
     while !rest.is_empty() {
         let at = all.len() - rest.len();
-        let (length, after) = rest.split_first_chunk::<4>().ok_or_else(|| format!("{file}: ends within the length at byte {at}"))?;
+        let short = || format!("{file}: ends within the length at byte {at}");
+        let (length, after) = rest.split_first_chunk::<4>().ok_or_else(short)?;
         let length = u32::from_be_bytes(*length) as usize;
         if after.len() < length {
             return Err(format!("{file}: ends within the scene at byte {}", at + 4));
@@ -56,7 +61,11 @@ fn kernel() -> Result<(), String> {
         let text = match pair.as_deref() {
             Some([r, _]) if !(r.is_finite() && *r >= 0.0) => "refused 11".to_string(),
             Some([_, h]) if !(h.is_finite() && *h > 0.0) => "refused 12".to_string(),
-            Some([r, h]) => format!("{} {}", bits(CubicSplineKernel::scalar_apply(*r, *h)), bits(CubicSplineKernel::scalar_apply_diff(*r, *h))),
+            Some([r, h]) => {
+                let weight = CubicSplineKernel::scalar_apply(*r, *h);
+                let slope = CubicSplineKernel::scalar_apply_diff(*r, *h);
+                format!("{} {}", bits(weight), bits(slope))
+            }
             _ => return Err(format!("not two doubles of 16 hex digits: {line}")),
         };
         writeln!(out, "{text}").map_err(|e| e.to_string())?;

@@ -1,4 +1,5 @@
-//! Stand-ins for modules of the Rust that its text names but that were not handed over. Only `PressureSolver` takes part in a step, and it has no body.
+//! Stand-ins for modules of the Rust that its text names but that were not handed over. Only
+//! `PressureSolver` takes part in a step, and it has no body.
 
 use crate::counters::Counters;
 use crate::geometry::ContactManager;
@@ -19,7 +20,13 @@ pub trait PressureSolver {
         fluids: &mut [Fluid],
         boundaries: &[Boundary],
     );
-    fn evaluate_kernels(&mut self, kernel_radius: Real, contact_manager: &mut ContactManager, fluids: &[Fluid], boundaries: &[Boundary]);
+    fn evaluate_kernels(
+        &mut self,
+        kernel_radius: Real,
+        contact_manager: &mut ContactManager,
+        fluids: &[Fluid],
+        boundaries: &[Boundary],
+    );
     fn compute_densities(&mut self, contact_manager: &ContactManager, fluids: &[Fluid], boundaries: &mut [Boundary]);
     #[allow(clippy::too_many_arguments)]
     fn step(

@@ -13,7 +13,8 @@ use crate::scene::{read, BoundaryRecord, FluidRecord, Named, Refused, Scene, LON
 use crate::solver::{IISPHSolver, PressureSolver};
 use crate::{TimestepManager, ZeroDensity};
 
-/// The step asks for a kernel radius and a particle radius but uses neither, as contacts come with their weights.
+/// The step asks for a kernel radius and a particle radius but uses neither, as contacts come with
+/// their weights.
 const UNUSED: f64 = 1.0;
 
 /// A scene in the Rust's own structures.
@@ -82,16 +83,20 @@ fn contacts_of(scene: &Scene, fluids: &[Fluid], boundaries: &[Boundary]) -> Cont
 }
 
 fn put(lists: &[ParticlesContacts], model: usize, i: usize, named: &[Named]) {
-    let list = named.iter().map(|c| Contact { i, i_model: model, j: c.number, j_model: c.model, weight: c.weight, gradient: c.gradient });
-    lists[model].particle_contacts(i).write().unwrap().extend(list);
+    let contact = |c: &Named| {
+        let (j, j_model, weight, gradient) = (c.number, c.model, c.weight, c.gradient);
+        Contact { i, i_model: model, j, j_model, weight, gradient }
+    };
+    lists[model].particle_contacts(i).write().unwrap().extend(named.iter().map(contact));
 }
 
 impl Filled {
     /// The two calls that are ported: `compute_densities`, then `step`.
     pub fn step(&mut self) {
         self.solver.compute_densities(&self.contacts, &self.fluids, &mut self.boundaries);
-        let (counters, fluids) = (&mut Counters::new(), &mut self.fluids);
-        self.solver.step(counters, &mut self.timestep, &self.gravity, &mut self.contacts, UNUSED, fluids, &self.boundaries);
+        let (counters, clock, contacts) = (&mut Counters::new(), &mut self.timestep, &mut self.contacts);
+        let (fluids, boundaries) = (&mut self.fluids, &self.boundaries);
+        self.solver.step(counters, clock, &self.gravity, contacts, UNUSED, fluids, boundaries);
     }
 
     /// The step, or the zero density that its asserts found. Any other panic goes on.
@@ -116,7 +121,8 @@ fn row(head: &str, numbers: &[f64]) -> String {
     numbers.iter().fold(head.to_string(), |text, x| text + " " + &bits(*x)) + "\n"
 }
 
-/// The lines for one scene. Where an average was -0 the Rust leaves a sign open, and the line is `skipped`.
+/// The lines for one scene. Where an average was -0 the Rust leaves a sign open, and the line is
+/// `skipped`.
 pub fn lines(bytes: &[u8], any_length: bool) -> String {
     if bytes.len() > LONGEST && !any_length {
         return "too long\n".to_string();
@@ -137,7 +143,10 @@ fn stepped(scene: &Scene) -> Result<String, Refused> {
     }
     let mut text = match state.solver.last_error {
         None => "step unswept 0\n".to_string(),
-        Some(error) => format!("step {} {} {}\n", if state.solver.settled { "settled" } else { "ranout" }, state.solver.iterations, bits(error)),
+        Some(error) => {
+            let ending = if state.solver.settled { "settled" } else { "ranout" };
+            format!("step {ending} {} {}\n", state.solver.iterations, bits(error))
+        }
     };
     text += &row("clock", &[state.timestep.dt(), state.timestep.inv_dt(), state.timestep.remaining_time]);
     for (m, fluid) in state.fluids.iter().enumerate() {

@@ -1,4 +1,5 @@
-//! A reader of packed scenes, written from the specification: refusals 1 to 7, and the records in the shape that the Rust's lists have.
+//! A reader of packed scenes, written from the specification: refusals 1 to 7, and the records in
+//! the shape that the Rust's lists have.
 
 use crate::math::Vector;
 
@@ -165,7 +166,8 @@ pub fn read(bytes: &[u8]) -> Result<Scene, Refused> {
     Ok(scene)
 }
 
-/// Refusal 7. Records and their lists are walked in the order of their bytes, so the first fault is the earliest.
+/// Refusal 7. Records and their lists are walked in the order of their bytes, so the first fault is
+/// the earliest.
 fn names(scene: &Scene) -> Result<(), Refused> {
     let fluids: Vec<usize> = scene.fluids.iter().map(|f| f.particles.len()).collect();
     let boundaries: Vec<usize> = scene.boundaries.iter().map(|b| b.particles.len()).collect();

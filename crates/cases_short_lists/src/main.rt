@@ -1,16 +1,11 @@
 // Runs the step on the scene in data/scene, scene A of FORMAT 1.9, with an answer list one double too short, with a
 // work list one too short, and with both just long enough, and writes the texts. The lists are full of a mark before;
 // refusal 8 leaves it, and a line tells if an element is another.
+use cases_marks::MARK;
+use cases_marks::print_others;
+use iisph_run::TEXT_ROOM;
 use libc::STDOUT_FILENO;
-ghost use Prim.Native.Nat.{_≤_};
-ghost use mathlib.Core.Path.{_≡_};
-ghost use lib.ListN.{length};
-ghost use Rattle.cases_short_lists.specs.Marks.{other, others};
 ghost use Rattle.cases_short_lists.specs.Printed.{Prints};
-
-const MARK: f64 = 1.5;
-
-const MARK_BITS: u64 = 0x3ff8_0000_0000_0000;
 
 // Writes the text of a scene with these lists and hands back its length.
 fn print_run(scene: &[u8], answers: &mut [f64], work: &mut [f64]) -> usize
@@ -19,43 +14,9 @@ fn print_run(scene: &[u8], answers: &mut [f64], work: &mut [f64]) -> usize
         (now (work .exit))
         ⌝ }
 {
-    let mut out = [0u8; 65536];
-    let n = iisph_text::run(scene, answers, work, &mut out);
+    let mut out = [0u8; TEXT_ROOM];
+    let n = iisph_run::run(scene, answers, work, &mut out);
     io::write_all(STDOUT_FILENO, &out[..n]);
-    n
-}
-
-// 0 for the mark, else 1.
-fn is_other(x: f64) -> usize
-    ensures { λ n. ⌜ (n ≡ other x) × (n ≤ 1) ⌝ }
-{
-    if math::to_bits(x) == MARK_BITS {
-        return 0;
-    }
-    1
-}
-
-// How many elements are not the mark.
-fn count_others(list: &[f64]) -> usize
-    ensures { λ n. ⌜ n ≡ others (now (list .entry)) (length (now (list .entry))) ⌝ }
-{
-    let mut n = 0;
-    let mut i = 0;
-    while i < list.len() {
-        n += is_other(list[i]);
-        i += 1;
-    }
-    n
-}
-
-// Writes a line if an element is not the mark, and hands back how many are not.
-fn print_others(list: &[f64]) -> usize
-    ensures { λ n. ⌜ n ≡ others (now (list .entry)) (length (now (list .entry))) ⌝ }
-{
-    let n = count_others(list);
-    if n > 0 {
-        io::write_all(STDOUT_FILENO, b"a list was written to\n");
-    }
     n
 }
 

@@ -1,6 +1,6 @@
 -- What the C interface's calls come to, case by case: lists that are too short, done, or refused. Each case unfolds the
 -- call's definitions once. Assumes nothing.
-use Prim.Native.Nat.{ℕ, _+_, _<_, _≤_}
+use Prim.Native.Nat.{ℕ, _<_, _≤_}
 use mathlib.Core.Path.{_≡_, refl, sym, ap, _∙_}
 use mathlib.Core.Bool.{true, false}
 use mathlib.Core.List.{List, [], _∷_}
@@ -10,14 +10,9 @@ use lib.ListN.{length, set}
 use lib.Seq.{sets}
 use borrow.Author.Tests.{le-leb, lt-leb}
 use Rattle.lists.specs.Lists.{choose}
-use Rattle.cubic_spline.specs.declared.KernelAnswer.{KernelAnswer}
-use Rattle.cubic_spline.specs.declared.KernelAnswer.the-variants as kernel
-use Rattle.cubic_spline.specs.declared.KernelRefusal.{KernelRefusal}
 use Rattle.scene_format.specs.SceneOf.{sceneOf}
-use Rattle.scene_format.specs.Refusals.{numberOf}
 use Rattle.scene_check.specs.Walk.{checked}
 use Rattle.scene_format.specs.declared.Refusal.{Refusal}
-use Rattle.scene_format.specs.declared.Refusal.the-variants as refusal
 use Rattle.scene_format.specs.declared.Walk.{Walk}
 use Rattle.scene_format.specs.declared.Walk.the-variants as walk
 use Rattle.iisph_preparation.specs.Prepare.{readiness}
@@ -34,25 +29,11 @@ use Rattle.iisph_validation.specs.Validate.{Validates}
 use Rattle.scene_lengths.specs.declared.Lengths.{Lengths}
 use Rattle.scene_lengths.specs.declared.Needs.{Needs}
 use Rattle.scene_lengths.specs.declared.Needs.the-variants as needs
-use Rattle.iisph_c.specs.Kernel.{refusalCode, kernelCode, valueAfter, Gives}
 use Rattle.iisph_c.specs.Needs.{needsCode, lengthsAfter, NeedsTo}
-use Rattle.iisph_c.specs.Numbers.{tooShort, countsNeeded, refusedCode, refusedCounts}
-use Rattle.iisph_c.specs.Step.{numbersNeeded, reportNumbers, stepCode, numbersAfter, countsAfter}
-use Rattle.iisph_c.specs.Step.{hasRoom, StepsTo}
+use Rattle.iisph_codes.specs.Numbers.{tooShort, countsNeeded, refusedCode, refusedCounts}
+use Rattle.iisph_codes.specs.Report.{numbersNeeded, reportNumbers}
+use Rattle.iisph_c.specs.Step.{stepCode, numbersAfter, countsAfter, hasRoom, StepsTo}
 use Rattle.iisph_c.specs.Validate.{validateCode, validateCounts, ValidatesTo}
-
--- a refusal's number is small
-pub number-few : (r : Refusal) → numberOf r ≤ 10
-number-few (refusal.MissingField at) = omega arith
-number-few (refusal.UnknownForm at) = omega arith
-number-few (refusal.TooManyModels at) = omega arith
-number-few (refusal.TooManyParticles at) = omega arith
-number-few (refusal.TrailingBytes at) = omega arith
-number-few (refusal.NotFinite at) = omega arith
-number-few (refusal.DanglingContact at) = omega arith
-number-few refusal.ShortList = omega arith
-number-few (refusal.ZeroDensity at) = omega arith
-number-few (refusal.ZeroPredictedDensity at) = omega arith
 
 -- ---- the step
 
@@ -114,7 +95,8 @@ module _ (b : List ℕ) (answers work numbers : List Float) (counts : List ℕ) 
 -- ---- whether a step would be refused
 
 module _ (a : StepAnswer) where
-  ready-code : readiness.Ready ≡ readiness a → (0 ≡ validateCode a) × ((counts : List ℕ) → counts ≡ validateCounts a counts)
+  ready-code : readiness.Ready ≡ readiness a
+      → (0 ≡ validateCode a) × ((counts : List ℕ) → counts ≡ validateCounts a counts)
   unfolding readiness validateCode validateCounts
   ready-code q = go a q
     where
@@ -205,22 +187,3 @@ module _ (b : List ℕ) where
             countsThen = rw (t, w .ended)
                 (g ∙ ap (λ (l : Lengths). sets counts 0 (l .answers ∷ l .work ∷ [])) (w .lengths));
           }
-
--- ---- the kernel
-
-pub answered : {a a′ : KernelAnswer} {out out′ : List Float} {n : ℕ} → a ≡ a′ → Gives a out n out′ → Gives a′ out n out′
-answered e g = rw e at g
-
-module _ (a : KernelAnswer) (out : List Float) where
-  pub out-empty : length out < 1 → Gives a out tooShort out
-  unfolding choose
-  out-empty h = let f = lt-leb 1 (length out) h in record { result = rw f; outThen = rw f }
-
-  module _ (l : 1 ≤ length out) where
-    pub value-given : {x : Float} {out′ : List Float} → a ≡ kernel.Value x → out′ ≡ set out 0 x → Gives a out 0 out′
-    unfolding choose kernelCode valueAfter
-    value-given q g = let t = le-leb 1 (length out) l in record { result = rw (t, q); outThen = rw (t, q) g }
-
-    pub refusal-given : {k : KernelRefusal} {n : ℕ} → a ≡ kernel.Refused k → n ≡ refusalCode k → Gives a out n out
-    unfolding choose kernelCode valueAfter
-    refusal-given q e = let t = le-leb 1 (length out) l in record { result = rw (t, q) e; outThen = rw (t, q) }

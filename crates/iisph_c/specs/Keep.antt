@@ -3,34 +3,17 @@
 use Prim.Native.Nat.{ℕ}
 use mathlib.Core.Path.{_≡_}
 use mathlib.Core.Bool.{Bool, _&&_}
-use mathlib.Core.List.{List, [], _∷_}
+use mathlib.Core.List.{List}
 use lib.Dec.{leb}
-use lib.Ieee.{Float, nan}
-use lib.ListN.{length, getD}
+use lib.Ieee.{Float}
+use lib.ListN.{length}
 use lib.Seq.{sets}
 use Rattle.lists.specs.Lists.{choose}
-use Rattle.timestep_manager.specs.declared.Clock.{Clock}
 use Rattle.iisph_rules.specs.Answer.{stepAnswer}
 use Rattle.iisph_rules.specs.declared.StepAnswer.{StepAnswer}
 use Rattle.iisph_kept.specs.Kept.{clockAfter}
+use Rattle.iisph_codes.specs.Listed.{clockNeeded, clockNumbers, clockOf}
 use Rattle.iisph_c.specs.Step.{hasRoom, StepsTo}
-
--- how many elements `clock` must have
-abbrev pub clockNeeded : ℕ
-clockNeeded = 4
-
--- they are the step length, dt, inv_dt and the remaining time
-unfoldable pub clockNumbers : Clock → List Float
-clockNumbers c = c .«total_step_size» ∷ c .dt ∷ c .«inv_dt» ∷ c .«remaining_time» ∷ []
-
-unfoldable pub clockOf : List Float → Clock
-clockOf l =
-    record {
-      «total_step_size» = getD l 0 nan;
-      dt = getD l 1 nan;
-      «inv_dt» = getD l 2 nan;
-      «remaining_time» = getD l 3 nan;
-    }
 
 -- the clock that the list begins with is as a step leaves a clock that is lent
 unfoldable pub clockListAfter : StepAnswer → List Float → List Float

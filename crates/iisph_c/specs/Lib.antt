@@ -1,6 +1,4 @@
-pub mod Numbers
 pub mod Step
+pub mod Keep
 pub mod Needs
 pub mod Validate
-pub mod Kernel
-pub mod Keep

@@ -9,7 +9,7 @@ use Rattle.scene_format.specs.SceneOf.{sceneOf}
 use Rattle.scene_check.specs.Walk.{checked}
 use Rattle.scene_format.specs.declared.Walk.{Walk}
 use Rattle.scene_format.specs.declared.Walk.the-variants.{At, Refused}
-use Rattle.iisph_c.specs.Numbers.{tooShort, refusedCode, countsRoom, refusedCounts}
+use Rattle.iisph_codes.specs.Numbers.{tooShort, refusedCode, countsRoom, refusedCounts}
 
 -- by the check of the scene: refusals 1 to 7
 unfoldable pub needsCode : Walk → ℕ

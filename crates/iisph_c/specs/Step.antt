@@ -2,24 +2,18 @@
 use Prim.Native.Nat.{ℕ}
 use mathlib.Core.Path.{_≡_}
 use mathlib.Core.Bool.{Bool, _&&_}
-use mathlib.Core.List.{List, [], _∷_}
+use mathlib.Core.List.{List}
 use lib.Dec.{leb}
 use lib.Ieee.{Float}
 use lib.ListN.{length, set}
 use lib.Seq.{sets}
 use Rattle.lists.specs.Lists.{choose}
 use Rattle.iisph_rules.specs.Answer.{stepAnswer, answersAfter, workAfter}
-use Rattle.iisph_rules.specs.Endings.{endingNumber, endingError}
-use Rattle.iisph_rules.specs.declared.Report.{Report}
+use Rattle.iisph_rules.specs.Endings.{endingNumber}
 use Rattle.iisph_rules.specs.declared.StepAnswer.{StepAnswer}
 use Rattle.iisph_rules.specs.declared.StepAnswer.the-variants.{Done, Refused}
-use Rattle.iisph_c.specs.Numbers.{tooShort, refusedCode, countsRoom, refusedCounts}
-
--- the first four of `numbers`: the ending's error, +0 where it carries none, then the clock's dt, inv_dt and
--- remaining time
-unfoldable pub reportNumbers : Report → List Float
-reportNumbers r = let clock = r .clock in endingError (r .ending) ∷ clock .dt ∷ clock .«inv_dt» ∷ clock .«remaining_time» ∷
-    []
+use Rattle.iisph_codes.specs.Numbers.{tooShort, refusedCode, countsRoom, refusedCounts}
+use Rattle.iisph_codes.specs.Report.{numbersNeeded, reportNumbers}
 
 -- ---- by the step's answer
 
@@ -37,10 +31,6 @@ countsAfter (Done r) old = set old 0 (r .iterations)
 countsAfter (Refused r) old = refusedCounts r old
 
 -- ---- the call
-
--- how many elements `numbers` must have
-abbrev pub numbersNeeded : ℕ
-numbersNeeded = 4
 
 -- whether `numbers` and `counts` are long enough
 unfoldable pub hasRoom : List Float → List ℕ → Bool

@@ -11,7 +11,7 @@ use Rattle.scene_format.specs.SceneOf.{sceneOf}
 use Rattle.iisph_rules.specs.Answer.{stepAnswer, workAfter}
 use Rattle.iisph_rules.specs.declared.StepAnswer.{StepAnswer}
 use Rattle.iisph_rules.specs.declared.StepAnswer.the-variants.{Done, Refused}
-use Rattle.iisph_c.specs.Numbers.{tooShort, refusedCode, countsRoom, refusedCounts}
+use Rattle.iisph_codes.specs.Numbers.{tooShort, refusedCode, countsRoom, refusedCounts}
 
 unfoldable pub validateCode : StepAnswer → ℕ
 validateCode (Done r) = 0

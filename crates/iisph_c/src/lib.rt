@@ -1,25 +1,23 @@
 // The C interface (include/iisph.h). A slice is a pointer and a length.
-mod write;
-
-use crate::write::CLOCK;
-use crate::write::COUNTS;
-use crate::write::NUMBERS;
-use crate::write::TOO_SHORT;
-use crate::write::advance_listed;
-use crate::write::write_kernel;
-use crate::write::write_lengths;
-use crate::write::write_refusal;
-use crate::write::write_report;
+use iisph_codes::CLOCK;
+use iisph_codes::COUNTS;
+use iisph_codes::NUMBERS;
+use iisph_codes::TOO_SHORT;
+use iisph_codes::advance_listed;
+use iisph_codes::write_kernel;
+use iisph_codes::write_lengths;
+use iisph_codes::write_refusal;
+use iisph_codes::write_report;
 use iisph_preparation::Readiness;
 use iisph_rules::StepAnswer;
 use scene_lengths::Needs;
 use scene_lengths::lengths_needed;
 ghost use Rattle.cubic_spline.specs.Shape.{weight, slope};
+ghost use Rattle.iisph_codes.specs.Kernel.{KernelTo};
 ghost use Rattle.iisph_c.specs.Step.{hasRoom, StepsTo};
 ghost use Rattle.iisph_c.specs.Keep.{KeepsTo};
 ghost use Rattle.iisph_c.specs.Needs.{NeedsTo};
 ghost use Rattle.iisph_c.specs.Validate.{ValidatesTo};
-ghost use Rattle.iisph_c.specs.Kernel.{KernelTo};
 
 // One step: 0 unswept, 1 settled, 2 ran out, 100 + n for refusal n, 99 where `numbers` or `counts` is too short. Takes
 // up to 1 MiB of stack.
@@ -49,7 +47,8 @@ pub extern "C" fn iisph_step(
     }
 }
 
-// The same for a caller that keeps a clock: where the step is done it is moved on in its place.
+// The same for a caller that keeps a clock: where the step is done it is moved on in its place. 99 also where `clock` is
+// too short.
 #[no_mangle]
 pub extern "C" fn iisph_step_keeping(
     scene: &[u8],
@@ -89,7 +88,8 @@ pub extern "C" fn iisph_needed(scene: &[u8], counts: &mut [u64]) -> u64
     }
 }
 
-// Whether a step with a long enough answer list would be refused: 0, or as there. Takes up to 1 MiB of stack.
+// Whether a step with a long enough answer list would be refused: 0 if not, 100 + n or 99 as there. Takes up to 1 MiB
+// of stack.
 #[no_mangle]
 pub extern "C" fn iisph_validate(scene: &[u8], work: &mut [f64], counts: &mut [u64]) -> u64
     ensures { λ r. ⌜

@@ -50,7 +50,7 @@ pub record ForcesKnown (b forces : List ℕ) : Type 0 where
 
 -- ---- answers
 
--- those of boundary particle j, where `force` gives the forces
+-- the answers of boundary particle j, where `force` gives the forces
 unfoldable pub boundaryWith : Scene → (ℕ → Vector) → ℕ → List Float
 boundaryWith s force j = boundaryVolume (boundary s j) ∷ choose (boundary s j .keepsForces) (force j) []
 
@@ -65,7 +65,7 @@ pub record ForceContact (b : List ℕ) (at : ℕ) : Type 0 where
   pub ready : ContactReady Boundary b at
   pub number : numberAt b at < getD (countsOf Boundary b) (modelAt b at) 0
 
--- those of a list
+-- every contact of a list is such
 pub record ForceContacts (b : List ℕ) (list : ContactList) : Type 0 where
   pub kind : list .kind ≡ Boundary
   pub each : (k : ℕ) → k < list .count → ForceContact b (list .at + contactWidth axes * k)
@@ -82,7 +82,7 @@ gathered s gain l c =
 abbrev pub stateGain : Scene → PressureState → Contact → Vector
 stateGain s state c = accelerationOf s state c ⊡ state .mass
 
--- and by the rules, of fluid particle i
+-- a × m_i by the rules, of fluid particle i
 abbrev pub forceGain : Scene → List Float → ℕ → Contact → Vector
 forceGain s ps i c = boundaryAcceleration s (coefficients s) ps i c ⊡ particleMass (particle s i)
 

@@ -1,5 +1,5 @@
--- What a step takes of the header: the code's clock, gravity and stopping numbers are those of the scene. Scaffolding: no
--- promise rests on it. Definitions only.
+-- What a step takes of the header: the code's clock, gravity and stopping numbers are those of the scene. Scaffolding:
+-- no promise rests on it. Definitions only.
 use Prim.Native.Nat.{_<_}
 use mathlib.Core.Path.{_≡_}
 use Rattle.math.specs.Vector.{coordinates}

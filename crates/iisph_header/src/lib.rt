@@ -1,5 +1,5 @@
-// The header of an accepted scene, decoded once for a whole step. `step_header` is for the crates above, which show that
-// the scene passed the check.
+// The header of an accepted scene, decoded once for a whole step. `step_header` is for the crates above, which show
+// that the scene passed the check.
 use math::Vec3;
 use scene_fields::reader::HeaderRead;
 use scene_fields::reader::header_numbers;

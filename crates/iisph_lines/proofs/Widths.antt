@@ -1,10 +1,9 @@
 -- How long the parts of a line are: each by the lengths of what it is made of. Assumes nothing.
 use Prim.Native.Nat.{ℕ, _+_, _*_, _≤_}
-use mathlib.Core.Path.{_≡_, refl, sym, ap, _∙_}
-use mathlib.Core.List.{List, [], _∷_, _++_, map, flatten, append-nil}
+use mathlib.Core.Path.{_≡_, refl, sym, _∙_}
+use mathlib.Core.List.{List, [], _∷_, _++_, flatten, append-nil}
 use native.Mathlib.Omega.{arith}
 use lib.ListN.{length, length-append}
-use lib.Ieee.{Float}
 use Rattle.lists.specs.Lists.{choose}
 use Rattle.timestep_manager.specs.declared.Clock.{Clock}
 use Rattle.scene_format.specs.declared.Kind.{Kind}
@@ -39,7 +38,12 @@ module _ (e : Ending) {t : Told} (q : t ≡ toldOf e) where
 
   pub unswept-text : (n : ℕ) → t .number ≡ 0 → endingWord (t .number) ++ decimalOf n ≡ endingText n e
   unfolding endingText flatten
-  unswept-text n h = rw (no-values e (sym number-told ∙ h), number-told, append-nil (endingWord (endingNumber e) ++ decimalOf n))
+  unswept-text n h =
+      rw (
+        no-values e (sym number-told ∙ h),
+        number-told,
+        append-nil (endingWord (endingNumber e) ++ decimalOf n),
+      )
 
   pub swept-text : (n : ℕ) → (t .number ≡ 0 → ⊥)
       → endingWord (t .number) ++ decimalOf n ++ doubleText (t .error) ≡ endingText n e

@@ -88,7 +88,7 @@ module _ (s : Scene) {pass : Pass} (i : ℕ) (work : List Float) where
         ≡ sets work (rowAt i + slotOf pass) (rowOf s work pass i)
     unfolding rowOf slotOf
     next-stored e q =
-        let k : rowAt i + 12 ≡ suc (rowAt i + quotientSlot axes) = omega arith in
+        let k : rowAt i + nextPressureSlot axes ≡ suc (rowAt i + quotientSlot axes) = omega arith in
         rw (e, q .term, q .pressure, size, k)
 
 -- ---- how many values a pass stores in a row

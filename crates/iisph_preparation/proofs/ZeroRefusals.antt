@@ -60,15 +60,11 @@ module _ (b : List ℕ) {n : ℕ} (size : n ≡ fluidSize (sceneOf b)) (l : List
       )
 
   -- a refused scene
-  pub work-cleared : (m : ℕ) (r : Refusal) {y z : List Float} → m ≡ boundarySize (sceneOf b)
-      → z ≡ prepared (sceneOf b) l
-      → y ≡ replicate (rowAt n + m) +0 ++ drop (rowAt n + m) z → y ≡ workPrepared b (Refused r) l
+  pub work-cleared : {k : ℕ} (r : Refusal) {y z : List Float} → k ≡ workNeeded (sceneOf b) → z ≡ prepared (sceneOf b) l
+      → y ≡ replicate k +0 ++ drop k z → y ≡ workPrepared b (Refused r) l
   unfolding workPrepared
-  work-cleared m r {y} {z} few e q =
-      let needed : rowAt n + m ≡ workNeeded (sceneOf b) = omega (arith, work-needed b) in
-      q
-      ∙ ap (λ (t : List Float). replicate (rowAt n + m) +0 ++ drop (rowAt n + m) t) e
-      ∙ rw (needed, drop-prepared b l (workNeeded (sceneOf b)) (omega (arith, needed)))
+  work-cleared r needed e q =
+      q ∙ rw (e, needed, drop-prepared b l (workNeeded (sceneOf b)) (omega (arith, work-needed b)))
 
 -- ---- columns
 

@@ -55,7 +55,8 @@ zeroAnswer at densities predicted report =
 
 -- ---- all before the iterations, of the bytes b and a work list: the answer r, the index, and the list afterwards
 
-pub record Prepares (b : List ℕ) (work : List Float) (r : Readiness) (index : List ℕ) (after : List Float) : Type 0 where
+pub record Prepares (b : List ℕ) (work : List Float) (r : Readiness) (index : List ℕ) (after : List Float)
+    : Type 0 where
   pub indexed : Indexed b index
   pub answer : r ≡ readiness (sceneAnswer (λ i. locationOf Fluid b i .at) (sceneOf b))
   pub list : after ≡ workPrepared b r work

@@ -7,7 +7,6 @@ use iisph_passes::traverse::traverse;
 use iisph_rows::boundary_volumes::compute_boundary_volumes;
 use iisph_rows::rows::DENSITY;
 use iisph_rows::rows::PREDICTED_DENSITY;
-use iisph_rows::rows::ROW;
 use iisph_rows::zeros::Found;
 use iisph_rows::zeros::clear;
 use iisph_rows::zeros::first_zero;
@@ -16,6 +15,7 @@ use scene_format::Refusal;
 use scene_index::index::RECORDS;
 use scene_index::index::fill;
 use scene_layout::Layout;
+use scene_lengths::lengths_of;
 use timestep_manager::Clock;
 ghost use mathlib.Core.Path.{_≡_};
 ghost use Prim.Native.Nat.{ℕ, _+_, _≤_};
@@ -94,14 +94,14 @@ fn prepare_rows(
         × (now (work .exit) ≡ workPrepared b r (now (work .entry))))
         ⌝ }
 {
-    let m = layout.boundaries.total;
     compute_boundary_volumes(scene, layout, index, n, work);
     fill_rows(scene, index, n, clock, gravity, work);
     let answer = zero_refusal(index, n, work);
     match answer {
         Readiness::Ready => Readiness::Ready,
         Readiness::Refused(refusal) => {
-            clear(work, ROW * n + m);
+            let needed = lengths_of(layout).work;
+            clear(work, needed);
             Readiness::Refused(refusal)
         }
     }

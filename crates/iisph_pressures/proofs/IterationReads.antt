@@ -1,12 +1,12 @@
 -- What the rows of the work list hold in an iteration, by the rules: coefficients, pressures, quotients and dij_pjl, of
 -- one particle and of all. Each is the one field of IterationReady, or the one table, that says it. Assumes nothing.
-use Prim.Native.Nat.{ℕ, _+_, _*_, _<_}
+use Prim.Native.Nat.{ℕ, _+_, _<_}
 use mathlib.Core.Path.{_≡_, sym, ap, _∙_}
 use mathlib.Core.List.{List, []}
 use native.Mathlib.Nat.{add-zero}
 use native.Mathlib.Omega.{arith}
 use lib.Ieee.{Float}
-use lib.ListN.{length, getD}
+use lib.ListN.{length}
 use lib.Seq.{ext-getD}
 use Rattle.math.specs.Real.{_⊗_, _⊘_, ⊝, +0}
 use Rattle.math.specs.Vector.{Vector}

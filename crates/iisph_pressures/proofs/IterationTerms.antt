@@ -1,7 +1,7 @@
 -- What an iteration computes of a particle is the rules': a term is that of the row which the contact names, and a sum
 -- over a list of contacts is one over the particle's. Each law is over variables for the results of the code's calls.
 -- Assumes nothing.
-use Prim.Native.Nat.{ℕ, _+_, _*_, _<_}
+use Prim.Native.Nat.{ℕ, _+_, _<_}
 use mathlib.Core.Path.{_≡_, refl, sym, ap, _∙_, subst}
 use mathlib.Core.Bool.{Bool, true, false, cond}
 use mathlib.Core.List.{List}

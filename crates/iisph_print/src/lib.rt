@@ -1,7 +1,7 @@
 // Writes the text of a packed scene to standard output: of bytes that are at hand, or that are read from a file. No
 // contract can say what is read or written, so they tell how much is written.
-use iisph_text::MOST_BYTES;
-use iisph_text::TEXT_ROOM;
+use iisph_run::MOST_BYTES;
+use iisph_run::TEXT_ROOM;
 use libc::STDOUT_FILENO;
 ghost use mathlib.Core.Path.{_≡_};
 ghost use lib.ListN.{length};
@@ -16,7 +16,7 @@ pub fn print_text(scene: &[u8]) -> usize
     ensures { λ n. ⌜ n ≡ length (textOf (now (scene .entry))) ⌝ }
 {
     let mut out = [0u8; TEXT_ROOM];
-    let n = iisph_text::text(scene, &mut out);
+    let n = iisph_run::text(scene, &mut out);
     io::write_all(STDOUT_FILENO, &out[..n]);
     n
 }

@@ -16,7 +16,6 @@ use Rattle.scene_format.specs.Format.{Location}
 use Rattle.scene_format.specs.Scene.{Scene, particle}
 use Rattle.scene_format.specs.SceneOf.{headerOf, fluidParticleAt, sceneOf}
 use Rattle.scene_index.proofs.ContactLists.{indexedLocation, particle-here}
-use Rattle.timestep_manager.specs.Clock.{advanced}
 use Rattle.timestep_manager.specs.declared.Clock.{Clock}
 use Rattle.iisph_rows.specs.Passes.{PassOver, firstPressure}
 

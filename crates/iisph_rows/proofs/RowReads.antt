@@ -6,7 +6,7 @@ use mathlib.Core.List.{List, [], _∷_}
 use native.Mathlib.Nat.{add-zero, add-assoc}
 use native.Mathlib.Omega.{arith}
 use lib.Ieee.{Float, nan}
-use lib.ListN.{length, getD}
+use lib.ListN.{length}
 use lib.Seq.{ext-getD}
 use Rattle.iisph_rules.specs.Coefficients.{boundaryVolume, particleMass, advectedVelocity}
 use Rattle.lists.proofs.Lists.{length-table, table-at}

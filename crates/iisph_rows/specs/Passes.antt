@@ -27,12 +27,12 @@ pub record PassOver (b index : List ℕ) (n : ℕ) : Type 0 where
   pub indexed : Indexed b index
   pub size : n ≡ fluidSize (sceneOf b)
 
--- and the clock that the step has advanced
+-- what a pass that needs dt may rely on besides: the clock that the step has advanced
 pub record TimedPass (b index : List ℕ) (n : ℕ) (clock : Clock) : Type 0 where
   pub over : PassOver b index n
   pub clockIs : clock ≡ clockOf (sceneOf b)
 
--- and gravity
+-- what a pass that needs gravity too may rely on besides
 pub record DrivenPass (b index : List ℕ) (n : ℕ) (clock : Clock) (gravity : Vec3) : Type 0 where
   pub timed : TimedPass b index n clock
   pub gravityIs : coordinates gravity ≡ sceneOf b .header .gravity

@@ -1,7 +1,7 @@
 -- A link is what the record's bytes say: fluid particle i of a packed scene names j just where one of the contacts in
 -- its record does, by model and number. The scene's lists of contacts are tables over the record's, and a particle past
 -- the end has none. Assumes nothing.
-use Prim.Native.Nat.{ℕ, _+_, _*_, _<_}
+use Prim.Native.Nat.{ℕ, _+_, _*_}
 use mathlib.Core.Path.{_≡_, refl, sym, ap, subst, _∙_}
 use mathlib.Core.Bool.{Bool, true, false}
 use mathlib.Core.List.{List, [], List·Memᴰ, List·Memᴰ·not-nil}
@@ -10,20 +10,11 @@ use borrow.Author.Tests.{ltb-true, ltb-false}
 use Rattle.lists.proofs.Lists.{in-table, table-in}
 use Rattle.scene_format.specs.Format.{axes, contactWidth, contactCount, contactsStart, startsOf, locationOf}
 use Rattle.scene_format.specs.Scene.{Contact, FluidParticle, noFluidParticle, fluidSize}
-use Rattle.scene_format.specs.SceneOf.{targetAt, contactAt, contactList, fluidParticleAt, sceneOf}
+use Rattle.scene_format.specs.SceneOf.{contactAt, contactList, fluidParticleAt, sceneOf}
 use Rattle.scene_format.specs.declared.Kind.{Kind}
 use Rattle.scene_format.specs.declared.Kind.the-variants.{Fluid, Boundary}
 use Rattle.scene_layout.proofs.Locations.{particle-at, particle-beyond}
-use Rattle.iisph_rules.specs.Locality.{contactsWith, Names}
-
--- the record of fluid particle i is there, and one of its contacts with particles of a kind names particle j: the start
--- of the model that stands there plus the number that stands there is j
-pub record Written (κ : Kind) (b : List ℕ) (i j : ℕ) : Type 0 where
-  pub there : i < fluidSize (sceneOf b)
-  pub contact : ℕ
-  pub listed : contact < contactCount κ b (locationOf Fluid b i .at)
-  pub target : targetAt (startsOf κ b) b (contactsStart κ b (locationOf Fluid b i .at) + contactWidth axes * contact)
-      ≡ j
+use Rattle.iisph_rules.specs.Locality.{contactsWith, Names, Written, NamesAreWritten}
 
 module _ (b : List ℕ) where
   recorded : ℕ → FluidParticle
@@ -44,7 +35,7 @@ module _ (b : List ℕ) where
   none Fluid = refl
   none Boundary = refl
 
-  pub names-written : (κ : Kind) (i j : ℕ) → Names κ (sceneOf b) i j → Written κ b i j
+  names-written : (κ : Kind) (i j : ℕ) → Names κ (sceneOf b) i j → Written κ b i j
   unfolding recorded listedAt contactList contactAt
   names-written κ i j n = go (ltb i (fluidSize (sceneOf b))) refl
     where
@@ -63,7 +54,7 @@ module _ (b : List ℕ) where
           let e = ap (contactsWith κ) (particle-beyond (sceneOf b) i (ltb-false _ _ q)) ∙ none κ in
           absurd (List·Memᴰ·not-nil (subst (List·Memᴰ (n .contact)) e (n .listed)))
 
-  pub written-names : (κ : Kind) (i j : ℕ) → Written κ b i j → Names κ (sceneOf b) i j
+  written-names : (κ : Kind) (i j : ℕ) → Written κ b i j → Names κ (sceneOf b) i j
   unfolding recorded listedAt contactList contactAt
   written-names κ i j w =
       let at = locationOf Fluid b i .at in
@@ -73,3 +64,6 @@ module _ (b : List ℕ) where
         listed = subst (List·Memᴰ _) (sym e) (table-in _ _ (w .contact) (w .listed));
         target = w .target;
       }
+
+pub names-are-written : NamesAreWritten
+names-are-written b κ i j = (names-written b κ i j, written-names b κ i j)

@@ -56,7 +56,7 @@ unfoldable pub answersAfter : List ℕ → ℕ → ℕ → List Float → List F
 answersAfter b answers work old =
     choose (isDone (stepAnswer b answers work)) (answersOf (sceneOf b) ++ drop (answersNeeded (sceneOf b)) old) old
 
--- whether the passes have used the work list, so that it is cleared: refusedIf 1 to 8 refused
+-- whether the passes have used the work list, so that it is cleared: unless 1 to 8 refused
 unfoldable pub clearsWork : StepAnswer → Bool
 clearsWork (Done r) = true
 clearsWork (Refused r) = leb 9 (numberOf r)

@@ -35,7 +35,7 @@ zeroVector s = origin (s .header .axes)
 unfoldable pub overContacts : {A : Type 0} → (A → Contact → A) → (A → Contact → A) → A → FluidParticle → A
 overContacts f g a p = fold g (fold f a (p .fluidContacts)) (p .boundaryContacts)
 
--- ---- boundary volumes (module 4)
+-- ---- boundary volumes (METHOD 4)
 
 -- `compute_boundary_volumes`: 1 / the sum of the weights, or 0 where the sum is zero
 unfoldable pub volumeFrom : List Float → Float
@@ -44,7 +44,7 @@ volumeFrom weights = let denominator = total +0 weights in cond (isZero denomina
 unfoldable pub boundaryVolume : BoundaryParticle → Float
 boundaryVolume q = volumeFrom (q .weights)
 
--- ---- masses (module 5)
+-- ---- masses (METHOD 5.1)
 
 -- `Fluid::particle_mass`: volume × rest density
 unfoldable pub particleMass : FluidParticle → Float
@@ -120,7 +120,7 @@ unfoldable pub aii : Scene → FluidParticle → Float → Vector → Float
 aii s p rho d = let e =
     djiFactor s p rho in overNeighbours s p (λ j sum c. sum ⊕ j .mass ⊗ ((d ⊟ c .gradient ⊡ e) · c .gradient)) +0
 
--- ---- all of them
+-- ---- the coefficients of a particle, and of all
 
 pub record Coefficients : Type 0 where
   pub density : Float

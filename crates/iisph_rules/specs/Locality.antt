@@ -1,4 +1,4 @@
--- Locality (demand 3, METHOD 8): what is claimed of two packed scenes, each claim as one type, with what the claims
+-- Locality (METHOD 8): what is claimed of two packed scenes, each claim as one type, with what the claims
 -- speak of. Links are those of the scene that the bytes stand for. Between two packed scenes particles are matched by
 -- model and number, so with the same counts by their flat numbers; headers, records and rest densities are the same if
 -- their bytes are (scene_check/specs/Same.antt). proofs/Locality.antt proves the claims. Definitions only.
@@ -9,9 +9,10 @@ use lib.ListN.{take, drop}
 use lib.Ieee.{Float}
 use Rattle.math.specs.Vector.{Vector}
 use Rattle.scene_format.specs.Bytes.{Bytes, byteAt}
-use Rattle.scene_format.specs.Format.{axes, minPressureIterOffset, maxPressureIterOffset, locationOf}
+use Rattle.scene_format.specs.Format.{axes, minPressureIterOffset, maxPressureIterOffset, locationOf, startsOf}
+use Rattle.scene_format.specs.Format.{contactWidth, contactCount, contactsStart}
 use Rattle.scene_format.specs.Scene.{Scene, Contact, FluidParticle, fluidSize, particle}
-use Rattle.scene_format.specs.SceneOf.{sceneOf}
+use Rattle.scene_format.specs.SceneOf.{sceneOf, targetAt}
 use Rattle.scene_format.specs.declared.Kind.{Kind}
 use Rattle.scene_format.specs.declared.Kind.the-variants.{Fluid, Boundary}
 use Rattle.scene_check.specs.Same.{SameRecord, SameFluidRecord, SameShape}
@@ -39,6 +40,21 @@ pub record Names (κ : Kind) (s : Scene) (i j : ℕ) : Type 0 where
 -- a link leads from fluid particle i to each fluid particle that its list names
 abbrev pub Link : Scene → ℕ → ℕ → Type 0
 Link s i j = Names Fluid s i j
+
+-- the record of fluid particle i is there, and one of its contacts with particles of a kind names particle j: the start
+-- of the model that stands there plus the number that stands there is j
+pub record Written (κ : Kind) (b : List ℕ) (i j : ℕ) : Type 0 where
+  pub there : i < fluidSize (sceneOf b)
+  pub contact : ℕ
+  pub listed : contact < contactCount κ b (locationOf Fluid b i .at)
+  pub target : targetAt (startsOf κ b) b (contactsStart κ b (locationOf Fluid b i .at) + contactWidth axes * contact)
+      ≡ j
+
+-- a scene's particle names another just where its record does (proofs/Links.antt)
+abbrev pub NamesAreWritten : Type 0
+NamesAreWritten =
+    (b : List ℕ) (κ : Kind) (i j : ℕ) → (Names κ (sceneOf b) i j → Written κ b i j)
+    × (Written κ b i j → Names κ (sceneOf b) i j)
 
 -- l lies within n links of i: at most n links in a row lead to it, none where it is i itself
 pub data Within (s : Scene) : ℕ → ℕ → ℕ → Type 0 where

@@ -44,7 +44,7 @@ use Rattle.iisph_passes.specs.Traverse.{slotOf, rowOf}
 use Rattle.iisph_iterations.specs.declared.«pressure_solve».Solved.{Solved}
 use Rattle.iisph_passes.specs.declared.traverse.Pass.the-variants.{Shares}
 use Rattle.iisph_iterations.proofs.Iterated.{again-ready, again-pressures, drop-times}
-use Rattle.scene_lengths.proofs.Needed.{work-needed, answers-needed, boundaries-total}
+use Rattle.scene_lengths.proofs.Needed.{work-needed, answers-needed}
 use Rattle.iisph_passes.proofs.Passes.{pass-rows, pass-drop}
 use Rattle.lists.proofs.RowParts.{rows-same}
 use Rattle.iisph_passes.proofs.Traversal.{pressures-kept, iteration-same}
@@ -175,9 +175,6 @@ module _ {b : List ℕ} {layout : Layout} (passed : Passed b layout) {n : ℕ} (
           shares-pressures b size x solved-ready e
           ∙ solved-pressures b size work first-ready first-pressures (solves .list)
 
-      needed : rowAt n + layout .boundaries .total ≡ workNeeded (sceneOf b)
-      needed = omega (arith, size, boundaries-total passed, work-needed b)
-
       beyond-rows : rowAt (fluidSize (sceneOf b)) ≤ workNeeded (sceneOf b)
       beyond-rows = omega (arith, work-needed b)
 
@@ -188,18 +185,18 @@ module _ {b : List ℕ} {layout : Layout} (passed : Passed b layout) {n : ℕ} (
           ∙ ap (drop (workNeeded (sceneOf b))) (solves .list)
           ∙ drop-times b (solution (sceneOf b) .iterations) work (workNeeded (sceneOf b)) beyond-rows
 
-      pub finished : {answers a c w : List Float} {report : Report} → answersNeeded (sceneOf b) ≤ length answers
+      pub finished : {answers a c w : List Float} {k : ℕ} {report : Report} → answersNeeded (sceneOf b) ≤ length answers
           → a ≡ stored (fluidAnswerWidth axes) n 0
           (fluidAnswer (sceneOf b) (coefficients (sceneOf b)) (pressuresIn n z)) answers
           → c ≡ sets a (fluidAnswerWidth axes * n)
           (flatten (table (boundarySize (sceneOf b))
           (boundaryAnswer (sceneOf b) (coefficients (sceneOf b)) (pressuresIn n z))))
-          → w ≡ replicate (rowAt n + layout .boundaries .total) +0 ++ drop (rowAt n + layout .boundaries .total) z
+          → k ≡ workNeeded (sceneOf b) → w ≡ replicate k +0 ++ drop k z
           → report ≡ reportOf (sceneOf b)
           → Finishes b answers work report c w
-      finished {answers} room ae ce we re =
+      finished {answers} room ae ce ke we re =
           record {
             report = re;
             answersThen = answers-made b size answers room shared-pressures ae ce;
-            workThen = we ∙ rw (needed, drop-shared);
+            workThen = we ∙ rw (ke, drop-shared);
           }

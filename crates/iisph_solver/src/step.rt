@@ -8,7 +8,6 @@ use iisph_passes::traverse::Pass;
 use iisph_passes::traverse::traverse;
 use iisph_preparation::Readiness;
 use iisph_preparation::prepare;
-use iisph_rows::rows::ROW;
 use iisph_rows::zeros::clear;
 use iisph_rules::Report;
 use iisph_rules::StepAnswer;
@@ -51,12 +50,12 @@ fn finish(
     let clock = header.clock;
     let gravity = header.gravity;
     let stopping = header.stopping;
-    let m = layout.boundaries.total;
     let solved = pressure_solve(scene, layout, index, n, clock, gravity, stopping, work);
     traverse(Pass::Shares, scene, index, n, clock, gravity, work);
     update_velocities_and_positions(scene, index, work, n, clock, gravity, answers);
     boundary_answers(scene, layout, index, work, n, answers);
-    clear(work, ROW * n + m);
+    let needed = lengths_of(layout).work;
+    clear(work, needed);
     let ending = solved.ending;
     Report {
         clock,

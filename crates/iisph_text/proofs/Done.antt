@@ -20,25 +20,28 @@ use Rattle.scene_lengths.proofs.Needed.{fluid-answers, answers-needed, fluids-t
 use Rattle.iisph_rules.specs.Answer.{stepAnswer, answersAfter}
 use Rattle.iisph_rules.specs.Step.{answersOf}
 use Rattle.iisph_rules.specs.declared.Report.{Report}
+use Rattle.iisph_rules.specs.declared.StepAnswer.{StepAnswer}
 use Rattle.iisph_rules.specs.declared.StepAnswer.the-variants.{Done}
 use Rattle.iisph_rules.proofs.Reports.{step-done, answers-done}
 use Rattle.iisph_rules.proofs.Sizes.{length-answers, beyond-answers}
 use Rattle.iisph_lines.specs.Lines.{stepLine, clockLine, modelsText, particlesText}
 use Rattle.iisph_lines.proofs.Behind.{text-behind}
-use Rattle.iisph_text.specs.Text.{answerText}
-use Rattle.iisph_text.specs.Run.{Reported, LinesReady}
+use Rattle.iisph_solver.specs.Step.{Steps}
+use Rattle.iisph_text.specs.Text.{mostBytes, answerText}
+use Rattle.iisph_text.specs.Run.{textRoom, Reported, LinesReady, Runs}
+use Rattle.iisph_text.proofs.Ran.{scene-run}
 use Rattle.iisph_text.proofs.Texts.{done-room}
 
 -- ---- what a step's answer says
 
 module _ (b : List ℕ) (answers work : ℕ) {r : Report} (q : stepAnswer b answers work ≡ Done r) where
-  pub reported : Reported b r
+  reported : Reported b r
   reported =
       let d = step-done b answers work q in
       record { accepted = d .accepted ∙ ap At (accepted-length b (d .accepted)); report = d .report }
 
   -- the answers stand in front of the list
-  pub answers-front : (old : List Float) {xs : List Float} → xs ≡ answersAfter b answers work old
+  answers-front : (old : List Float) {xs : List Float} → xs ≡ answersAfter b answers work old
       → xs ≡ answersOf (sceneOf b) ++ drop (answersNeeded (sceneOf b)) xs
   answers-front old e =
       e
@@ -84,7 +87,7 @@ module _ {b : List ℕ} {layout : Layout} (p : Passed b layout) where
         ≤ length xs
     boundaries-there = omega (arith, needed-there, boundaries-needed)
 
-    pub lines-ready : {r : Report} {out : List ℕ} → Reported b r → 2 * length b ≤ length out
+    lines-ready : {r : Report} {out : List ℕ} → Reported b r → 2 * length b ≤ length out
         → LinesReady layout xs r out
     lines-ready d h =
         record {
@@ -108,8 +111,28 @@ module _ {b : List ℕ} {layout : Layout} (p : Passed b layout) where
           p .layoutIs,
         )
 
-    pub lines-written : (r : Report) {out o : List ℕ} {n : ℕ}
+    lines-written : (r : Report) {out o : List ℕ} {n : ℕ}
         → Writes out 0 (stepLine r ++ clockLine (r .clock) ++ particlesText layout xs) o n
         → Writes out 0 (answerText b (Done r)) o n
     unfolding answerText
     lines-written r w = rw lines-same at w
+
+-- ---- what a step that is done comes to, from its contract
+
+module _ {b : List ℕ} {layout : Layout} (p : Passed b layout) {answers work answers′ work′ : List Float}
+    {a : StepAnswer} (s : Steps b answers work a answers′ work′) {r : Report} (q : a ≡ Done r) where
+  abbrev is-done : stepAnswer b (length answers) (length work) ≡ Done r
+  is-done = sym (s .answer) ∙ q
+
+  front : answers′ ≡ answersOf (sceneOf b) ++ drop (answersNeeded (sceneOf b)) answers′
+  front = answers-front b (length answers) (length work) is-done answers (s .answersThen)
+
+  module _ {out : List ℕ} (short : length b ≤ mostBytes) (room : textRoom ≤ length out) where
+    pub done-ready : LinesReady layout answers′ r out
+    done-ready =
+        lines-ready p _ front (reported b (length answers) (length work) is-done) (omega (arith, short, room))
+
+    pub done-run : {o : List ℕ} {n : ℕ}
+        → Writes out 0 (stepLine r ++ clockLine (r .clock) ++ particlesText layout answers′) o n
+        → Runs b answers work out n answers′ work′ o
+    done-run w = scene-run room short s (rw q (lines-written p _ front r w))

@@ -1,4 +1,4 @@
 pub mod Room
 pub mod Texts
-pub mod Done
 pub mod Ran
+pub mod Done

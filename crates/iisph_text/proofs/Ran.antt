@@ -10,21 +10,28 @@ use lib.Ieee.{Float}
 use borrow.Author.Tests.{lt-ltb, le-ltb}
 use Rattle.lists.specs.Lists.{choose}
 use Rattle.lists.specs.Stores.{Writes}
-use Rattle.lists.proofs.Writing.{none-written}
+use Rattle.lists.proofs.Writing.{none-written, _then_}
 use Rattle.scene_format.specs.Bytes.{Bytes}
+use Rattle.scene_format.specs.declared.Refusal.{Refusal}
+use Rattle.scene_format.specs.declared.Kind.the-variants.{Fluid, Boundary}
+use Rattle.scene_layout.specs.declared.Layout.{Layout}
+use Rattle.iisph_lines.specs.Lines.{stepLine, clockLine, modelsText, particlesText, refusedLine}
+use Rattle.iisph_rules.specs.declared.Report.{Report}
 use Rattle.iisph_rules.specs.declared.StepAnswer.{StepAnswer}
+use Rattle.iisph_rules.specs.declared.StepAnswer.the-variants.{Refused}
 use Rattle.iisph_solver.specs.Step.{Steps}
 use Rattle.iisph_text.specs.Text.{mostBytes, tooLong, textWith, textOf, answerText}
-use Rattle.iisph_text.specs.Run.{
-  textRoom,
-  enoughAnswers,
-  enoughWork,
-  written,
-  ifStepped,
-  textIn,
-  Runs,
-}
+use Rattle.iisph_text.specs.Run.{textRoom, enoughAnswers, enoughWork, written, ifStepped, textIn, Runs, behind}
 use Rattle.iisph_text.proofs.Texts.{text-same}
+
+-- the four parts of the text of a step that is done
+pub parts-written : (layout : Layout) (xs : List Float) (r : Report) {out o₁ o₂ o₃ o : List ℕ} {n₁ n₂ n₃ n : ℕ}
+    → Writes out 0 (stepLine r) o₁ n₁ → Writes o₁ n₁ (clockLine (r .clock)) o₂ n₂
+    → Writes o₂ n₂ (modelsText Fluid (layout .fluids) 0 xs) o₃ n₃
+    → Writes o₃ n₃ (modelsText Boundary (layout .boundaries) (behind layout) xs) o n
+    → Writes out 0 (stepLine r ++ clockLine (r .clock) ++ particlesText layout xs) o n
+unfolding particlesText
+parts-written layout xs r p q v w = p then q then (v then w)
 
 module _ {b : List ℕ} {answers work : List Float} {out : List ℕ} where
   pub no-room : length out < textRoom → Runs b answers work out 0 answers work out
@@ -53,6 +60,13 @@ module _ {b : List ℕ} {answers work : List Float} {out : List ℕ} where
           answersThen = rw (t, l) (s .answersThen);
           workThen = rw (t, l) (s .workThen);
         }
+
+    -- a refused step
+    pub refused-run : length b ≤ mostBytes → {answer : StepAnswer} {answers′ work′ : List Float}
+        → Steps b answers work answer answers′ work′ → {refusal : Refusal} → answer ≡ Refused refusal
+        → Writes out 0 (refusedLine refusal) o r → Runs b answers work out r answers′ work′ o
+    unfolding answerText
+    refused-run h s q w = scene-run h s (rw q w)
 
 -- ---- with long enough lists
 

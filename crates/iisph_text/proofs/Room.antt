@@ -9,21 +9,8 @@ use lib.ListN.{length, getD, length-append}
 use lib.Ieee.{Float}
 use Rattle.lists.specs.Lists.{table, iter, sum}
 use Rattle.scene_format.specs.Bytes.{Bytes}
-use Rattle.scene_format.specs.Format.{
-  axes,
-  mostModels,
-  mostParticles,
-  modelNumber,
-  headerWidth,
-  particlesAt,
-  keepsAt,
-  ownWidth,
-  firstRecord,
-  nextRecord,
-  modelEnd,
-  firstHead,
-  headAt,
-}
+use Rattle.scene_format.specs.Format.{axes, mostModels, mostParticles, modelNumber, headerWidth, particlesAt, keepsAt}
+use Rattle.scene_format.specs.Format.{ownWidth, firstRecord, nextRecord, modelEnd, firstHead, headAt}
 use Rattle.scene_format.specs.SceneOf.{sceneOf}
 use Rattle.scene_format.specs.declared.Kind.{Kind}
 use Rattle.scene_format.specs.declared.Kind.the-variants.{Fluid, Boundary}

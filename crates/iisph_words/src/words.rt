@@ -9,6 +9,7 @@ ghost use Rattle.lists.specs.Stores.{Writes};
 ghost use Rattle.iisph_words.specs.Words.{pairText, doubleTextWidth, doubleText, doublesText};
 ghost use Rattle.iisph_words.specs.Words.{kindWord, endingWord};
 
+// One byte of text.
 pub fn put_byte(out: &mut [u8], at: usize, byte: u8) -> usize
     requires { ⌜ at < length (now out) ⌝ }
     ensures { λ r. ⌜ Writes (now (out .entry)) at (byte ∷ []) (now (out .exit)) r ⌝ }

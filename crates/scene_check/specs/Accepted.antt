@@ -30,7 +30,7 @@ pub record FluidParticleOk (b : List ℕ) (p : Location) (i : ℕ) : Type 0 wher
   pub own : FluidRecordOk b (p .at)
   pub targets : (κ : Kind) → TargetsOk κ b (contactWidth axes) (contactCount κ b (p .at)) (contactsStart κ b (p .at))
 
--- and of boundary particle j
+-- all that a step may use of boundary particle j, whose record stands at p
 pub record BoundaryParticleOk (b : List ℕ) (p : Location) (j : ℕ) : Type 0 where
   pub boundary : Scene.boundary (sceneOf b) j ≡ boundaryParticleAt b p
   pub own : BoundaryRecordOk b (keepsAt b (p .head)) (p .at)

@@ -1,4 +1,5 @@
--- What the check answers: its verdict, with the layout of an accepted scene; and what it hands on. Definitions only.
+-- What the check answers: its verdict, with the layout of an accepted scene. `Passed` and what follows it is
+-- scaffolding: what the check hands on to the code above. Definitions only.
 use Prim.Native.Nat.{ℕ}
 use mathlib.Core.Path.{_≡_}
 use mathlib.Core.List.{List}

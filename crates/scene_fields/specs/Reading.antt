@@ -1,6 +1,6 @@
 -- What a read of a double finds, as the walk's own `double` decides it: the double, or its refusal; a reader, moved on
--- behind a double that is not refused; and the header's three doubles that stand by themselves. Scaffolding: the step's
--- header is decoded by these reads, and no promise rests on them. Definitions only.
+-- behind a double that is not refused; and the header's three doubles that stand by themselves. The step's
+-- header is decoded by these reads; its promise does not rest on them. Definitions only.
 use Prim.Native.Nat.{ℕ}
 use mathlib.Core.List.{List}
 use denote.Ref.{RefT, now}

@@ -197,7 +197,7 @@ unfoldable pub ownWidth : Kind → List ℕ → ℕ → ℕ
 ownWidth Fluid b head = recordWidth axes
 ownWidth Boundary b head = boundaryRecordWidth axes (keepsAt b head)
 
--- and its contacts' bytes
+-- the bytes of a record's contacts, by the same head
 unfoldable pub contactsWidth : Kind → List ℕ → ℕ → ℕ → ℕ
 contactsWidth Fluid b head at = contactWidth axes * (contactCount Fluid b at + contactCount Boundary b at)
 contactsWidth Boundary b head at = boundaryContactWidth * boundaryContactCount b (keepsAt b head) at

@@ -41,8 +41,6 @@ pub const HEADER_WIDTH: usize = GRAVITY + VECTOR_WIDTH;
 // A model's head: the count, of which a boundary leaves the first bit to "keeps forces", and a fluid's rest density.
 pub const COUNT_WIDTH: usize = 2;
 
-pub const FLUID_COUNT_MODULUS: usize = 65536;
-
 pub const BOUNDARY_COUNT_MODULUS: usize = 32768;
 
 pub const DENSITY0: usize = COUNT_WIDTH;

@@ -40,6 +40,7 @@ fn size(x: u8) -> usize
     x as usize
 }
 
+// The byte at an offset.
 pub fn byte(s: &[u8], at: usize) -> usize
     requires { ⌜ at < length (now s) ⌝ }
     ensures { λ r. ⌜ (r ≡ byteAt (now (s .entry)) at) × (r < 256) ⌝ }
@@ -47,6 +48,7 @@ pub fn byte(s: &[u8], at: usize) -> usize
     size(s[at])
 }
 
+// The number in two bytes, the first of which has the upper bits.
 pub fn be16(s: &[u8], at: usize) -> usize
     requires { ⌜ at + 2 ≤ length (now s) ⌝ }
     ensures { λ r. ⌜ (r ≡ be16At (now (s .entry)) at) × (r < 65536) ⌝ }
@@ -82,6 +84,7 @@ fn be64(s: &[u8], at: usize) -> u64
     be32(s, at) * 4294967296 + be32(s, at + 4)
 }
 
+// The double at an offset, which is finite.
 pub fn double(s: &[u8], at: usize) -> f64
     requires { ⌜ FiniteAt (now s) at ⌝ }
     ensures { λ r. ⌜ r ≡ doubleAt (now (s .entry)) at ⌝ }
@@ -89,6 +92,7 @@ pub fn double(s: &[u8], at: usize) -> f64
     f64::from_bits(be64(s, at))
 }
 
+// The vector at an offset, whose doubles are finite.
 pub fn vector(s: &[u8], at: usize) -> Vec3
     requires { ⌜ AllFinite (now s) at axes ⌝ }
     ensures { λ r. ⌜ coordinates r ≡ vectorAt axes (now (s .entry)) at ⌝ }
@@ -100,6 +104,7 @@ pub fn vector(s: &[u8], at: usize) -> Vec3
     }
 }
 
+// The model number and the particle number that a contact at an offset names.
 pub fn contact_name(s: &[u8], at: usize) -> ContactName
     requires { ⌜ at + nameWidth ≤ length (now s) ⌝ }
     ensures { λ r. ⌜ NameIs (now (s .entry)) at r ⌝ }

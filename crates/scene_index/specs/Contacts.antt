@@ -18,7 +18,7 @@ pub record ContactReady (κ : Kind) (b : List ℕ) (at : ℕ) : Type 0 where
   pub doubles : ContactOk b at
   pub target : TargetOk κ b at
 
--- those of a list
+-- every contact of a list is such
 pub record ContactsReady (b : List ℕ) (list : ContactList) : Type 0 where
   pub each : (k : ℕ) → k < list .count → ContactReady (list .kind) b (list .at + contactWidth axes * k)
 

@@ -59,8 +59,8 @@ pub fn contacts_of(scene: &[u8], index: &[usize], kind: Kind, i: usize) -> Conta
     }
 }
 
-// The number, among all of its kind, of the particle that the contact at an offset names. Because `block` has a `let` of
-// its own, the compiled code finds the base by the name's first byte and adds the second.
+// The number, among all of its kind, of the particle that the contact at an offset names. Because `block` has a `let`
+// of its own, the compiled code finds the base by the name's first byte and adds the second.
 pub fn target_of(scene: &[u8], index: &[usize], kind: Kind, at: usize) -> usize
     requires { ⌜ Indexed (now scene) (now index) ⌝ }
     requires { ⌜ ContactReady kind (now scene) at ⌝ }

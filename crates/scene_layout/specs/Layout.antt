@@ -14,7 +14,7 @@ use Rattle.scene_layout.specs.declared.Models.{Models}
 unfoldable pub padded : List ℕ → List ℕ
 padded ns = ns ++ replicate (nameableModels - length ns) 0
 
--- those of a kind
+-- the models of a kind
 unfoldable pub layoutModels : Kind → List ℕ → Models
 layoutModels κ b =
     record {

@@ -1,5 +1,6 @@
 -- How long the two lists of a step must be, and where the answers of each model stand (FORMAT 3): those of the fluids,
--- then those of the boundaries, model after model and particle after particle. Definitions only.
+-- then those of the boundaries, model after model and particle after particle. What stands under its last heading is
+-- scaffolding, and no promise rests on it. Definitions only.
 use Prim.Native.Nat.{ℕ, zero, suc, _+_, _*_, _<_, _≤_}
 use mathlib.Core.List.{List, map}
 use lib.ListN.{getD}
@@ -62,7 +63,8 @@ needsAfter b (walk.Refused r) = Refused r
 unfoldable pub needsOf : List ℕ → Needs
 needsOf b = needsAfter b (checked b)
 
--- ---- models of a kind, by whether each keeps forces and how many particles each has, as a layout lists them
+-- ---- scaffolding for the code: models of a kind, by whether each keeps forces and how many particles each has, as a
+-- ---- layout lists them
 
 -- the width of model m's particles, and the answers of the models before it
 abbrev pub widthIn : Kind → List ℕ → ℕ → ℕ
@@ -71,7 +73,7 @@ widthIn κ keeps m = answerWidth axes κ (getD keeps m 0)
 unfoldable pub answersBefore : Kind → List ℕ → List ℕ → ℕ → ℕ
 answersBefore κ keeps counts m = sum (table m (λ j. widthIn κ keeps j * getD counts j 0))
 
--- all of them
+-- the answers of all models of a kind
 abbrev pub answersIn : Kind → Models → ℕ
 answersIn κ models = answersBefore κ (models .keeps) (models .counts) (models .number)
 

@@ -1,4 +1,5 @@
-// How long the two lists of a step must be, and how many answers a particle has (FORMAT 3).
+// How long the two lists of a step must be, and how many answers a particle has (FORMAT 3). `lengths_needed` asks
+// nothing; `lengths_of` is for the crates above, which show that their layout has few models and particles.
 use scene_check::Verdict;
 use scene_check::check;
 use scene_format::Kind;

@@ -87,8 +87,8 @@ fn contacts(s: &[u8], d: usize, n: usize, from: usize) -> Walk
     Walk::At(at)
 }
 
-// The contacts of a record, from where a walk has come to: they have d doubles each, and their count stands at an offset
-// in the record, which the walk has passed.
+// The contacts of a record, from where a walk has come to: they have d doubles each, and their count stands at an
+// offset in the record, which the walk has passed.
 fn contacts_on(s: &[u8], d: usize, from: usize, count: usize, w: Walk) -> Walk
     requires { ⌜ ((e : ℕ) → w ≡ Walk.At e → from + count < length (now s)) ⌝ }
     ensures { λ r. ⌜ r ≡ w ▹ times (byteAt (now (s .entry)) (from + count)) (walk.contact d (now (s .entry))) ⌝ }

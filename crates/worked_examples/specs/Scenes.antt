@@ -101,7 +101,7 @@ sceneA contacts =
     (fluid bits·2 (fluidRecord zero3 zero3 zero3 bits·½ 0 contacts [] ∷ []) ∷ [])
     []
 
--- its contact, which names the particle with a number
+-- scene A's contact, which names the particle with a number
 unfoldable pub contactA : ℕ → List ℕ
 contactA number = contact 0 number bits·2 zero3
 

@@ -1,1 +1,1 @@
-// The texts of worked examples, byte by byte, and the theorem that the definitions yield them: all of it in proofs/.
+// Every worked example, texts included, as one list (specs/), and the theorem that the definitions yield it (proofs/).

@@ -1,5 +1,6 @@
-//! Times our step and the Rust's on the same packed lattice scenes, in one process. Ours takes the packed scene, so it also checks and decodes it; the Rust's
-//! structures are filled before the clock starts. With libiisph_c.a built (`rt staticlib iisph_c`), in the folder oracle:
+//! Times our step and the Rust's on the same packed lattice scenes, in one process. Ours takes the
+//! packed scene, so it also checks and decodes it; the Rust's structures are filled before the clock
+//! starts. With libiisph_c.a built (`rt staticlib iisph_c`), in the folder oracle:
 //!   cargo run --release --offline --features bench --bin bench -- [REPEATS [SIZES]]
 
 use std::time::Instant;
@@ -31,7 +32,8 @@ const RADIUS: f64 = 2.2;
 fn step(scene: &[u8], answers: &mut [f64], work: &mut [f64]) -> u64 {
     let (mut numbers, mut counts) = ([0.0; 4], [0; 2]);
     let (a, w) = ((answers.as_mut_ptr(), answers.len()), (work.as_mut_ptr(), work.len()));
-    unsafe { iisph_step(scene.as_ptr(), scene.len(), a.0, a.1, w.0, w.1, numbers.as_mut_ptr(), 4, counts.as_mut_ptr(), 2) }
+    let (n, c) = (numbers.as_mut_ptr(), counts.as_mut_ptr());
+    unsafe { iisph_step(scene.as_ptr(), scene.len(), a.0, a.1, w.0, w.1, n, 4, c, 2) }
 }
 
 struct Packed(Vec<u8>);
@@ -65,54 +67,75 @@ fn offsets() -> Vec<[i32; 3]> {
     all.filter(|[x, y, z]| x * x + y * y + z * z <= REACH * REACH).collect()
 }
 
+/// The places of a lattice with sides of this length.
+struct Lattice(i32);
+
+impl Lattice {
+    fn inside(&self, at: [i32; 3]) -> bool {
+        at.iter().all(|x| (0..self.0).contains(x))
+    }
+
+    fn number(&self, [x, y, z]: [i32; 3]) -> usize {
+        (x + self.0 * (y + self.0 * z)) as usize
+    }
+
+    /// The places of the lowest layers, so many of them, in the order of their numbers.
+    fn places(&self, layers: i32) -> impl Iterator<Item = [i32; 3]> {
+        let side = self.0;
+        (0..layers).flat_map(move |z| (0..side).flat_map(move |y| (0..side).map(move |x| [x, y, z])))
+    }
+
+    /// A particle of a fluid, with its contacts: those of the fluid, then those of the wall below.
+    fn drop(&self, packed: &mut Packed, fluid: usize, [x, y, z]: [i32; 3]) {
+        let shaken = f64::from((x * 7 + y * 3 + z) % 11) * 0.001;
+        packed.doubles(&[x, y, z].map(f64::from));
+        packed.doubles(&[shaken, -shaken, shaken, 0.0, shaken, 0.0, 0.9, 0.5]);
+        let counts = packed.0.len();
+        packed.0.extend([0, 0]);
+        for [dx, dy, dz] in offsets() {
+            let at = [x + dx, y + dy, z + dz];
+            if self.inside(at) {
+                packed.contact(fluid, self.number(at), [dx, dy, dz]);
+                packed.0[counts] += 1;
+            }
+        }
+        for [dx, dy, dz] in offsets() {
+            let at = [x + dx, y + dy, 0];
+            if z + dz == -1 && self.inside(at) {
+                packed.contact(0, self.number(at), [dx, dy, dz]);
+                packed.0[counts + 1] += 1;
+            }
+        }
+    }
+
+    /// A particle of the wall, with its contacts.
+    fn stone(&self, packed: &mut Packed, [x, y, _]: [i32; 3]) {
+        packed.doubles(&[0.0; 6]);
+        let count = packed.0.len();
+        packed.0.push(0);
+        for [dx, dy, dz] in offsets() {
+            let at = [x + dx, y + dy, 0];
+            if dz == 0 && self.inside(at) {
+                packed.name(0, self.number(at));
+                packed.double(CubicSplineKernel::scalar_apply(f64::from(dx * dx + dy * dy).sqrt(), RADIUS));
+                packed.0[count] += 1;
+            }
+        }
+    }
+}
+
 /// Fluids of side × side × side particles, each upon a wall of side × side that keeps its forces.
-fn lattice(fluids: usize, side: i32, iterations: u8) -> Vec<u8> {
+fn packed_lattice(fluids: usize, side: i32, iterations: u8) -> Vec<u8> {
+    let lattice = Lattice(side);
     let mut packed = Packed(vec![0x10 | fluids as u8, 0x10, iterations.saturating_sub(1), iterations]);
     packed.doubles(&[0.01, 1.0, -1.0, 0.0, 0.0, -9.81]);
-    let inside = |at: [i32; 3]| at.iter().all(|x| (0..side).contains(x));
-    let number = |[x, y, z]: [i32; 3]| (x + side * (y + side * z)) as usize;
     for fluid in 0..fluids {
         packed.0.extend((side.pow(3) as u16).to_be_bytes());
         packed.double(1.0);
-        for z in 0..side {
-            for y in 0..side {
-                for x in 0..side {
-                    let shaken = f64::from((x * 7 + y * 3 + z) % 11) * 0.001;
-                    packed.doubles(&[f64::from(x), f64::from(y), f64::from(z), shaken, -shaken, shaken, 0.0, shaken, 0.0, 0.9, 0.5]);
-                    let counts = packed.0.len();
-                    packed.0.extend([0, 0]);
-                    for [dx, dy, dz] in offsets() {
-                        let at = [x + dx, y + dy, z + dz];
-                        if inside(at) {
-                            packed.contact(fluid, number(at), [dx, dy, dz]);
-                            packed.0[counts] += 1;
-                        }
-                    }
-                    for [dx, dy, dz] in offsets() {
-                        if z + dz == -1 && inside([x + dx, y + dy, 0]) {
-                            packed.contact(0, number([x + dx, y + dy, 0]), [dx, dy, dz]);
-                            packed.0[counts + 1] += 1;
-                        }
-                    }
-                }
-            }
-        }
+        lattice.places(side).for_each(|at| lattice.drop(&mut packed, fluid, at));
     }
     packed.0.extend((0x8000 | side.pow(2) as u16).to_be_bytes());
-    for y in 0..side {
-        for x in 0..side {
-            packed.doubles(&[0.0; 6]);
-            let count = packed.0.len();
-            packed.0.push(0);
-            for [dx, dy, dz] in offsets() {
-                if dz == 0 && inside([x + dx, y + dy, 0]) {
-                    packed.name(0, number([x + dx, y + dy, 0]));
-                    packed.double(CubicSplineKernel::scalar_apply(f64::from(dx * dx + dy * dy).sqrt(), RADIUS));
-                    packed.0[count] += 1;
-                }
-            }
-        }
-    }
+    lattice.places(1).for_each(|at| lattice.stone(&mut packed, at));
     packed.0
 }
 
@@ -120,7 +143,8 @@ fn lattice(fluids: usize, side: i32, iterations: u8) -> Vec<u8> {
 fn compare(state: &Filled, answers: &[f64]) {
     let pressures = state.solver.pressures.iter().flatten();
     let moved = state.fluids.iter().flat_map(|f| f.positions.iter().zip(&f.velocities));
-    let mut expected: Vec<f64> = moved.zip(pressures).flat_map(|((p, v), q)| [p.x, p.y, p.z, v.x, v.y, v.z, *q]).collect();
+    let answers_of = moved.zip(pressures).flat_map(|((p, v), q)| [p.x, p.y, p.z, v.x, v.y, v.z, *q]);
+    let mut expected: Vec<f64> = answers_of.collect();
     for boundary in &state.boundaries {
         let forces = boundary.forces.as_ref().expect("the wall keeps forces").read().unwrap();
         expected.extend(boundary.volumes.iter().zip(forces.iter()).flat_map(|(volume, f)| [*volume, f.x, f.y, f.z]));
@@ -135,10 +159,11 @@ fn main() {
     let sizes: usize = std::env::args().nth(2).and_then(|text| text.parse().ok()).unwrap_or(3);
     for (fluids, side) in [(1, 10), (1, 16), (8, 16)].into_iter().take(sizes) {
         for iterations in [0, 2, 50] {
-            let bytes = lattice(fluids, side, iterations);
+            let bytes = packed_lattice(fluids, side, iterations);
             let scene = read(&bytes).ok().expect("the scene is accepted");
             let count = fluids * side.pow(3) as usize;
-            let contacts: usize = scene.fluids.iter().flat_map(|f| &f.particles).map(|p| p.fluid_contacts.len() + p.boundary_contacts.len()).sum();
+            let particles = scene.fluids.iter().flat_map(|f| &f.particles);
+            let contacts: usize = particles.map(|p| p.fluid_contacts.len() + p.boundary_contacts.len()).sum();
             let mut answers = vec![0.0; 7 * count + 4 * side.pow(2) as usize];
             let mut work = vec![0.0; 14 * count + side.pow(2) as usize];
             let (mut ours, mut rusts) = (f64::INFINITY, f64::INFINITY);
@@ -155,7 +180,8 @@ fn main() {
             }
             compare(&last, &answers);
             let each = if iterations == 0 { 0.0 } else { ours * 1e9 / contacts as f64 / f64::from(iterations) };
-            println!("{count:9} {contacts:8} {iterations:10} {:10.3} {:10.3} {:11.3} {each:10.3}", ours * 1e3, rusts * 1e3, ours / rusts);
+            let (ours, rusts, times) = (ours * 1e3, rusts * 1e3, ours / rusts);
+            println!("{count:9} {contacts:8} {iterations:10} {ours:10.3} {rusts:10.3} {times:11.3} {each:10.3}");
         }
     }
 }

@@ -1,4 +1,5 @@
-//! Stand-in for bitflags: a number with named values, enough for the interaction groups, which no ported step looks at.
+//! Stand-in for bitflags: a number with named values, enough for the interaction groups, which no
+//! ported step looks at.
 
 #[macro_export]
 macro_rules! bitflags {

@@ -1,5 +1,7 @@
-//! Stand-in for nalgebra: vectors of three axes with the operations as METHOD states them. Sums, differences, products and negations go axis by axis;
-//! a dot product is ((ax * bx) + (ay * by)) + (az * bz). Each operation on doubles rounds once; Rust reassociates and contracts nothing.
+//! Stand-in for nalgebra: vectors of three axes with the operations as METHOD states them. Sums,
+//! differences, products and negations go axis by axis; a dot product is
+//! ((ax * bx) + (ay * by)) + (az * bz). Each operation on doubles rounds once; Rust reassociates and
+//! contracts nothing.
 
 use std::ops::{Add, AddAssign, Deref, Mul, MulAssign, Neg, Sub, SubAssign};
 

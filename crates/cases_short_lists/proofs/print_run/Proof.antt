@@ -35,7 +35,7 @@ slice-aggregate-write-all c =
     sym (length-take-le _ _ (c .before .before .before .before .before .before .run .ensures .text .within))
 
 returns : tie.Need-returns
-returns c = prints (long 65536) (c .before .before .before .before .before .before .before .run .ensures)
+returns c = prints (long textRoom) (c .before .before .before .before .before .before .before .run .ensures)
 
 pub print-run-spec : {M : Type 1} → statement M
 print-run-spec =

@@ -21,7 +21,8 @@ returns c =
 returns-2 : tie.Need-returns-2
 unfolding kernelAnswer
 returns-2 c =
-    kernel-promise _ _ _ _ (simp (sym (c .before .is-radius .ensures) ∙ c .if2 .left, distance-taken (c .before .before)))
+    kernel-promise _ _ _ _
+    (simp (sym (c .before .is-radius .ensures) ∙ c .if2 .left, distance-taken (c .before .before)))
 
 returns-3 : tie.Need-returns-3
 unfolding kernelAnswer

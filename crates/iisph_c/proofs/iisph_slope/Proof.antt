@@ -1,6 +1,6 @@
 -- `iisph_c::iisph_slope` meets its contract: what is written of the kernel's answer. Assumes nothing.
 use borrow.Author.Needs.{needs}
-use Rattle.iisph_c.proofs.Calls.{answered}
+use Rattle.iisph_codes.proofs.Kernel.{answered}
 use Rattle.iisph_c.proofs.iisph_slope.Statement.{statement}
 use Rattle.iisph_c.proofs.iisph_slope.Tie as tie
 

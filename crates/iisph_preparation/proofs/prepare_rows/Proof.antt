@@ -12,7 +12,8 @@ use Rattle.iisph_preparation.specs.Prepare.{prepared, workPrepared}
 use Rattle.iisph_preparation.proofs.RowsFilled.{length-prepared}
 use Rattle.iisph_preparation.proofs.ZeroRefusals.{volumes-there, prepared-made, work-cleared, answer-made}
 use Rattle.iisph_rows.specs.Rows.{rowAt}
-use Rattle.scene_lengths.proofs.Needed.{boundaries-total}
+use Rattle.scene_lengths.proofs.Needed.{few-in, work-needed}
+use Rattle.scene_lengths.specs.Lengths.{workNeeded}
 use borrow.Author.Needs.{needs}
 use Rattle.iisph_preparation.proofs.prepare_rows.Statement.{statement}
 use Rattle.iisph_preparation.proofs.prepare_rows.Tie as tie
@@ -30,13 +31,8 @@ Filled c = c .before .before .before .before .before
 size : (b : tie.Start) → b .args .n ≡ fluidSize (sceneOf (now (b .args .scene)))
 size b = b .pre .0 .timed .over .size
 
-boundaries : (b : tie.Start) → b .args .layout .boundaries .total ≡ boundarySize (sceneOf (now (b .args .scene)))
-boundaries b = boundaries-total (b .pre .1 .0)
-
-few : (b : tie.Start) → (b .args .n ≤ mostOfAKind) × (b .args .layout .boundaries .total ≤ mostOfAKind)
-few b =
-    let ix = b .pre .0 .timed .over .indexed in
-    (omega (arith, size b, ix .fewFluid), omega (arith, boundaries b, ix .fewBoundary))
+few : (b : tie.Start) → b .args .n ≤ mostOfAKind
+few b = omega (arith, size b, b .pre .0 .timed .over .indexed .fewFluid)
 
 room : (b : tie.Start)
     → rowAt (fluidSize (sceneOf (now (b .args .scene)))) + boundarySize (sceneOf (now (b .args .scene)))
@@ -73,19 +69,23 @@ zero-refusal-requires : tie.Need-zero-refusal-requires
 zero-refusal-requires c κs =
     let f = c .before .before .before in
     let b = Start-of f in
-    (b .pre .0 .timed .over .indexed .room, few b .0, omega (arith, b .pre .1 .1, ap length (made f), length-of b))
+    (b .pre .0 .timed .over .indexed .room, few b, omega (arith, b .pre .1 .1, ap length (made f), length-of b))
 
-mul-clear : tie.Need-mul-clear
-mul-clear c = omega (arith, few (Start-of (Filled (c .before .before .before))))
+-- the length that the clearing goes by
+needed : (c : tie.After-lengths-of)
+    → let b = Start-of (Filled (c .before .before .before)) in
+    c .lengths-of .result .work ≡ workNeeded (sceneOf (now (b .args .scene)))
+needed c = ap (λ n. n .work) (c .lengths-of .ensures _ (Start-of (Filled (c .before .before .before)) .pre .1 .0))
 
-add-clear : tie.Need-add-clear
-add-clear c = omega (arith, few (Start-of (Filled (c .before .before .before))))
+lengths-of-requires : tie.Need-lengths-of-requires
+lengths-of-requires c κs = few-in (Start-of (Filled (c .before .before)) .pre .1 .0)
 
 clear-requires : tie.Need-clear-requires
 clear-requires c κs =
-    let f = Filled (c .before .before .before) in
+    let l = c .before in
+    let f = Filled (l .before .before .before) in
     let b = Start-of f in
-    omega (arith, b .pre .1 .1, boundaries b, ap length (made f), length-of b)
+    omega (arith, b .pre .1 .1, size b, needed l, work-needed (now (b .args .scene)), ap length (made f), length-of b)
 
 returns : tie.Need-returns
 unfolding workPrepared
@@ -101,13 +101,14 @@ returns c =
 
 returns-2 : tie.Need-returns-2
 returns-2 c =
-    let a = c .before .before .before .before .before in
+    let l = c .before .before .before .before in
+    let a = l .before .before in
     let f = Filled (a .before) in
     let b = Start-of f in (
       sym (a .answer .given .1)
           ∙ answer-made (now (b .args .scene)) (now (b .args .work)) (room b) (b .pre .0 .timed .over .indexed) (size b)
           (made f) (a .before .before .zero-refusal .ensures),
-      work-cleared (now (b .args .scene)) (size b) (now (b .args .work)) _ _ (boundaries b) (made f)
+      work-cleared (now (b .args .scene)) (size b) (now (b .args .work)) _ (needed l) (made f)
           (c .before .before .clear .ensures),
     )
 
@@ -120,8 +121,7 @@ prepare-rows-spec =
     zero-refusal-requires
     (λ c. search needs)
     (λ c. search needs)
-    mul-clear
-    add-clear
+    lengths-of-requires
     clear-requires
     (λ c. search needs)
     returns

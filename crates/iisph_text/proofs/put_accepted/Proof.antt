@@ -1,11 +1,7 @@
 -- `iisph_text::put_accepted` meets its contract: the step, and the text of its answer. Assumes nothing.
-use mathlib.Core.Path.{sym, _∙_}
-use native.Mathlib.Omega.{arith}
-use denote.Ref.{now}
 use borrow.Author.Needs.{needs}
-use Rattle.iisph_text.specs.Text.{answerText}
-use Rattle.iisph_text.proofs.Done.{reported, answers-front, lines-ready, lines-written}
-use Rattle.iisph_text.proofs.Ran.{scene-run}
+use Rattle.iisph_text.proofs.Done.{done-ready, done-run}
+use Rattle.iisph_text.proofs.Ran.{refused-run}
 use Rattle.iisph_text.proofs.put_accepted.Statement.{statement}
 use Rattle.iisph_text.proofs.put_accepted.Tie as tie
 
@@ -16,9 +12,8 @@ put-done-requires : tie.Need-put-done-requires
 put-done-requires c κs =
     let k = c .before .before .before .before .before .before .before .before .before in
     let s = Begin k in
-    let q = sym (k .step-accepted .ensures .answer) ∙ c .before .before .before .answer .given .1 in
-    lines-ready (s .pre .0) _ (answers-front (now (s .args .scene)) _ _ q _ (k .step-accepted .ensures .answersThen))
-    (reported (now (s .args .scene)) _ _ q) (omega (arith, s .pre .1 .0, s .pre .1 .1))
+    done-ready (s .pre .0) (k .step-accepted .ensures) (c .before .before .before .answer .given .1) (s .pre .1 .0)
+    (s .pre .1 .1)
 
 returns : tie.Need-returns
 returns c =
@@ -26,22 +21,17 @@ returns c =
     let a = w .before .before .before .before in
     let k = a .before .before .before .before .before .before in
     let s = Begin k in
-    let q = sym (k .step-accepted .ensures .answer) ∙ a .answer .given .1 in
-    scene-run (s .pre .1 .1) (s .pre .1 .0) (k .step-accepted .ensures)
-    (rw (a .answer .given .1)
-    (lines-written (s .pre .0) _ (answers-front (now (s .args .scene)) _ _ q _ (k .step-accepted .ensures .answersThen))
-    _
-    (w .put-done .ensures)))
+    done-run (s .pre .0) (k .step-accepted .ensures) (a .answer .given .1) (s .pre .1 .0) (s .pre .1 .1)
+    (w .put-done .ensures)
 
 returns-2 : tie.Need-returns-2
-unfolding answerText
 returns-2 c =
     let w = c .before .before in
     let a = w .before .before .before in
     let k = a .before .before .before .before .before .before in
     let s = Begin k in
-    scene-run (s .pre .1 .1) (s .pre .1 .0) (k .step-accepted .ensures)
-    (rw (a .answer2 .given .1) (w .put-refused .ensures))
+    refused-run (s .pre .1 .1) (s .pre .1 .0) (k .step-accepted .ensures) (a .answer2 .given .1)
+    (w .put-refused .ensures)
 
 pub put-accepted-spec : {M : Type 1} → statement M
 put-accepted-spec =

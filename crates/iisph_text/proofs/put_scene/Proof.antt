@@ -1,11 +1,11 @@
 -- `iisph_text::put_scene` meets its contract: by the verdict of the check. Assumes nothing.
+use mathlib.Core.Path.{refl}
 use native.Mathlib.Omega.{arith}
 use denote.Ref.{now}
 use borrow.Author.Needs.{needs}
 use Rattle.iisph_solver.proofs.Stepped.{refused-steps}
 use Rattle.scene_check.proofs.Checks.{verdict-refused, verdict-accepted}
-use Rattle.iisph_text.specs.Text.{answerText}
-use Rattle.iisph_text.proofs.Ran.{scene-run}
+use Rattle.iisph_text.proofs.Ran.{refused-run}
 use Rattle.iisph_text.proofs.put_scene.Statement.{statement}
 use Rattle.iisph_text.proofs.put_scene.Tie as tie
 
@@ -20,15 +20,15 @@ put-accepted-requires c κs =
     )
 
 returns : tie.Need-returns
-unfolding answerText
 returns c =
     let w = c .before .before in
     let v = w .before .before .before in
     let k = v .before .before .before in
     let s = k .before .before .before .before .before in
     let q = verdict-refused _ (k .check .ensures) (v .verdict .given .1) in
-    scene-run (s .pre .1) (s .pre .0)
+    refused-run (s .pre .1) (s .pre .0)
     (refused-steps (now (s .args .scene)) (now (s .args .answers)) (now (s .args .work)) q)
+    refl
     (w .put-refused .ensures)
 
 pub put-scene-spec : {M : Type 1} → statement M

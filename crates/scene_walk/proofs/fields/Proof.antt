@@ -1,5 +1,5 @@
--- `scene_walk::fields` meets its contract: header, fluids, boundaries and the end, each from where the walk has come to;
--- the header is there once it is passed. Assumes nothing.
+-- `scene_walk::fields` meets its contract: header, fluids, boundaries and the end, each from where the walk has come
+-- to; the header is there once it is passed. Assumes nothing.
 use Prim.Native.Nat.{_≤_}
 use mathlib.Core.Path.{_≡_, sym, _∙_}
 use native.Mathlib.Omega.{arith}

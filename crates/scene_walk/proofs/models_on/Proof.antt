@@ -1,5 +1,5 @@
--- `scene_walk::models_on` meets its contract: by whether the walk is refused; the models are as many as the header says.
--- Assumes nothing.
+-- `scene_walk::models_on` meets its contract: by whether the walk is refused; the models are as many as the header
+-- says. Assumes nothing.
 use borrow.Author.Needs.{needs}
 use Rattle.scene_fields.proofs.Walks.{stopped, gone-on}
 use Rattle.scene_walk.specs.Walk.{modelsOf}

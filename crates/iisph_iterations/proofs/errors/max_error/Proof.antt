@@ -9,6 +9,7 @@ use lib.ListN.{length, getD, take}
 use lib.Seq.{length-take-le, getD-take}
 use Rattle.iisph_iterations.proofs.Averages.{Averaged, none-averaged, next-rows, next-averaged, all-averaged}
 use borrow.Author.Needs.{needs}
+use Rattle.scene_format.specs.Format.{nameableModels}
 use Rattle.iisph_iterations.proofs.errors.max_error.Statement.{statement}
 use Rattle.iisph_iterations.proofs.errors.max_error.Tie as tie
 
@@ -23,7 +24,11 @@ sixteen : (c : tie.After-shared-slice-known Inv-loop μ-loop)
     → length (take (c .before .args .number) (c .before .args .t1)) ≡ c .before .args .number
 sixteen c =
     length-take-le _ _
-    (omega (arith, good-length (eInt w64) 16 (c .before .args .t1) _ (c .before .good .0), c .before .pre .0))
+    (omega (
+      arith,
+      good-length (eInt w64) nameableModels (c .before .args .t1) _ (c .before .good .0),
+      c .before .pre .0,
+    ))
 
 below : (c : tie.In-loop Inv-loop μ-loop)
     → c .before .loop .m < length (take (c .before .before .before .args .number) (c .before .before .before .args .t1))

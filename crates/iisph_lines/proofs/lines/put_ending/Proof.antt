@@ -10,12 +10,14 @@ use Rattle.iisph_lines.proofs.lines.put_ending.Tie as tie
 put-ending-word-requires : tie.Need-put-ending-word-requires
 put-ending-word-requires c κs =
     let t = c .before in
-    omega (arith, ending-room (t .before .before .args .ending) (t .tell .ensures) (t .before .before .args .iterations))
+    let a = t .before .before .args in
+    omega (arith, ending-room (a .ending) (t .tell .ensures) (a .iterations))
 
 put-decimal-requires : tie.Need-put-decimal-requires
 put-decimal-requires c κs =
     let t = c .before .before .before .before .before in
-    omega (arith, ending-room (t .before .before .args .ending) (t .tell .ensures) (t .before .before .args .iterations))
+    let a = t .before .before .args in
+    omega (arith, ending-room (a .ending) (t .tell .ensures) (a .iterations))
 
 returns : tie.Need-returns
 returns c =
@@ -28,7 +30,8 @@ returns c =
 put-double-requires : tie.Need-put-double-requires
 put-double-requires c κs =
     let t = c .before .before .before .before .before .before .before .before .before .before .before in
-    omega (arith, swept-room (t .before .before .args .ending) (t .tell .ensures) (t .before .before .args .iterations) (c .before .if1 .left))
+    let a = t .before .before .args in
+    omega (arith, swept-room (a .ending) (t .tell .ensures) (a .iterations) (c .before .if1 .left))
 
 returns-2 : tie.Need-returns-2
 returns-2 c =

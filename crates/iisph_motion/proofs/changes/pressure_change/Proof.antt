@@ -76,7 +76,8 @@ returns c =
     let t = v .before .before .before in
     let s = Begin t in
     let p = s .pre in
-    fluid-change _ (p .1) (p .0 .0) (p .0 .1) (s .args .state) (s .args .own) (s .args .dt) (t .before .enum-told .given .1)
+    fluid-change _ (p .1) (p .0 .0) (p .0 .1) (s .args .state) (s .args .own) (s .args .dt)
+    (t .before .enum-told .given .1)
     (t .target-of .ensures)
     (v .vector .ensures)
     (c .scale .ensures)

@@ -61,7 +61,8 @@ loop-again c =
     let a = Begin t .args in
     let b = now (a .scene) in (
       omega arith,
-      fold-next (withChange (a .list .kind) (sceneOf b) (pressuresIn (a .n) (now (a .work))) (a .dt) (a .state) (a .own))
+      fold-next
+          (withChange (a .list .kind) (sceneOf b) (pressuresIn (a .n) (now (a .work))) (a .dt) (a .state) (a .own))
           (coordinates (a .from)) (a .list .kind) b (a .list .at) (l .k) (l .inv .1)
           (c .sub .ensures ∙ ap (λ (x : Vector). coordinates (l .change) ⊟ x) (c .before .pressure-change .ensures)),
     )

@@ -1,6 +1,6 @@
 -- `iisph_rows::zeros::first_zero` meets its contract. The loop's invariant: no row before i has a zero in the slot.
 -- Assumes nothing.
-use Prim.Native.Nat.{_+_, _*_, _≤_, _-_}
+use Prim.Native.Nat.{_+_, _≤_, _-_}
 use mathlib.Core.Path.{sym, _∙_}
 use native.Mathlib.Nat.{not-suc-le-zero}
 use native.Mathlib.Omega.{arith}

@@ -1,13 +1,15 @@
 -- `iisph_solver::step::finish` meets its contract: each call finds what it needs in the rows, and what they leave
 -- together is the rules'. Assumes nothing.
-use Prim.Native.Nat.{_≤_}
 use native.Mathlib.Omega.{arith}
 use lib.Ieee.{nan}
 use borrow.Author.Needs.{needs}
 use Rattle.iisph_passes.specs.Traverse.{Ready}
 use Rattle.lists.proofs.Stores.{length-stored}
-use Rattle.scene_format.specs.Format.{mostOfAKind}
-use Rattle.scene_lengths.proofs.Needed.{boundaries-total}
+use Rattle.scene_lengths.proofs.Needed.{few-in, work-needed}
+use Rattle.scene_lengths.specs.Lengths.{workNeeded}
+use Rattle.scene_format.specs.SceneOf.{sceneOf}
+use mathlib.Core.Path.{_≡_, ap}
+use denote.Ref.{now}
 use Rattle.iisph_solver.proofs.Finished.{first-pressures, first-ready, solved-ready, shared, finished}
 use Rattle.iisph_solver.proofs.Finished.{answers-room, report-made}
 use Rattle.iisph_preparation.proofs.Prepared.{driven}
@@ -15,8 +17,8 @@ use Rattle.iisph_solver.proofs.step.finish.Statement.{statement}
 use Rattle.iisph_solver.proofs.step.finish.Tie as tie
 
 -- the calls, from the last back to the start
-abbrev Bound : tie.After-clear → tie.After-boundary-answers
-Bound c = c .before .before .before .before
+abbrev Bound : tie.After-clear → tie.After-lengths-of
+Bound c = c .before .before
 
 abbrev Moved : tie.After-boundary-answers → tie.After-update-velocities-and-positions
 Moved c = c .before .before .before .before .before
@@ -71,39 +73,39 @@ boundary-answers-requires c κs =
       (p .1 .0 .0, rw (m .update-velocities-and-positions .ensures, length-stored nan) (p .1 .0 .1)),
     )
 
--- there are few particles
-few : (c : tie.After-pressure-solve)
-    → (Begin c .args .n ≤ mostOfAKind) × (Begin c .args .layout .boundaries .total ≤ mostOfAKind)
-few c =
-    let p = Begin c .pre in
-    let ix = p .0 .0 .indexed in
-    (omega (arith, p .0 .0 .size, ix .fewFluid), omega (arith, boundaries-total (p .1 .0 .0), ix .fewBoundary))
+-- the lengths that the clearing goes by
+abbrev Lengths : tie.After-lengths-of → tie.After-boundary-answers
+Lengths c = c .before .before .before
 
-mul-clear : tie.Need-mul-clear
-mul-clear c = omega (arith, few (Solved (Shared (Moved (c .before .before .before)))))
+needed : (c : tie.After-lengths-of)
+    → let s = Begin (Solved (Shared (Moved (Lengths c)))) in
+    c .lengths-of .result .work ≡ workNeeded (sceneOf (now (s .args .scene)))
+needed c = ap (λ n. n .work) (c .lengths-of .ensures _ (Begin (Solved (Shared (Moved (Lengths c)))) .pre .1 .0 .0))
 
-add-clear : tie.Need-add-clear
-add-clear c = omega (arith, few (Solved (Shared (Moved (c .before .before .before)))))
+lengths-of-requires : tie.Need-lengths-of-requires
+lengths-of-requires c κs = few-in (Begin (Solved (Shared (Moved (c .before .before)))) .pre .1 .0 .0)
 
 clear-requires : tie.Need-clear-requires
 clear-requires c κs =
-    let t = Shared (Moved (c .before .before .before)) in
+    let l = c .before in
+    let t = Shared (Moved (Lengths l)) in
     let k = Solved t in
     let p = Begin k .pre in
     let q = shared (p .1 .0 .0) (p .0 .0 .size) _ (p .1 .1) (k .pressure-solve .ensures) (t .traverse .ensures) in
-    omega (arith, q .iteration .room, boundaries-total (p .1 .0 .0))
+    omega (arith, q .iteration .room, needed l, p .0 .0 .size, work-needed (now (Begin k .args .scene)))
 
 returns : tie.Need-returns
 returns c =
     let l = c .before .before in
     let f = Bound l in
-    let m = Moved f in
+    let m = Moved (Lengths f) in
     let t = Shared m in
     let k = Solved t in
     let p = Begin k .pre in
     finished (p .1 .0 .0) (p .0 .0 .size) _ (p .1 .1) (k .pressure-solve .ensures) (t .traverse .ensures) (p .1 .0 .1)
     (m .update-velocities-and-positions .ensures)
-    (f .boundary-answers .ensures)
+    (Lengths f .boundary-answers .ensures)
+    (needed f)
     (l .clear .ensures)
     (report-made _ (p .0 .1 .clockIs) (k .pressure-solve .ensures .iterations) (k .pressure-solve .ensures .ending))
 
@@ -115,8 +117,7 @@ finish-spec =
     traverse-requires
     update-velocities-and-positions-requires
     boundary-answers-requires
-    mul-clear
-    add-clear
+    lengths-of-requires
     clear-requires
     (λ c. search needs)
     (λ c. search needs)

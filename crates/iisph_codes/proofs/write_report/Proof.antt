@@ -1,0 +1,39 @@
+-- `iisph_codes::write_report` meets its contract: five stores, in the order of the definition. Assumes nothing.
+use mathlib.Core.Path.{refl}
+use native.Mathlib.Omega.{arith}
+use lib.ListN.{length-set}
+use Rattle.iisph_rules.specs.Endings.{toldOf}
+use Rattle.iisph_codes.specs.Report.{reportNumbers}
+use borrow.Author.Needs.{needs}
+use Rattle.iisph_codes.proofs.write_report.Statement.{statement}
+use Rattle.iisph_codes.proofs.write_report.Tie as tie
+
+slice-write-numbers-2 : tie.Need-slice-write-numbers-2
+slice-write-numbers-2 c = simp length-set (omega arith)
+
+slice-write-numbers-3 : tie.Need-slice-write-numbers-3
+slice-write-numbers-3 c = simp length-set (omega arith)
+
+slice-write-numbers-4 : tie.Need-slice-write-numbers-4
+slice-write-numbers-4 c = simp length-set (omega arith)
+
+returns : tie.Need-returns
+unfolding reportNumbers toldOf
+returns c =
+    let t = c .before .tell .ensures in
+    (rw t, rw t, refl)
+
+pub write-report-spec : {M : Type 1} → statement M
+write-report-spec =
+    tie.close
+    (tie.spec
+    (λ c κs. search needs)
+    (λ c. search needs)
+    slice-write-numbers-2
+    slice-write-numbers-3
+    slice-write-numbers-4
+    (λ c. search needs)
+    (λ c. search needs)
+    (λ c. search needs)
+    (λ c. search needs)
+    returns)

@@ -1,0 +1,36 @@
+"""include/iisph.h declares the functions of crates/iisph_c, each list as a pointer and a length."""
+import pathlib
+import re
+import unittest
+
+ROOT = pathlib.Path(__file__).resolve().parent.parent
+HEADER = (ROOT / "include/iisph.h").read_text()
+IN_C = {"&[u8]": ["const uint8_t *", "size_t "], "&mut [f64]": ["double *", "size_t "], "&mut [u64]": ["uint64_t *", "size_t "],
+        "f64": ["double "], "u64": ["uint64_t "]}
+
+
+def exported():
+    """Name, and types in C of the result and the parameters, of each exported function."""
+    source = (ROOT / "crates/iisph_c/src/lib.rt").read_text()
+    for name, parameters, result in re.findall(r'extern "C" fn (\w+)\((.*?)\) -> (\w+)', source, re.S):
+        types = [p.split(":")[1].strip() for p in parameters.split(",") if p.strip()]
+        yield name, IN_C[result] + [c for t in types for c in IN_C[t]]
+
+
+def declared():
+    code = re.sub(r"/\*.*?\*/", "", HEADER, flags=re.S)
+    for result, name, parameters in re.findall(r"^(\w+ )(iisph_\w+)\((.*?)\);", code, re.S | re.M):
+        yield name, [result] + [re.sub(r"\w+$", "", " ".join(p.split())) for p in parameters.split(",")]
+
+
+class Header(unittest.TestCase):
+    def test_declares_what_is_exported(self):
+        self.assertEqual(len(dict(exported())), 6)
+        self.assertEqual(dict(declared()), dict(exported()))
+
+    def test_fits_in_100_columns(self):
+        self.assertEqual([line for line in HEADER.splitlines() if len(line) > 100], [])
+
+
+if __name__ == "__main__":
+    unittest.main()
