@@ -8,7 +8,7 @@
    elements is passed as a pointer and n; the pointer may be null if n is 0, and is aligned for its
    type. Lists that a call writes must not overlap each other or the scene. Nothing is allocated and
    nothing is kept between calls, so calls with lists of their own may run at the same time.
-   iisph_step and iisph_validate take up to 1 MiB of stack.
+   iisph_step, iisph_step_keeping and iisph_validate take up to 1 MiB of stack.
 
    A packed scene has its fields most significant bit first, doubles as their 64 bits:
        header      version (4 bits, 1), fluids (4 bits, 0 to 8); boundaries (4 bits, 0 to 8), 4 zero
@@ -65,6 +65,17 @@ extern "C" {
 uint64_t iisph_step(const uint8_t *scene, size_t scene_len, double *answers, size_t answers_len,
                     double *work, size_t work_len, double *numbers, size_t numbers_len,
                     uint64_t *counts, size_t counts_len);
+
+/* One step for a caller that keeps a clock. clock: at least 4 elements, the step length, dt, 1 / dt
+   and the remaining time. All else, and what is returned, is as for iisph_step.
+   Where the step is done (0, 1, 2) the clock is moved on by its own step length: clock[1] is
+   clock[0], clock[2] is 1 / clock[0] (0 for a zero of either sign), and clock[3] is less clock[0].
+   Otherwise it is unchanged. The scene's own step length and remaining time are those of the step
+   and of numbers, whatever the clock holds. */
+uint64_t iisph_step_keeping(const uint8_t *scene, size_t scene_len, double *clock, size_t clock_len,
+                            double *answers, size_t answers_len, double *work, size_t work_len,
+                            double *numbers, size_t numbers_len, uint64_t *counts,
+                            size_t counts_len);
 
 /* How long the lists of a step must be. counts: at least 2 elements.
    Returns 0 with counts[0] the length that the answer list needs and counts[1] that of the work

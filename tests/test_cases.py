@@ -8,6 +8,7 @@ import unittest
 ROOT = pathlib.Path(__file__).resolve().parent.parent
 sys.path[:0] = [str(ROOT / "tools"), str(ROOT / "checks")]
 import cases_check    # noqa: E402
+import cases_clock    # noqa: E402
 import cases_kernel   # noqa: E402
 import cases_step     # noqa: E402
 
@@ -18,6 +19,10 @@ class Files(unittest.TestCase):
             self.assertTrue(path.read_bytes() == content, path)
         with contextlib.redirect_stdout(io.StringIO()) as said:
             self.assertEqual(cases_step.self_test(), 0, said.getvalue())
+
+    def test_clock(self):
+        for path, content in cases_clock.files().items():
+            self.assertTrue(path.read_bytes() == content, path)
 
     def test_check(self):
         crate, scenes = ROOT / "crates/cases_check", list(cases_check.cases())

@@ -29,7 +29,7 @@ static void scene_a(void) {
 #define SAME(x) do { if (!(x)) { printf("%s:%d: %s\n", __FILE__, __LINE__, #x); return 1; } } while (0)
 
 int main(void) {
-    double answers[8], work[15], numbers[5], out[2] = {7, 7};
+    double answers[8], work[15], numbers[5], out[2] = {7, 7}, clock[5] = {0.25, 7, 7, 3, 7};
     uint64_t counts[3] = {7, 7, 7};
     for (int k = 0; k < 15; k++) work[k] = 7;
     for (int k = 0; k < 8; k++) answers[k] = 7;
@@ -39,6 +39,8 @@ int main(void) {
     /* too short: nothing is written */
     SAME(iisph_step(scene, len, answers, 8, work, 15, numbers, 3, counts, 3) == 99);
     SAME(iisph_step(scene, len, answers, 8, work, 15, numbers, 5, counts, 1) == 99);
+    SAME(iisph_step_keeping(scene, len, clock, 3, answers, 8, work, 15, numbers, 5, counts, 3) == 99);
+    SAME(iisph_step_keeping(scene, len, clock, 5, answers, 8, work, 15, numbers, 3, counts, 3) == 99);
     SAME(iisph_needed(scene, len, counts, 1) == 99);
     SAME(iisph_validate(scene, len, work, 15, counts, 1) == 99);
     SAME(iisph_weight(0.5, 1, out, 0) == 99 && iisph_slope(0.5, 1, NULL, 0) == 99);
@@ -47,6 +49,9 @@ int main(void) {
     /* refused: 8, then 1 */
     SAME(iisph_step(scene, len, answers, 6, work, 15, numbers, 5, counts, 3) == 108);
     SAME(counts[0] == 7 && counts[1] == 0 && answers[0] == 7 && work[0] == 7 && numbers[0] == 7);
+    SAME(iisph_step_keeping(scene, len, clock, 5, answers, 6, work, 15, numbers, 5, counts, 3) == 108);
+    static const double as_it_was[5] = {0.25, 7, 7, 3, 7};
+    SAME(memcmp(clock, as_it_was, sizeof as_it_was) == 0);
     SAME(iisph_step(scene, 51, NULL, 0, NULL, 0, numbers, 5, counts, 3) == 101 && counts[1] == 44);
     SAME(iisph_step(NULL, 0, NULL, 0, NULL, 0, numbers, 5, counts, 3) == 101 && counts[1] == 0);
     SAME(iisph_needed(scene, 51, counts, 3) == 101 && counts[0] == 7 && counts[1] == 44);
@@ -66,6 +71,12 @@ int main(void) {
     SAME(counts[0] == 2 && counts[1] == 14 && counts[2] == 7);
     for (int k = 0; k < 14; k++) SAME(work[k] == 0 && !signbit(work[k]));
     SAME(work[14] == 7);
+
+    /* the same with a clock that is kept: it is moved on by its own step length */
+    SAME(iisph_step_keeping(scene, len, clock, 5, answers, 8, work, 15, numbers, 5, counts, 3) == 1);
+    static const double moved_on[5] = {0.25, 0.25, 4, 2.75, 7};
+    SAME(memcmp(clock, moved_on, sizeof moved_on) == 0);
+    SAME(memcmp(answers, expected, sizeof expected) == 0 && memcmp(numbers, expected_numbers, sizeof expected_numbers) == 0);
 
     /* the kernel: the shapes at 0.5 are 0.25 and -1.5 */
     const double normalizer = 8 / 3.141592653589793;

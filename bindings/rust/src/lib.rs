@@ -26,7 +26,7 @@
 //! # Ok::<(), Box<dyn std::error::Error>>(())
 //! ```
 //!
-//! [`step`] and [`validate`] take up to 1 MiB of stack: give a thread of your own at least 2 MiB, the standard library's default.
+//! [`step`], [`Clock::step`] and [`validate`] take up to 1 MiB of stack: give a thread of your own at least 2 MiB, the standard library's default.
 #![warn(missing_docs)]
 
 use std::error::Error;
@@ -42,6 +42,21 @@ mod c {
         pub fn iisph_step(
             scene: *const u8,
             scene_len: usize,
+            answers: *mut f64,
+            answers_len: usize,
+            work: *mut f64,
+            work_len: usize,
+            numbers: *mut f64,
+            numbers_len: usize,
+            counts: *mut u64,
+            counts_len: usize,
+        ) -> u64;
+        #[allow(clippy::too_many_arguments)]
+        pub fn iisph_step_keeping(
+            scene: *const u8,
+            scene_len: usize,
+            clock: *mut f64,
+            clock_len: usize,
             answers: *mut f64,
             answers_len: usize,
             work: *mut f64,
@@ -247,6 +262,11 @@ pub fn step(scene: &[u8], answers: &mut [f64], work: &mut [f64]) -> Result<Repor
             counts.len(),
         )
     };
+    report(code, numbers, counts)
+}
+
+// What a step's call returned and wrote.
+fn report(code: u64, numbers: [f64; 4], counts: [u64; 2]) -> Result<Report, Refusal> {
     let [error, dt, inv_dt, remaining_time] = numbers;
     let ending = match code {
         0 => Ending::Unswept,
@@ -255,6 +275,48 @@ pub fn step(scene: &[u8], answers: &mut [f64], work: &mut [f64]) -> Result<Repor
         _ => return Err(refusal(code, counts[1])),
     };
     Ok(Report { ending, iterations: counts[0], dt, inv_dt, remaining_time })
+}
+
+/// A clock that the caller keeps over steps, as the Rust's `TimestepManager`.
+#[derive(Clone, Copy, Debug, Default, PartialEq)]
+pub struct Clock {
+    /// The step length, by which it is moved on.
+    pub total_step_size: f64,
+    /// The last step's length.
+    pub dt: f64,
+    /// 1 / dt, or 0 for a zero.
+    pub inv_dt: f64,
+    /// The remaining time.
+    pub remaining_time: f64,
+}
+
+impl Clock {
+    /// As [`step`]; where that is done the clock is moved on in its place, and where it is refused the clock is as it was.
+    /// The report's numbers are the scene's own, whatever the clock holds.
+    pub fn step(&mut self, scene: &[u8], answers: &mut [f64], work: &mut [f64]) -> Result<Report, Refusal> {
+        let mut clock = [self.total_step_size, self.dt, self.inv_dt, self.remaining_time];
+        let mut numbers = [0f64; 4];
+        let mut counts = [0u64; 2];
+        // SAFETY: pointers and lengths of slices; those that are written are lent by `&mut`, so none overlaps another.
+        let code = unsafe {
+            c::iisph_step_keeping(
+                scene.as_ptr(),
+                scene.len(),
+                clock.as_mut_ptr(),
+                clock.len(),
+                answers.as_mut_ptr(),
+                answers.len(),
+                work.as_mut_ptr(),
+                work.len(),
+                numbers.as_mut_ptr(),
+                numbers.len(),
+                counts.as_mut_ptr(),
+                counts.len(),
+            )
+        };
+        [self.total_step_size, self.dt, self.inv_dt, self.remaining_time] = clock;
+        report(code, numbers, counts)
+    }
 }
 
 fn kernel(function: unsafe extern "C" fn(f64, f64, *mut f64, usize) -> u64, r: f64, h: f64) -> Result<f64, KernelRefusal> {

@@ -315,6 +315,31 @@ fn short_lists_are_refused() {
 }
 
 #[test]
+fn a_clock_is_moved_on_where_a_step_is_done() {
+    let whole = packed(whole_scene_a());
+    let (mut answers, mut work) = ([7.0; 7], [7.0; 14]);
+    let mut clock = Clock { total_step_size: 0.25, dt: 7.0, inv_dt: 7.0, remaining_time: 3.0 };
+    let before = clock;
+    for (scene, refusal) in [
+        (&whole[..51], refused(Reason::Missing, 44)),
+        (&packed(scene_b(1.0)), refused(Reason::ShortList, 0)),
+        (&packed(scene_a(Vec::new())), refused(Reason::ZeroDensity, 62)),
+    ] {
+        assert_eq!(clock.step(scene, &mut answers, &mut work), refusal);
+        assert_eq!(clock, before);
+    }
+    for remaining_time in [2.75, 2.5] {
+        assert_eq!(clock.step(&whole, &mut answers, &mut work), step(&whole, &mut [0.0; 7], &mut [0.0; 14]));
+        assert_eq!(clock, Clock { total_step_size: 0.25, dt: 0.25, inv_dt: 4.0, remaining_time });
+        assert_eq!(answers, [0.0, 0.0, -1.0, 0.0, 0.0, -2.0, 0.0]);
+    }
+    clock.total_step_size = -0.0;
+    assert!(clock.step(&whole, &mut answers, &mut work).is_ok());
+    let clock = [clock.total_step_size, clock.dt, clock.inv_dt, clock.remaining_time];
+    assert_eq!(bits(&clock), bits(&[-0.0, -0.0, 0.0, 2.5]));
+}
+
+#[test]
 fn validation_refuses_as_a_step_does() {
     let validated = |scene: &[u8], work: &mut [f64]| (validate(scene, work), work.to_vec());
     let (whole, mut sevens) = (packed(whole_scene_a()), vec![7.0; 13]);

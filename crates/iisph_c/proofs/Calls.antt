@@ -40,17 +40,17 @@ use Rattle.iisph_c.specs.Validate.{validateCode, validateCounts, Validat
 module _ (b : List ℕ) (answers work numbers : List Float) (counts : List ℕ) where
   -- 99
   unchanged : hasRoom numbers counts ≡ false
-      → StepsTo b answers work numbers counts tooShort answers work numbers counts
+      → StepsTo (hasRoom numbers counts) b answers work numbers counts tooShort answers work numbers counts
   unfolding choose
   unchanged h = record { result = rw h; answersThen = rw h; workThen = rw h; numbersThen = rw h; countsThen = rw h }
 
   pub numbers-short : length numbers < numbersNeeded
-      → StepsTo b answers work numbers counts tooShort answers work numbers counts
+      → StepsTo (hasRoom numbers counts) b answers work numbers counts tooShort answers work numbers counts
   unfolding hasRoom
   numbers-short h = unchanged (rw (lt-leb numbersNeeded (length numbers) h))
 
   pub counts-short : numbersNeeded ≤ length numbers → length counts < countsNeeded
-      → StepsTo b answers work numbers counts tooShort answers work numbers counts
+      → StepsTo (hasRoom numbers counts) b answers work numbers counts tooShort answers work numbers counts
   unfolding hasRoom
   counts-short l h = unchanged (rw (le-leb numbersNeeded (length numbers) l, lt-leb countsNeeded (length counts) h))
 
@@ -64,7 +64,7 @@ module _ (b : List ℕ) (answers work numbers : List Float) (counts : List ℕ) 
       -- 0, 1, 2
       pub done-to : {r : Report} {numbers′ : List Float} → a ≡ Done r → n ≡ endingNumber (r .ending)
           → numbers′ ≡ sets numbers 0 (reportNumbers r) → counts′ ≡ set counts 0 (r .iterations)
-          → StepsTo b answers work numbers counts n answers′ work′ numbers′ counts′
+          → StepsTo (hasRoom numbers counts) b answers work numbers counts n answers′ work′ numbers′ counts′
       unfolding choose stepCode numbersAfter countsAfter
       done-to {r} q e f g =
           let t : stepAnswer b (length answers) (length work) ≡ Done r = sym (s .answer) ∙ q in
@@ -79,7 +79,7 @@ module _ (b : List ℕ) (answers work numbers : List Float) (counts : List ℕ) 
 
       -- 100 + n
       pub refused-to : {r : Refusal} → a ≡ Refused r → n ≡ refusedCode r → counts′ ≡ refusedCounts r counts
-          → StepsTo b answers work numbers counts n answers′ work′ numbers counts′
+          → StepsTo (hasRoom numbers counts) b answers work numbers counts n answers′ work′ numbers counts′
       unfolding choose stepCode numbersAfter countsAfter
       refused-to {r} q e g =
           let t : stepAnswer b (length answers) (length work) ≡ Refused r = sym (s .answer) ∙ q in

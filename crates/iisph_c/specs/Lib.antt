@@ -1,3 +1,4 @@
 pub mod Step
 pub mod Needs
 pub mod Validate
+pub mod Keep

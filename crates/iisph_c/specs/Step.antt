@@ -36,14 +36,13 @@ countsAfter (Refused r) old = refusedCounts r old
 unfoldable pub hasRoom : List Float → List ℕ → Bool
 hasRoom numbers counts = leb numbersNeeded (length numbers) && countsRoom counts
 
--- of the bytes b and the four lists: the result r, and the lists afterwards
-pub record StepsTo (b : List ℕ) (answers work numbers : List Float) (counts : List ℕ) (r : ℕ)
+-- by whether there is room for what is written of every answer, of the bytes b and the four lists: the result r, and
+-- the lists afterwards
+pub record StepsTo (room : Bool) (b : List ℕ) (answers work numbers : List Float) (counts : List ℕ) (r : ℕ)
     (answers′ work′ numbers′ : List Float) (counts′ : List ℕ) : Type 0 where
-  pub result : r ≡ choose (hasRoom numbers counts) (stepCode (stepAnswer b (length answers) (length work))) tooShort
-  pub answersThen : answers′
-      ≡ choose (hasRoom numbers counts) (answersAfter b (length answers) (length work) answers) answers
-  pub workThen : work′ ≡ choose (hasRoom numbers counts) (workAfter b (length answers) (length work) work) work
+  pub result : r ≡ choose room (stepCode (stepAnswer b (length answers) (length work))) tooShort
+  pub answersThen : answers′ ≡ choose room (answersAfter b (length answers) (length work) answers) answers
+  pub workThen : work′ ≡ choose room (workAfter b (length answers) (length work) work) work
   pub numbersThen : numbers′
-      ≡ choose (hasRoom numbers counts) (numbersAfter (stepAnswer b (length answers) (length work)) numbers) numbers
-  pub countsThen : counts′
-      ≡ choose (hasRoom numbers counts) (countsAfter (stepAnswer b (length answers) (length work)) counts) counts
+      ≡ choose room (numbersAfter (stepAnswer b (length answers) (length work)) numbers) numbers
+  pub countsThen : counts′ ≡ choose room (countsAfter (stepAnswer b (length answers) (length work)) counts) counts

@@ -1,7 +1,9 @@
 // The C interface (include/iisph.h). A slice is a pointer and a length.
+use iisph_codes::CLOCK;
 use iisph_codes::COUNTS;
 use iisph_codes::NUMBERS;
 use iisph_codes::TOO_SHORT;
+use iisph_codes::advance_listed;
 use iisph_codes::write_kernel;
 use iisph_codes::write_lengths;
 use iisph_codes::write_refusal;
@@ -12,7 +14,8 @@ use scene_lengths::Needs;
 use scene_lengths::lengths_needed;
 ghost use Rattle.cubic_spline.specs.Shape.{weight, slope};
 ghost use Rattle.iisph_codes.specs.Kernel.{KernelTo};
-ghost use Rattle.iisph_c.specs.Step.{StepsTo};
+ghost use Rattle.iisph_c.specs.Step.{hasRoom, StepsTo};
+ghost use Rattle.iisph_c.specs.Keep.{KeepsTo};
 ghost use Rattle.iisph_c.specs.Needs.{NeedsTo};
 ghost use Rattle.iisph_c.specs.Validate.{ValidatesTo};
 
@@ -27,8 +30,9 @@ pub extern "C" fn iisph_step(
     counts: &mut [u64],
 ) -> u64
     ensures { λ r. ⌜
-        StepsTo (now (scene .entry)) (now (answers .entry)) (now (work .entry)) (now (numbers .entry))
-        (now (counts .entry)) r (now (answers .exit)) (now (work .exit)) (now (numbers .exit)) (now (counts .exit))
+        StepsTo (hasRoom (now (numbers .entry)) (now (counts .entry))) (now (scene .entry)) (now (answers .entry))
+        (now (work .entry)) (now (numbers .entry)) (now (counts .entry)) r (now (answers .exit)) (now (work .exit))
+        (now (numbers .exit)) (now (counts .exit))
         ⌝ }
 {
     if numbers.len() < NUMBERS {
@@ -41,6 +45,32 @@ pub extern "C" fn iisph_step(
         StepAnswer::Done(report) => write_report(report, numbers, counts),
         StepAnswer::Refused(refusal) => write_refusal(refusal, counts),
     }
+}
+
+// The same for a caller that keeps a clock: where the step is done it is moved on in its place.
+#[no_mangle]
+pub extern "C" fn iisph_step_keeping(
+    scene: &[u8],
+    clock: &mut [f64],
+    answers: &mut [f64],
+    work: &mut [f64],
+    numbers: &mut [f64],
+    counts: &mut [u64],
+) -> u64
+    ensures { λ r. ⌜
+        KeepsTo (now (scene .entry)) (now (clock .entry)) (now (answers .entry)) (now (work .entry))
+        (now (numbers .entry)) (now (counts .entry)) r (now (clock .exit)) (now (answers .exit)) (now (work .exit))
+        (now (numbers .exit)) (now (counts .exit))
+        ⌝ }
+{
+    if clock.len() < CLOCK {
+        return TOO_SHORT;
+    }
+    let told = iisph_step(scene, answers, work, numbers, counts);
+    if told < TOO_SHORT {
+        advance_listed(clock);
+    }
+    told
 }
 
 // The lengths that the answer and the work list of a step must have, or refusals 1 to 7.

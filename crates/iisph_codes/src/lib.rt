@@ -6,12 +6,16 @@ use iisph_rules::Report;
 use iisph_rules::endings::tell;
 use scene_format::Refusal;
 use scene_lengths::Lengths;
+use timestep_manager::Clock;
+use timestep_manager::advance;
 ghost use mathlib.Core.Path.{_≡_};
 ghost use mathlib.Core.List.{[], _∷_};
 ghost use Prim.Native.Nat.{_≤_};
 ghost use lib.ListN.{length, set};
 ghost use lib.Seq.{sets};
 ghost use Rattle.iisph_rules.specs.Endings.{endingNumber};
+ghost use Rattle.timestep_manager.specs.Clock.{advanced};
+ghost use Rattle.iisph_codes.specs.ClockList.{clockNeeded, clockNumbers, clockOf};
 ghost use Rattle.iisph_codes.specs.Numbers.{countsNeeded, refusedCode, refusedCounts};
 ghost use Rattle.iisph_codes.specs.Report.{numbersNeeded, reportNumbers};
 ghost use Rattle.iisph_codes.specs.Kernel.{refusalCode, Gives};
@@ -23,6 +27,9 @@ pub const TOO_SHORT: u64 = 99;
 pub const COUNTS: usize = 2;
 
 pub const NUMBERS: usize = 4;
+
+// How many elements a clock has.
+pub const CLOCK: usize = 4;
 
 // What is added to the number of a refusal.
 const REFUSED: u64 = 100;
@@ -68,6 +75,27 @@ pub fn write_report(report: Report, numbers: &mut [f64], counts: &mut [u64]) -> 
     numbers[3] = clock.remaining_time;
     counts[0] = report.iterations as u64;
     told.number
+}
+
+// A clock's doubles, moved on where they stand; the clock is handed back.
+pub fn advance_listed(clock: &mut [f64]) -> Clock
+    requires { ⌜ clockNeeded ≤ length (now clock) ⌝ }
+    ensures { λ c. ⌜
+        (c ≡ advanced (clockOf (now (clock .entry))))
+        × (now (clock .exit) ≡ sets (now (clock .entry)) 0 (clockNumbers c))
+        ⌝ }
+{
+    let moved = advance(Clock {
+        total_step_size: clock[0],
+        dt: clock[1],
+        inv_dt: clock[2],
+        remaining_time: clock[3],
+    });
+    clock[0] = moved.total_step_size;
+    clock[1] = moved.dt;
+    clock[2] = moved.inv_dt;
+    clock[3] = moved.remaining_time;
+    moved
 }
 
 fn refusal_code(refusal: KernelRefusal) -> u64

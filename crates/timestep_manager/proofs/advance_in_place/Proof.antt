@@ -7,15 +7,15 @@ use Rattle.hand_proofs.proofs.Names.{vptr, SProp, ent, sep, id⊢, GName, Lft, 
 use Rattle.hand_proofs.proofs.Names.{Routine, Heap, Calls, Loops, WpFn, Tables, Atoms, sem, Fun, factI, givenOf, tables}
 use Rattle.hand_proofs.proofs.Names.{tablesOf, Given, ‵, raw, _⊛_, _$_, _∵_, !, qed, by, move, keep, drop, use1, split}
 use Rattle.hand_proofs.proofs.Names.{join, fsplit, fsplit3, fjoin, fjoin3, feqI, suffices, frame, done, look, look-raw}
-use Rattle.hand_proofs.proofs.Names.{store-raw, init, forget, stop, hop, from, load, unit-lit, of-opd, and-then}
+use Rattle.hand_proofs.proofs.Names.{store-raw, init, stop, hop, from, load, unit-lit, of-opd, and-then}
 use Rattle.hand_proofs.proofs.Names.{no-more, assigns, land, returns, enter, alloc1, alloc0, params1, pass1, pass0}
-use Rattle.hand_proofs.proofs.Names.{free1, free0, Body, FmC, fmOf, owns, Is, shows, mem, RefT, MutRef, now, ptr-vals}
+use Rattle.hand_proofs.proofs.Names.{free0, Body, FmC, fmOf, owns, Is, shows, mem, RefT, MutRef, now, ptr-vals}
 use Rattle.hand_proofs.proofs.Names.{mut-tells, plain, opens, closes, peeks, nothing, spelt, Triple, onEntry, Meets}
 use Rattle.hand_proofs.proofs.Names.{tripleOf, entered, cited, says, Stays, stay-ref, walkOf, goes-ref, ends-at}
 use denote.Struct.Laws as LL
 use Rattle.timestep_manager.specs.declared.Clock.{Clock}
 use Rattle.timestep_manager.specs.Clock.{advanced}
-use Rattle.hand_proofs.proofs.Walk.{Of, answers, meets-by}
+use Rattle.hand_proofs.proofs.Walk.{Of, answers, gives-back, meets-by}
 use Rattle.timestep_manager.proofs.Clock as T
 use Rattle.timestep_manager.proofs.Clock.Laws as T′
 use Rattle.timestep_manager.proofs.advance as g
@@ -97,9 +97,8 @@ module _ {M : Type 1} (𝓤 : URA M) (H : Heap 𝓤) (A : Atoms 𝓤) (W : Given
       assigns ! (of-opd ! (unit-lit !)) (from ! (stop !)) (init ! 11 refl (tt, tt)) $
       move ! (1 ∷ 0 ∷ []) $ closes ! tt T.the-row r (v ∷ []) b o $
       -- [obs; the borrow; the token; _3; …; _2; …; _1; …; _0; …]
-      returns ! (look ! 9 refl) $ forget ! 3 refl $ forget ! 5 refl $ forget ! 7 refl $ forget ! 9 refl $
-      move ! (9 ∷ 10 ∷ []) $ free1 ! $ move ! (7 ∷ 8 ∷ []) $ free1 ! $ move ! (5 ∷ 6 ∷ []) $ free1 ! $
-      move ! (3 ∷ 4 ∷ []) $ free1 ! $ free0 ! $
+      returns ! (look ! 9 refl) $ gives-back ! 9 refl refl $ gives-back ! 7 refl refl $ gives-back ! 5 refl refl $
+      gives-back ! 3 refl refl $ free0 ! $
       keep ! (0 ∷ 1 ∷ 2 ∷ []) $ by ! (exits r e))))))))
 
 meets : {M : Type 1} (𝓤 : URA M) (H : Heap 𝓤) (A : Atoms 𝓤) (W : Given 𝓤 H A) (at-mem : Memory → SProp 𝓤)
