@@ -8,9 +8,9 @@
 
 The scenes come from checks/made_scenes.py and checks/cases_step.py, small ones only, the answers
 from the oracle. Scenes are taken, short ones first, until each branch of the rules and each refusal
-(BRANCHES) has been met some times, each class has its share, and each wrong version of
-checks/wrong_versions.py is noticed by several. Which branches a scene meets is seen by notes put
-into checks/cases_step.py's text. Status 2 if a file is missing, the use is wrong, or a branch or a
+(BRANCHES, in parts/branches.py) has been met some times, each class has its share, and each wrong
+version of checks/wrong_versions.py is noticed by several. Which branches a scene meets is seen by
+notes put into checks/cases_step.py's text. Status 2 if a file is missing, the use is wrong, or a branch or a
 wrong version is met by no scene.
 """
 import argparse

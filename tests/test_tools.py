@@ -85,8 +85,8 @@ class Prepare(unittest.TestCase):
 
 
 class Run(unittest.TestCase):
-    """In a folder of its own, with an rt that writes down its arguments and makes a program that says
-    `new` or, on request, fails."""
+    """In a folder of its own, with an rt that writes down its arguments and makes a program that
+    says `new` or, on request, fails."""
 
     def setUp(self):
         self.root = pathlib.Path(tempfile.mkdtemp())

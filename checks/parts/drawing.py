@@ -1,5 +1,5 @@
-"""Numbers and scenes drawn by a fixed generator, for made_scenes.py: a few particles with numbers of
-some kind, and lattices with kernel weights."""
+"""Numbers and scenes drawn by a fixed generator, for made_scenes.py: a few particles with numbers
+of some kind, and lattices with kernel weights."""
 import math
 import struct
 

@@ -2,8 +2,8 @@
 
 A scene is a dict: least, most, head (step length, remaining time, limit, gravity), fluids and
 walls. A fluid is [rest, particles], a wall [keeps, particles]; a particle is [doubles, fluid
-contacts, wall contacts], a wall's particle [doubles, contacts]; a contact is [model, number, weight,
-gradient...].
+contacts, wall contacts], a wall's particle [doubles, contacts]; a contact is [model, number,
+weight, gradient...].
 """
 import struct
 
