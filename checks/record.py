@@ -10,8 +10,8 @@ The scenes come from checks/made_scenes.py and checks/cases_step.py, small ones 
 from the oracle. Scenes are taken, short ones first, until each branch of the rules and each refusal
 (BRANCHES, in parts/branches.py) has been met some times, each class has its share, and each wrong
 version of checks/wrong_versions.py is noticed by several. Which branches a scene meets is seen by
-notes put into checks/cases_step.py's text. Status 2 if a file is missing, the use is wrong, or a branch or a
-wrong version is met by no scene.
+notes put into checks/cases_step.py's text. Status 2 if a file is missing, the use is wrong, or a
+branch or a wrong version is met by no scene.
 """
 import argparse
 import collections
@@ -52,7 +52,8 @@ def pool(source, oracle):
 
 
 def chosen(candidates, source):
-    """Numbers of candidates: for the branches, then for the classes, then for the wrong versions."""
+    """Numbers of candidates: for the branches, then for the classes, then for the wrong versions.
+    """
     seen, taken, met, share = Branches(source), set(), collections.Counter(), collections.Counter()
     branches = [seen.of(data) for _, data, _ in candidates]
     order = sorted(range(len(candidates)), key=lambda k: (len(candidates[k][1]) / (1 + len(branches[k])), k))
