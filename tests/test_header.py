@@ -25,7 +25,7 @@ def declared():
 
 class Header(unittest.TestCase):
     def test_declares_what_is_exported(self):
-        self.assertEqual(len(dict(exported())), 5)
+        self.assertEqual(len(dict(exported())), 6)
         self.assertEqual(dict(declared()), dict(exported()))
 
     def test_fits_in_100_columns(self):

@@ -1,4 +1,5 @@
-/* Each function once through the archive, on scene A of docs/FORMAT.md. Prints `ok`, or the line of the first difference.
+/* Each function once through the archive, on scene A of docs/FORMAT.md. Prints `ok`, or the line of
+   the first difference.
      gcc -O2 -Wall -Wextra -Iinclude bindings/c/smoke.c target/staticlib/libiisph_c.a -o target/smoke && target/smoke */
 #include "iisph.h"
 #include <math.h>
@@ -76,7 +77,8 @@ int main(void) {
     SAME(iisph_step_keeping(scene, len, clock, 5, answers, 8, work, 15, numbers, 5, counts, 3) == 1);
     static const double moved_on[5] = {0.25, 0.25, 4, 2.75, 7};
     SAME(memcmp(clock, moved_on, sizeof moved_on) == 0);
-    SAME(memcmp(answers, expected, sizeof expected) == 0 && memcmp(numbers, expected_numbers, sizeof expected_numbers) == 0);
+    SAME(memcmp(answers, expected, sizeof expected) == 0);
+    SAME(memcmp(numbers, expected_numbers, sizeof expected_numbers) == 0);
 
     /* the kernel: the shapes at 0.5 are 0.25 and -1.5 */
     const double normalizer = 8 / 3.141592653589793;
