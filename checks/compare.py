@@ -29,134 +29,19 @@ specification says, and counted.
 """
 import argparse
 import collections
-import copy
 import itertools
-import math
 import pathlib
 import shlex
-import struct
-import subprocess
 import sys
-import tempfile
 import time
 
-import made_scenes
-from made_scenes import CLASSES, LARGE, Draw, made, pack, unpack
-from reference import Stop, batch, load, text, texts
+from made_scenes import CLASSES, LARGE, made
+from parts.kernel_pairs import NAN, kernel_run
+from parts.sides import Failed, Sides, files_full
+from parts.smaller import shrunk
+from reference import Stop, load, text
 
 ROOT = pathlib.Path(__file__).resolve().parent.parent
-NAN = "7FF8000000000000"
-
-
-class Failed(Exception):
-    """A command ended badly. Its argument is a message."""
-
-
-def ran(command, folder, given=None):
-    """What a command prints, which must end well."""
-    try:
-        done = subprocess.run(command, cwd=folder, input=given, capture_output=True)
-    except OSError as e:
-        raise Stop("%s can't be run: %s" % (command[0], e.strerror))
-    if done.returncode != 0:
-        raise Failed("%s ended with status %d\n%s"
-                     % (" ".join(command), done.returncode, done.stderr.decode(errors="replace")[-2000:]))
-    return done.stdout.decode("ascii", errors="replace")
-
-
-class Sides:
-    """The oracle and the subject, each asked for the texts of some scenes."""
-
-    def __init__(self, options):
-        self.oracle = [str(options.oracle), "scenes", "scenes"] + ["--any-length"] * (options.only in LARGE)
-        self.subject, self.alone = options.command, options.stdin
-
-    def ask(self, scenes):
-        with tempfile.TemporaryDirectory() as folder:
-            (pathlib.Path(folder) / "scenes").write_bytes(batch(scenes))
-            try:
-                rust = texts(ran(self.oracle, folder))
-            except Failed as e:
-                raise Stop(str(e))
-            if self.alone:
-                ours = [ran(self.subject, folder, data) for data in scenes]
-            else:
-                ours = texts(ran(self.subject, folder))
-        if len(rust) != len(scenes):
-            raise Stop("the oracle gave %d answers to %d scenes" % (len(rust), len(scenes)))
-        return rust, ours
-
-    def first_wrong(self, scenes, most):
-        """The first of these scenes on which the answers differ, asking for many at a time."""
-        for full in files_full(((None, data) for data in scenes), most):
-            some = [data for _, data in full]
-            try:
-                rust, ours = self.ask(some)
-            except Failed:
-                ours = None
-            if ours is None or len(ours) != len(some):      # one of them has no answer: which?
-                if len(some) == 1:
-                    return some[0]
-                found = self.first_wrong(some, len(some[0]) + 4)
-            else:
-                found = next((data for data, a, b in zip(some, rust, ours) if a != b and a != "skipped\n"), None)
-            if found is not None:
-                return found
-        return None
-
-
-# ---- making a scene with a difference smaller
-
-def without(s, fluid, number):
-    """The scene without a fluid particle and the contacts that name it."""
-    s = copy.deepcopy(s)
-    del s["fluids"][fluid][1][number]
-    for _, particles in s["fluids"]:
-        for p in particles:
-            p[1] = [[c[0], c[1] - (c[0] == fluid and c[1] > number), *c[2:]] for c in p[1] if c[:2] != [fluid, number]]
-    return s
-
-
-def without_wall(s, wall):
-    s = copy.deepcopy(s)
-    del s["walls"][wall]
-    for particles in [f[1] for f in s["fluids"]] + [w[1] for w in s["walls"]]:
-        for p in particles:
-            p[-1] = [[c[0] - (c[0] > wall), *c[1:]] for c in p[-1] if c[0] != wall]
-    return s
-
-
-def smaller(s):
-    """Scenes with one thing less."""
-    for m in range(len(s["walls"])):
-        yield without_wall(s, m)
-    for m, (_, particles) in enumerate(s["fluids"]):
-        for k in range(len(particles)):
-            yield without(s, m, k)
-    if s["fluids"] and not s["fluids"][-1][1]:
-        yield dict(s, fluids=s["fluids"][:-1])
-    for kind in "fluids", "walls":
-        for m, (_, particles) in enumerate(s[kind]):
-            for k, p in enumerate(particles):
-                for place in range(1, len(p)):
-                    for at in range(len(p[place])):
-                        less = copy.deepcopy(s)
-                        del less[kind][m][1][k][place][at]
-                        yield less
-    for name in "most", "least":
-        if s[name] > 0:
-            yield dict(s, **{name: s[name] - 1})
-
-
-def shrunk(data, sides, options):
-    """As long as some smaller scene differs too, and for about a minute."""
-    end = time.monotonic() + 60.0
-    while unpack(data) is not None and time.monotonic() < end:
-        less = sides.first_wrong(map(pack, smaller(unpack(data))), options.bytes)
-        if less is None:
-            break
-        data = less
-    return data
 
 
 # ---- the runs
@@ -171,19 +56,6 @@ def stream(options):
         source = made(options.seed, name)
         for _ in range((options.scenes + k) // len(names)):
             yield name, next(source)
-
-
-def files_full(scenes, most):
-    """The scenes in lists of at most so many bytes."""
-    full, size = [], 0
-    for scene in scenes:
-        if full and size + len(scene[1]) + 4 > most:
-            yield full
-            full, size = [], 0
-        full.append(scene)
-        size += len(scene[1]) + 4
-    if full:
-        yield full
 
 
 def kinds(answer):
@@ -263,64 +135,7 @@ def scenes_run(options):
     return 0
 
 
-# ---- the kernel
-
-def bits(x): return NAN if math.isnan(x) else struct.pack(">d", x).hex().upper()
-
-
-def pairs(seed, n):
-    d = Draw(seed)
-    for _ in range(n):
-        edge = d.of((0.0, 1e-5, 0.5, 1.0)) * d.of((1.0, 1.0 - 2.0**-53, 1.0 + 2.0**-52))
-        odd = d.of((abs(d.extreme()), d.extreme(), abs(d.subnormal()), d.zero()))
-        h = d.weighted(((8, abs(d.random()) or 1.0), (6, abs(d.nice()) or 1.0), (1, odd)))
-        q = d.weighted(((6, 1.25 * d.unit()), (3, edge), (1, 1e-4 * d.unit())))
-        r = d.weighted(((20, q * abs(h)), (1, abs(d.extreme())), (1, d.random()),
-                        (1, d.of((math.inf, math.nan, -0.0, -1.0)))))
-        yield r, d.of((math.inf, math.nan, -h)) if d.one_in(40) else h
-
-
-def divided(a, b):
-    if b != 0.0:
-        return a / b
-    return math.nan if a == 0.0 or math.isnan(a) else math.copysign(math.inf, a) * math.copysign(1.0, b)
-
-
-def kernel_line(r, h):
-    if not (math.isfinite(r) and r >= 0.0):
-        return "refused 11"
-    if not (math.isfinite(h) and h > 0.0):
-        return "refused 12"
-    normaliser, (weight, slope) = divided(8.0, ((math.pi * h) * h) * h), made_scenes.shapes(r / h)
-    return "%s %s" % (bits(normaliser * weight), bits((normaliser * slope) / h))
-
-
-def kernel_kind(answer):
-    """What the summary counts of one answer."""
-    if answer.startswith("refused"):
-        return answer
-    return "not-a-number" if NAN in answer else "slope 0" if answer[17:].strip("08") == "" else "slope not 0"
-
-
-def kernel_run(options):
-    cases = list(pairs(options.seed, options.kernel))
-    lines = "".join("%s %s\n" % (bits(r), bits(h)) for r, h in cases)
-    rust = ran([str(options.oracle), "kernel"], None, lines.encode()).splitlines()
-    if options.command:
-        ours = ran(options.command, None, lines.encode()).splitlines()
-    else:
-        ours = [kernel_line(r, h) for r, h in cases]
-    for (r, h), a, b in zip(cases, rust, ours):
-        if a != b:
-            print("distance %s radius %s\nthe Rust:    %s\nthe subject: %s" % (bits(r), bits(h), a, b))
-            return 1
-    if len(rust) != len(cases) or len(ours) != len(cases):
-        raise Stop("%d pairs, but %d and %d answers" % (len(cases), len(rust), len(ours)))
-    count = collections.Counter(map(kernel_kind, rust))
-    print(", ".join("%s %d" % pair for pair in sorted(count.items())))
-    print("%d pairs, seed %d: no difference" % (len(cases), options.seed))
-    return 0
-
+# ---- the command
 
 def whole(word):
     if not word.isdecimal():

@@ -18,9 +18,10 @@ HERE = pathlib.Path(__file__).resolve().parent
 TARGET = HERE / "src/salva"
 
 WHOLE = """counters/collision_detection_counters.rs counters/mod.rs counters/solver_counters.rs
-    counters/stages_counters.rs counters/timer.rs geometry/contact_manager.rs geometry/contacts.rs helper.rs
-    kernel/cubic_spline_kernel.rs kernel/kernel.rs object/boundary.rs object/fluid.rs object/interaction_groups.rs
-    solver/helper.rs solver/nonpressure_force.rs solver/pressure/iisph_solver.rs timestep_manager.rs""".split()
+    counters/stages_counters.rs counters/timer.rs geometry/contact_manager.rs geometry/contacts.rs
+    helper.rs kernel/cubic_spline_kernel.rs kernel/kernel.rs object/boundary.rs object/fluid.rs
+    object/interaction_groups.rs solver/helper.rs solver/nonpressure_force.rs
+    solver/pressure/iisph_solver.rs timestep_manager.rs""".split()
 
 # Of lib.rs only the macros that walk and add up lists: what begins with the first text and ends
 # before the second.

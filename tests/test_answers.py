@@ -1,10 +1,8 @@
-"""tools/answers.py on the texts of the cases of checks/cases_step.py and on damaged ones; and the
-examples."""
+"""tools/answers.py on the texts of the cases of checks/cases_step.py and on damaged ones."""
 import contextlib
 import io
 import json
 import math
-import os
 import pathlib
 import random
 import re
@@ -16,14 +14,15 @@ import xml.etree.ElementTree as ElementTree
 
 ROOT = pathlib.Path(__file__).resolve().parent.parent
 sys.path[:0] = [str(ROOT / "tools"), str(ROOT / "checks")]
-import answers      # noqa: E402
-import cases_step   # noqa: E402
-import chamber      # noqa: E402
-import reference    # noqa: E402
-import scene        # noqa: E402
+import answer_files     # noqa: E402
+import answer_picture   # noqa: E402
+import answers          # noqa: E402
+import cases_step       # noqa: E402
+import commands         # noqa: E402
+import reference        # noqa: E402
+import scene            # noqa: E402
 
 EXAMPLES = ROOT / "examples"
-NAMES = sorted(path.stem for path in EXAMPLES.glob("*.json"))
 TEXTS = reference.texts((ROOT / "crates/cases_step/stdout").read_text())
 DONE = [text for text in TEXTS if text.startswith("step ")]
 CHAMBER, CHAMBER_SCENE = (EXAMPLES / "chamber.txt").read_text(), (EXAMPLES / "chamber.bin").read_bytes()
@@ -73,11 +72,11 @@ class Reading(unittest.TestCase):
             self.assertTrue(answers.wall_vtk(answer))
             try:
                 ElementTree.fromstring(answers.picture(answer)[0])
-            except answers.Wrong as e:
+            except commands.Wrong as e:
                 self.assertTrue(re.search("no particle|too far apart", str(e)))
 
     def refused(self, text, piece="give the whole output of tools/run", data=None):
-        with self.assertRaises(answers.Wrong) as raised:
+        with self.assertRaises(commands.Wrong) as raised:
             answer = answers.parse(text)
             if data is not None:
                 answers.hold(answer, data, "its scene")
@@ -153,14 +152,14 @@ class Reading(unittest.TestCase):
                             ("", "`step ..`"), ("refused 77 1\n", "line 1"), ("refused 7 15", "cut off"),
                             ("refused 8 0\n", "a work list of 14")):
             self.refused(text, piece)
-        with self.assertRaises(answers.Wrong) as raised:
+        with self.assertRaises(commands.Wrong) as raised:
             answers.parse("refused 8 0\n")
         self.assertNotIn("scene.py at", str(raised.exception))
 
 
 class Pictures(unittest.TestCase):
     def test_colours_fall_in_lightness(self):
-        shades = [answers.colour(k / 100) for k in range(101)]
+        shades = [answer_picture.colour(k / 100) for k in range(101)]
         light = [0.2126 * int(c[1:3], 16) + 0.7152 * int(c[3:5], 16) + 0.0722 * int(c[5:], 16) for c in shades]
         self.assertTrue(all(a > b for a, b in zip(light, light[1:])))
         self.assertGreater(light[0] - light[-1], 200)
@@ -209,10 +208,10 @@ class Pictures(unittest.TestCase):
 
     def test_one_is_no_plural(self):
         answer = answers.parse("step ranout 1 0000000000000000\n" + "".join(CHAMBER.splitlines(keepends=True)[1:3]))
-        self.assertEqual(answers.ended(answer), "ran out after 1 iteration, error 0")
+        self.assertEqual(answer_files.ended(answer), "ran out after 1 iteration, error 0")
         answer.held = True
         self.assertIn("1 fluid particle and 0 wall particles\n", answers.table(answer))
-        self.assertEqual(answers.ended(answers.parse("step unswept 0\n" + CHAMBER.splitlines(keepends=True)[1])),
+        self.assertEqual(answer_files.ended(answers.parse("step unswept 0\n" + CHAMBER.splitlines(keepends=True)[1])),
                          "done without iterations")
 
 
@@ -243,7 +242,7 @@ class Files(unittest.TestCase):
                             ("", "add a line: 0 0 X Y Z"),
                             ("0 0 1 2 3\n0 0 1 2 4", "line 2: wall 0, particle 0 stands there twice"),
                             ((EXAMPLES / "chamber.walls").read_text() + "9 0 1 2 3", "is it the file of this scene?")):
-            with self.assertRaises(answers.Wrong) as raised:
+            with self.assertRaises(commands.Wrong) as raised:
                 answers.place_walls(answers.parse((EXAMPLES / "chamber.txt").read_text()), text, "walls")
             self.assertIn(piece, str(raised.exception))
 
@@ -277,35 +276,6 @@ class Files(unittest.TestCase):
                                          (["table", EXAMPLES / "chamber.bin"], 1, "give the whole output")):
             found, said = refused(*arguments)
             self.assertEqual((found, piece in said), (status, True), said)
-
-
-class Examples(unittest.TestCase):
-    def test_each_is_packed_and_answered(self):
-        self.assertEqual(NAMES, ["chamber", "scene-a", "scene-b", "torn-droplet", "torn-droplet-faint"])
-        for name in NAMES:
-            data, text = (EXAMPLES / (name + ".bin")).read_bytes(), (EXAMPLES / (name + ".txt")).read_text()
-            self.assertEqual(scene.pack((EXAMPLES / (name + ".json")).read_text()), (data, []))
-            self.assertEqual(cases_step.lines(data), text)
-            if "IISPH" in os.environ:      # the built program: IISPH=target/bin/iisph python3 -m unittest
-                done = subprocess.run([os.environ["IISPH"]], input=data, capture_output=True)
-                self.assertEqual(done.stdout.decode(), text)
-
-    def test_the_chamber_is_what_its_tool_writes(self):
-        self.assertEqual(json.loads((EXAMPLES / "chamber.json").read_text()), json.loads(json.dumps(chamber.chamber())))
-        self.assertEqual((EXAMPLES / "chamber.walls").read_text(), chamber.positions())
-
-    def test_its_spline_is_the_specifications(self):
-        for r, shape, fall in ((0.0, 1.0, 0.0), (0.5, 0.25, -1.5), (0.75, 0.03125, -0.375), (1.0, 0.0, 0.0),
-                               (1.5, 0.0, 0.0)):
-            self.assertEqual((chamber.weight(r, 1.0), chamber.slope(r, 1.0)),
-                             (8.0 / math.pi * shape, 8.0 / math.pi * fall))
-
-    def test_the_faint_droplet_hides_a_coefficient(self):
-        read = cases_step.walk((EXAMPLES / "torn-droplet-faint.bin").read_bytes())
-        cases_step.step(read)
-        drop = read.all[2][1]
-        self.assertTrue(drop.rho > 0.0 and math.isnan(drop.aii) and drop.pressure == 0.0
-                        and all(map(math.isfinite, [*drop.position, *drop.velocity])))
 
 
 if __name__ == "__main__":

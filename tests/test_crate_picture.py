@@ -13,6 +13,7 @@ from unittest import mock
 ROOT = pathlib.Path(__file__).resolve().parent.parent
 sys.path[:0] = [str(ROOT / "tools"), str(ROOT / "checks")]
 import crate_picture as picture   # noqa: E402
+from parts import layout          # noqa: E402
 
 # The arrows of `late` and `last` pass three rows; that of `odd` leads up, to a later section.
 SMALL = """# What each builds on.
@@ -125,18 +126,18 @@ class Plan(unittest.TestCase):
     def test_orders_without_crossings_are_found(self):
         rows = [["a", "b", "c"], ["x", "y", "z"]]
         links = [[("x", "c"), ("y", "a"), ("z", "b"), ("z", "a")]]
-        self.assertEqual(picture.crossings(rows, links), 3)
-        for order in [picture.swept(rows, links), *picture.orders(rows, links)]:
-            self.assertEqual(picture.crossings(order, links), 0)
+        self.assertEqual(layout.crossings(rows, links), 3)
+        for order in [layout.swept(rows, links), *layout.orders(rows, links)]:
+            self.assertEqual(layout.crossings(order, links), 0)
 
     def test_places_have_the_least_strain(self):
-        widths = dict.fromkeys("abcd", 3 - picture.BESIDE)      # so that they stand 3 apart
+        widths = dict.fromkeys("abcd", 3 - layout.BESIDE)      # so that they stand 3 apart
         pulls = {("c", "a"): 2, ("c", "b"): 1, ("d", "a"): 5}
-        found = picture.placed([["a", "b"], ["c", "d"]], pulls, widths)
+        found = layout.placed([["a", "b"], ["c", "d"]], pulls, widths)
         self.assertTrue(found["b"] - found["a"] >= 3 and found["d"] - found["c"] >= 3)
-        least = min(picture.strain(dict(a=8, b=b, c=c, d=d), pulls)
+        least = min(layout.strain(dict(a=8, b=b, c=c, d=d), pulls)
                     for b in range(11, 17) for c in range(17) for d in range(c + 3, 20))
-        self.assertEqual(picture.strain(found, pulls), least)
+        self.assertEqual(layout.strain(found, pulls), least)
 
 
 class File(unittest.TestCase):

@@ -9,13 +9,12 @@ spline's radius is 1.4 mm, so that a particle touches those at a distance of 1 m
 tools/scene.py packs the scene, and tools/answers.py takes the wall positions.
 """
 import argparse
-import importlib.util
-import itertools
 import math
 import pathlib
 
-TOOLS = pathlib.Path(__file__).resolve().parent
-EXAMPLES = TOOLS.parent / "examples"
+from scene_json import written
+
+EXAMPLES = pathlib.Path(__file__).resolve().parent.parent / "examples"
 APART, RADIUS, REST = 0.001, 0.0014, 1000.0
 WIDE, DEEP, TALL = 5, 3, 4
 COMMENT = ("60 particles of ink on a floor, between a blade that moves in, a wall and two panes of glass: "
@@ -87,10 +86,7 @@ def positions():
 
 def main():
     argparse.ArgumentParser(description=__doc__, formatter_class=argparse.RawDescriptionHelpFormatter).parse_args()
-    spec = importlib.util.spec_from_file_location("scene", TOOLS / "scene.py")
-    scene = importlib.util.module_from_spec(spec)
-    spec.loader.exec_module(scene)
-    (EXAMPLES / "chamber.json").write_text(scene.written(chamber()) + "\n")
+    (EXAMPLES / "chamber.json").write_text(written(chamber()) + "\n")
     (EXAMPLES / "chamber.walls").write_text(positions())
 
 

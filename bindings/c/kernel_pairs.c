@@ -1,4 +1,5 @@
-/* For each line of standard input with a distance and a radius, 16 hex digits each: weight and slope, or the refusal. checks/compare.py holds it against the Rust:
+/* For each line of standard input with a distance and a radius, 16 hex digits each: weight and slope,
+   or the refusal. checks/compare.py holds it against the Rust:
      gcc -O2 -Wall -Wextra -Iinclude bindings/c/kernel_pairs.c target/staticlib/libiisph_c.a -o target/kernel_pairs
      checks/compare.py --kernel 10000 --subject target/kernel_pairs */
 #include "iisph.h"

@@ -1,4 +1,5 @@
-/* Each function once through the archive, on scene A of docs/FORMAT.md. Prints `ok`, or the line of the first difference.
+/* Each function once through the archive, on scene A of docs/FORMAT.md. Prints `ok`, or the line of
+   the first difference.
      gcc -O2 -Wall -Wextra -Iinclude bindings/c/smoke.c target/staticlib/libiisph_c.a -o target/smoke && target/smoke */
 #include "iisph.h"
 #include <math.h>

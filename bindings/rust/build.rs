@@ -1,4 +1,5 @@
-// Links libiisph_c.a, from the folder that IISPH_ARCHIVE_DIR names or from the repository's target/staticlib.
+// Links libiisph_c.a, from the folder that IISPH_ARCHIVE_DIR names or from the repository's
+// target/staticlib.
 use std::path::PathBuf;
 use std::{env, process};
 
@@ -12,7 +13,8 @@ fn main() {
     let archive = folder.join("libiisph_c.a");
     let Ok(archive) = archive.canonicalize() else {
         eprintln!("There is no {}.", archive.display());
-        eprintln!("Run `rt staticlib iisph_c` in the repository, or set IISPH_ARCHIVE_DIR to the folder that has the archive.");
+        eprintln!("Run `rt staticlib iisph_c` in the repository,");
+        eprintln!("or set IISPH_ARCHIVE_DIR to the folder that has the archive.");
         process::exit(1);
     };
     println!("cargo:rerun-if-changed={}", archive.display());

@@ -1,5 +1,7 @@
-//! One IISPH pressure step over a packed scene, and its smoothing kernel: a safe interface to `libiisph_c.a`, whose functions are proved to meet their contracts
-//! for all arguments. `include/iisph.h` has the format of a packed scene and of the lists; [`Scene::pack`] writes one. Document 01's scene A, from its numbers to its answers:
+//! One IISPH pressure step over a packed scene, and its smoothing kernel: a safe interface to
+//! `libiisph_c.a`, whose functions are proved to meet their contracts for all arguments.
+//! `include/iisph.h` has the format of a packed scene and of the lists; [`Scene::pack`] writes one.
+//! The specification's scene A, from its numbers to its answers:
 //!
 //! ```
 //! use iisph::{Contact, Fluid, FluidParticle, Scene};
@@ -26,7 +28,8 @@
 //! # Ok::<(), Box<dyn std::error::Error>>(())
 //! ```
 //!
-//! [`step`], [`Clock::step`] and [`validate`] take up to 1 MiB of stack: give a thread of your own at least 2 MiB, the standard library's default.
+//! [`step`], [`Clock::step`] and [`validate`] take up to 1 MiB of stack: give a thread of your own
+//! at least 2 MiB, the standard library's default.
 #![warn(missing_docs)]
 
 use std::error::Error;
@@ -140,7 +143,8 @@ impl Reason {
     }
 }
 
-/// A scene that is turned down, with the offset of the byte where the field, contact or record begins (0 for a short list).
+/// A scene that is turned down, with the offset of the byte where the field, contact or record
+/// begins (0 for a short list).
 #[derive(Clone, Copy, Debug, PartialEq, Eq, Hash)]
 pub struct Refusal {
     /// Why.
@@ -220,7 +224,8 @@ fn refusal(code: u64, offset: u64) -> Refusal {
     }
 }
 
-/// The lengths that the answer list and the work list of a step must have. Refuses what is wrong with the scene itself, numbers 1 to 7.
+/// The lengths that the answer list and the work list of a step must have. Refuses what is wrong
+/// with the scene itself, numbers 1 to 7.
 pub fn needed(scene: &[u8]) -> Result<Lengths, Refusal> {
     let mut counts = [0u64; 2];
     // SAFETY: pointers and lengths of slices; `counts` is lent to nobody else.
@@ -231,23 +236,30 @@ pub fn needed(scene: &[u8]) -> Result<Lengths, Refusal> {
     }
 }
 
-/// Whether a step with a long enough answer list would be refused, numbers 1 to 10. The work list is scratch: it is left as that step would leave it.
+/// Whether a step with a long enough answer list would be refused, numbers 1 to 10. The work list
+/// is scratch: it is left as that step would leave it.
 pub fn validate(scene: &[u8], work: &mut [f64]) -> Result<(), Refusal> {
     let mut counts = [0u64; 2];
-    // SAFETY: pointers and lengths of slices; those that are written are lent by `&mut`, so none overlaps another.
-    let code = unsafe { c::iisph_validate(scene.as_ptr(), scene.len(), work.as_mut_ptr(), work.len(), counts.as_mut_ptr(), counts.len()) };
+    // SAFETY: pointers and lengths of slices; those that are written are lent by `&mut`, so none
+    // overlaps another.
+    let code = unsafe {
+        c::iisph_validate(scene.as_ptr(), scene.len(), work.as_mut_ptr(), work.len(), counts.as_mut_ptr(), counts.len())
+    };
     match code {
         0 => Ok(()),
         _ => Err(refusal(code, counts[1])),
     }
 }
 
-/// A packed scene, one step on. The answer list gets, per fluid particle, position, velocity and pressure (7 doubles), then of each boundary particle the volume and, where forces are kept,
-/// the force; a refused call leaves it unchanged. The work list is scratch. Both lists keep what stands behind the lengths that [`needed`] tells.
+/// A packed scene, one step on. The answer list gets, per fluid particle, position, velocity and
+/// pressure (7 doubles), then of each boundary particle the volume and, where forces are kept,
+/// the force; a refused call leaves it unchanged. The work list is scratch. Both lists keep what
+/// stands behind the lengths that [`needed`] tells.
 pub fn step(scene: &[u8], answers: &mut [f64], work: &mut [f64]) -> Result<Report, Refusal> {
     let mut numbers = [0f64; 4];
     let mut counts = [0u64; 2];
-    // SAFETY: pointers and lengths of slices; those that are written are lent by `&mut`, so none overlaps another.
+    // SAFETY: pointers and lengths of slices; those that are written are lent by `&mut`, so none
+    // overlaps another.
     let code = unsafe {
         c::iisph_step(
             scene.as_ptr(),
@@ -291,13 +303,15 @@ pub struct Clock {
 }
 
 impl Clock {
-    /// As [`step`]; where that is done the clock is moved on in its place, and where it is refused the clock is as it was.
+    /// As [`step`]; where that is done the clock is moved on in its place, and where it is refused
+    /// the clock is as it was.
     /// The report's numbers are the scene's own, whatever the clock holds.
     pub fn step(&mut self, scene: &[u8], answers: &mut [f64], work: &mut [f64]) -> Result<Report, Refusal> {
         let mut clock = [self.total_step_size, self.dt, self.inv_dt, self.remaining_time];
         let mut numbers = [0f64; 4];
         let mut counts = [0u64; 2];
-        // SAFETY: pointers and lengths of slices; those that are written are lent by `&mut`, so none overlaps another.
+        // SAFETY: pointers and lengths of slices; those that are written are lent by `&mut`, so
+        // none overlaps another.
         let code = unsafe {
             c::iisph_step_keeping(
                 scene.as_ptr(),
@@ -319,7 +333,11 @@ impl Clock {
     }
 }
 
-fn kernel(function: unsafe extern "C" fn(f64, f64, *mut f64, usize) -> u64, r: f64, h: f64) -> Result<f64, KernelRefusal> {
+fn kernel(
+    function: unsafe extern "C" fn(f64, f64, *mut f64, usize) -> u64,
+    r: f64,
+    h: f64,
+) -> Result<f64, KernelRefusal> {
     let mut out = [0f64; 1];
     // SAFETY: the pointer and the length of an array that is lent to nobody else.
     match unsafe { function(r, h, out.as_mut_ptr(), out.len()) } {

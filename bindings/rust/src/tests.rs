@@ -1,4 +1,5 @@
-// Document 01's scenes and values, through the packer and the archive; and the packer against the repository's packed examples.
+// The specification's scenes and values, through the packer and the archive; and the packer against
+// the repository's packed examples.
 use super::*;
 
 fn empty(most: usize) -> Scene {
@@ -14,7 +15,10 @@ fn scene_a(fluid_contacts: Vec<Contact>) -> Scene {
         step_length: 0.5,
         remaining_time: 1.0,
         gravity: [0.0, 0.0, -4.0],
-        fluids: vec![Fluid { rest_density: 2.0, particles: vec![FluidParticle { volume: 0.5, fluid_contacts, ..Default::default() }] }],
+        fluids: vec![Fluid {
+            rest_density: 2.0,
+            particles: vec![FluidParticle { volume: 0.5, fluid_contacts, ..Default::default() }],
+        }],
         ..Default::default()
     }
 }
@@ -46,7 +50,10 @@ fn pressed() -> Scene {
         boundary_contacts: vec![contact(0, 0.0, [0.0, 0.0, 1.0])],
         ..Default::default()
     };
-    let stone = BoundaryParticle { contacts: vec![BoundaryContact { model: 0, particle: 0, weight: 4.0 }], ..Default::default() };
+    let stone = BoundaryParticle {
+        contacts: vec![BoundaryContact { model: 0, particle: 0, weight: 4.0 }],
+        ..Default::default()
+    };
     Scene {
         step_length: 0.5,
         fluids: vec![Fluid { rest_density: 1.0, particles: vec![particle] }],
@@ -176,15 +183,18 @@ fn misfit(scene: Scene) -> String {
 
 #[test]
 fn limits_are_packed_and_no_more() {
-    let models = |n| Scene { fluids: vec![Fluid::default(); n], boundaries: vec![Boundary::default(); n], ..Default::default() };
+    let models =
+        |n| Scene { fluids: vec![Fluid::default(); n], boundaries: vec![Boundary::default(); n], ..Default::default() };
     assert_eq!(packed(models(8))[..2], [0x18, 0x80]);
     assert_eq!(misfit(models(9)), "fluids.len() is 9, and may be at most 8");
     assert_eq!(misfit(Scene { fluids: Vec::new(), ..models(9) }), "boundaries.len() is 9, and may be at most 8");
     assert_eq!(misfit(empty(256)), "most_iterations is 256, and may be at most 255");
     assert_eq!(misfit(Scene { least_iterations: 256, ..empty(1) }), "least_iterations is 256, and may be at most 255");
 
-    let particles =
-        |n| Scene { fluids: vec![Fluid { particles: vec![FluidParticle::default(); n], ..Default::default() }], ..Default::default() };
+    let particles = |n| Scene {
+        fluids: vec![Fluid { particles: vec![FluidParticle::default(); n], ..Default::default() }],
+        ..Default::default()
+    };
     assert_eq!(packed(particles(4096))[52..54], [0x10, 0]);
     assert_eq!(misfit(particles(4097)), "fluids[0].particles.len() is 4097, and may be at most 4096");
     let stones = |n| Scene {
@@ -243,7 +253,10 @@ fn scene_a_answers() {
     let scene = packed(whole_scene_a());
     assert_eq!(needed(&scene), Ok(Lengths { answers: 7, work: 14 }));
     let (report, answers) = stepped(&scene).unwrap();
-    assert_eq!(report, Report { ending: Ending::Settled(0.0), iterations: 2, dt: 0.5, inv_dt: 2.0, remaining_time: 0.5 });
+    assert_eq!(
+        report,
+        Report { ending: Ending::Settled(0.0), iterations: 2, dt: 0.5, inv_dt: 2.0, remaining_time: 0.5 }
+    );
     assert_eq!(bits(&answers), [0, 0, 0xBFF0000000000000, 0, 0, 0xC000000000000000, 0]);
 }
 
@@ -358,7 +371,8 @@ fn refusals_say_what_and_where() {
     assert!(Reason::ALL.iter().enumerate().all(|(n, reason)| reason.number() as usize == n + 1));
 }
 
-// normaliser × shape, and (normaliser × shape) / h; with the radius 1 the shapes are those of METHOD 1
+// normaliser × shape, and (normaliser × shape) / h; with the radius 1 the shapes are those of
+// METHOD 1
 #[test]
 fn kernel_values() {
     let normalizer = 8.0 / std::f64::consts::PI;

@@ -20,8 +20,8 @@ use Rattle.iisph_rules.specs.declared.StepAnswer.{StepAnswer}
 use Rattle.iisph_rules.specs.declared.StepAnswer.the-variants.{Done, Refused}
 use Rattle.iisph_kept.specs.Kept.{clockAfter}
 use Rattle.iisph_codes.specs.Numbers.{tooShort}
-use Rattle.iisph_codes.specs.Listed.{clockNeeded, clockNumbers, clockOf}
 use Rattle.iisph_c.specs.Step.{stepCode, hasRoom, StepsTo}
+use Rattle.iisph_codes.specs.ClockList.{clockNeeded, clockNumbers, clockOf}
 use Rattle.iisph_c.specs.Keep.{clockListAfter, keepsRoom, KeepsTo}
 
 -- an ending's number is small

@@ -12,7 +12,7 @@ use Rattle.lists.specs.Lists.{choose}
 use Rattle.iisph_rules.specs.Answer.{stepAnswer}
 use Rattle.iisph_rules.specs.declared.StepAnswer.{StepAnswer}
 use Rattle.iisph_kept.specs.Kept.{clockAfter}
-use Rattle.iisph_codes.specs.Listed.{clockNeeded, clockNumbers, clockOf}
+use Rattle.iisph_codes.specs.ClockList.{clockNeeded, clockNumbers, clockOf}
 use Rattle.iisph_c.specs.Step.{hasRoom, StepsTo}
 
 -- the clock that the list begins with is as a step leaves a clock that is lent

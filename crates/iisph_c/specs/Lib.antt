@@ -1,4 +1,4 @@
 pub mod Step
-pub mod Keep
 pub mod Needs
 pub mod Validate
+pub mod Keep

@@ -1,4 +1,4 @@
 pub mod Numbers
 pub mod Report
 pub mod Kernel
-pub mod Listed
+pub mod ClockList

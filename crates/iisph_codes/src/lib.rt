@@ -15,7 +15,7 @@ ghost use lib.ListN.{length, set};
 ghost use lib.Seq.{sets};
 ghost use Rattle.iisph_rules.specs.Endings.{endingNumber};
 ghost use Rattle.timestep_manager.specs.Clock.{advanced};
-ghost use Rattle.iisph_codes.specs.Listed.{clockNeeded, clockNumbers, clockOf};
+ghost use Rattle.iisph_codes.specs.ClockList.{clockNeeded, clockNumbers, clockOf};
 ghost use Rattle.iisph_codes.specs.Numbers.{countsNeeded, refusedCode, refusedCounts};
 ghost use Rattle.iisph_codes.specs.Report.{numbersNeeded, reportNumbers};
 ghost use Rattle.iisph_codes.specs.Kernel.{refusalCode, Gives};

@@ -1,9 +1,9 @@
--- `iisph_codes::advance_listed` meets its contract: four loads and four stores, in the order of the definition. Assumes
--- nothing.
+-- `iisph_codes::advance_listed` meets its contract: four loads and four stores, in the order of the definition.
+-- Assumes nothing.
 use mathlib.Core.Path.{refl}
 use native.Mathlib.Omega.{arith}
 use lib.ListN.{length-set}
-use Rattle.iisph_codes.specs.Listed.{clockNumbers, clockOf}
+use Rattle.iisph_codes.specs.ClockList.{clockNumbers, clockOf}
 use borrow.Author.Needs.{needs}
 use Rattle.iisph_codes.proofs.advance_listed.Statement.{statement}
 use Rattle.iisph_codes.proofs.advance_listed.Tie as tie

@@ -1,0 +1,67 @@
+"""compare.py --kernel: distances and radii, and METHOD 1's weight and slope of each."""
+import collections
+import math
+import struct
+
+from parts.drawing import Draw, shapes
+from parts.sides import ran
+from reference import Stop
+
+NAN = "7FF8000000000000"
+
+
+def bits(x): return NAN if math.isnan(x) else struct.pack(">d", x).hex().upper()
+
+
+def pairs(seed, n):
+    d = Draw(seed)
+    for _ in range(n):
+        edge = d.of((0.0, 1e-5, 0.5, 1.0)) * d.of((1.0, 1.0 - 2.0**-53, 1.0 + 2.0**-52))
+        odd = d.of((abs(d.extreme()), d.extreme(), abs(d.subnormal()), d.zero()))
+        h = d.weighted(((8, abs(d.random()) or 1.0), (6, abs(d.nice()) or 1.0), (1, odd)))
+        q = d.weighted(((6, 1.25 * d.unit()), (3, edge), (1, 1e-4 * d.unit())))
+        r = d.weighted(((20, q * abs(h)), (1, abs(d.extreme())), (1, d.random()),
+                        (1, d.of((math.inf, math.nan, -0.0, -1.0)))))
+        yield r, d.of((math.inf, math.nan, -h)) if d.one_in(40) else h
+
+
+def divided(a, b):
+    if b != 0.0:
+        return a / b
+    return math.nan if a == 0.0 or math.isnan(a) else math.copysign(math.inf, a) * math.copysign(1.0, b)
+
+
+def kernel_line(r, h):
+    if not (math.isfinite(r) and r >= 0.0):
+        return "refused 11"
+    if not (math.isfinite(h) and h > 0.0):
+        return "refused 12"
+    normaliser, (weight, slope) = divided(8.0, ((math.pi * h) * h) * h), shapes(r / h)
+    return "%s %s" % (bits(normaliser * weight), bits((normaliser * slope) / h))
+
+
+def kernel_kind(answer):
+    """What the summary counts of one answer."""
+    if answer.startswith("refused"):
+        return answer
+    return "not-a-number" if NAN in answer else "slope 0" if answer[17:].strip("08") == "" else "slope not 0"
+
+
+def kernel_run(options):
+    cases = list(pairs(options.seed, options.kernel))
+    lines = "".join("%s %s\n" % (bits(r), bits(h)) for r, h in cases)
+    rust = ran([str(options.oracle), "kernel"], None, lines.encode()).splitlines()
+    if options.command:
+        ours = ran(options.command, None, lines.encode()).splitlines()
+    else:
+        ours = [kernel_line(r, h) for r, h in cases]
+    for (r, h), a, b in zip(cases, rust, ours):
+        if a != b:
+            print("distance %s radius %s\nthe Rust:    %s\nthe subject: %s" % (bits(r), bits(h), a, b))
+            return 1
+    if len(rust) != len(cases) or len(ours) != len(cases):
+        raise Stop("%d pairs, but %d and %d answers" % (len(cases), len(rust), len(ours)))
+    count = collections.Counter(map(kernel_kind, rust))
+    print(", ".join("%s %d" % pair for pair in sorted(count.items())))
+    print("%d pairs, seed %d: no difference" % (len(cases), options.seed))
+    return 0

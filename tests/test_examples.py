@@ -1,0 +1,50 @@
+"""The scenes of examples/: packed, answered, and the chamber as its tool writes it."""
+import json
+import math
+import os
+import pathlib
+import subprocess
+import sys
+import unittest
+
+ROOT = pathlib.Path(__file__).resolve().parent.parent
+sys.path[:0] = [str(ROOT / "tools"), str(ROOT / "checks")]
+import cases_step   # noqa: E402
+import chamber      # noqa: E402
+import scene        # noqa: E402
+
+EXAMPLES = ROOT / "examples"
+NAMES = sorted(path.stem for path in EXAMPLES.glob("*.json"))
+
+
+class Examples(unittest.TestCase):
+    def test_each_is_packed_and_answered(self):
+        self.assertEqual(NAMES, ["chamber", "scene-a", "scene-b", "torn-droplet", "torn-droplet-faint"])
+        for name in NAMES:
+            data, text = (EXAMPLES / (name + ".bin")).read_bytes(), (EXAMPLES / (name + ".txt")).read_text()
+            self.assertEqual(scene.pack((EXAMPLES / (name + ".json")).read_text()), (data, []))
+            self.assertEqual(cases_step.lines(data), text)
+            if "IISPH" in os.environ:      # the built program: IISPH=target/bin/iisph python3 -m unittest
+                done = subprocess.run([os.environ["IISPH"]], input=data, capture_output=True)
+                self.assertEqual(done.stdout.decode(), text)
+
+    def test_the_chamber_is_what_its_tool_writes(self):
+        self.assertEqual(json.loads((EXAMPLES / "chamber.json").read_text()), json.loads(json.dumps(chamber.chamber())))
+        self.assertEqual((EXAMPLES / "chamber.walls").read_text(), chamber.positions())
+
+    def test_its_spline_is_the_specifications(self):
+        for r, shape, fall in ((0.0, 1.0, 0.0), (0.5, 0.25, -1.5), (0.75, 0.03125, -0.375), (1.0, 0.0, 0.0),
+                               (1.5, 0.0, 0.0)):
+            self.assertEqual((chamber.weight(r, 1.0), chamber.slope(r, 1.0)),
+                             (8.0 / math.pi * shape, 8.0 / math.pi * fall))
+
+    def test_the_faint_droplet_hides_a_coefficient(self):
+        read = cases_step.walk((EXAMPLES / "torn-droplet-faint.bin").read_bytes())
+        cases_step.step(read)
+        drop = read.all[2][1]
+        self.assertTrue(drop.rho > 0.0 and math.isnan(drop.aii) and drop.pressure == 0.0
+                        and all(map(math.isfinite, [*drop.position, *drop.velocity])))
+
+
+if __name__ == "__main__":
+    unittest.main()

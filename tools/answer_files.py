@@ -1,0 +1,92 @@
+"""An answer as a table, as CSV and as VTK files."""
+import math
+
+from answer_text import ENDINGS
+from commands import counted
+
+UNHELD = ("not held against a scene, so it would not be noticed if the last lines of a fluid or wall were missing; "
+          "add --scene SCENE.bin")
+
+
+# ---- table and CSV
+
+def decimal(x): return "%.6g" % x
+
+
+def ended(answer):
+    ending = ENDINGS[answer.ending]
+    return "".join([ending % counted(answer.iterations, "iteration") if "%" in ending else ending,
+                    *[", error " + decimal(x) for x in answer.error]])
+
+
+def table(answer):
+    lines = [ended(answer), "dt %s, 1 / dt %s, remaining time %s" % tuple(map(decimal, answer.clock))]
+    rows = [[str(p.model), str(p.number), *map(decimal, [*p.position, *p.velocity, p.pressure])] for p in answer.fluid]
+    lines += columns("fluid particle x y z vx vy vz pressure".split(), rows)
+    rows = [[str(w.model), str(w.number), *map(decimal, [w.volume, *(w.force or [])])] + ["not kept"] * (not w.force)
+            for w in answer.wall]
+    lines += columns("wall particle volume fx fy fz".split(), rows)
+    rows = [[str(m), *[decimal(sum(w.force[k] for w in answer.wall if w.force and w.model == m)) for k in range(3)]]
+            for m in sorted({w.model for w in answer.wall if w.force})]
+    lines += columns("wall fx-in-all fy-in-all fz-in-all".split(), rows)
+    there = " and ".join(counted(len(particles), "%s particle" % kind)
+                         for kind, particles in (("fluid", answer.fluid), ("wall", answer.wall)))
+    return "\n".join([*lines, "", "held against the scene: all its particles are there, " + there if answer.held
+                      else UNHELD]) + "\n"
+
+
+def columns(heads, rows):
+    if not rows:
+        return []
+    wide = [max(len(row[k]) for row in [heads, *rows] if k < len(row)) for k in range(len(heads))]
+    return [""] + ["  ".join(cell.rjust(w) for cell, w in zip(row, wide)) for row in [heads, *rows]]
+
+
+def csv(answer):
+    lines = ["kind,model,particle,x,y,z,vx,vy,vz,pressure,volume,fx,fy,fz"]
+    lines += [",".join(["fluid", str(p.model), str(p.number), *map(repr, [*p.position, *p.velocity, p.pressure])])
+              + ",,,," for p in answer.fluid]
+    for w in answer.wall:
+        cells = ["wall", str(w.model), str(w.number), *(map(repr, w.position) if w.position else ["", "", ""]), "", "",
+                 "", "", repr(w.volume)]
+        lines.append(",".join(cells + (list(map(repr, w.force)) if w.force else ["", "", ""])))
+    return "\n".join(lines) + "\n"
+
+
+# ---- VTK
+
+def vtk(title, particles, scalars, vectors):
+    """Legacy VTK of points; what is not finite, or not kept, is written as 0 and marked, since
+    readers stumble over it."""
+    n = len(particles)
+    safe = lambda xs: " ".join(repr(x) if math.isfinite(x) else "0.0" for x in xs)
+    lines = ["# vtk DataFile Version 3.0", title, "ASCII", "DATASET POLYDATA", "POINTS %d double" % n,
+             *[safe(p.position) for p in particles],
+             "VERTICES %d %d" % (n, 2 * n), *["1 %d" % k for k in range(n)], "POINT_DATA %d" % n]
+    for name, kind, of in [*scalars, ("model", "int", lambda p: p.model), ("particle", "int", lambda p: p.number),
+                           ("finite", "int", finite)]:
+        lines += ["SCALARS %s %s 1" % (name, kind), "LOOKUP_TABLE default",
+                  *[str(int(of(p))) if kind == "int" else safe([of(p)]) for p in particles]]
+    for name, of in vectors:
+        lines += ["VECTORS %s double" % name, *[safe(of(p)) for p in particles]]
+    return "\n".join(lines) + "\n"
+
+
+def finite(p):
+    """Whether every number of a particle is."""
+    return all(math.isfinite(x) for part in vars(p).values() if part is not None
+               for x in (part if isinstance(part, list) else [part]))
+
+
+def held(answer): return ", held against the scene" if answer.held else ", not held against a scene"
+
+
+def fluid_vtk(answer):
+    return vtk("fluid particles after a pressure step" + held(answer), answer.fluid,
+               [("pressure", "double", lambda p: p.pressure)], [("velocity", lambda p: p.velocity)])
+
+
+def wall_vtk(answer):
+    scalars = [("volume", "double", lambda w: w.volume), ("keeps_forces", "int", lambda w: w.force is not None)]
+    return vtk("wall particles after a pressure step" + held(answer), answer.wall, scalars,
+               [("force", lambda w: w.force or [0.0, 0.0, 0.0])])

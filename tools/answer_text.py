@@ -1,0 +1,161 @@
+"""An answer, read from the program's text (docs/FORMAT.md, 4), held to its scene, and with the
+positions of its walls."""
+import math
+import re
+import struct
+from types import SimpleNamespace as Record
+
+from commands import Wrong, counted
+from scene_json import tree
+from scene_walk import Walk, told
+
+REFUSALS = {1: "a field is not wholly there", 2: "another version than 1, or a bit set where zeros belong",
+            3: "more than 8 fluids or walls", 4: "a count above 4,096", 5: "bytes follow the last record",
+            6: "a double that is not finite", 7: "a contact that names nobody",
+            8: "the answer or work list is too short", 9: "a density is zero", 10: "a predicted density is zero"}
+AGAIN = "give the whole output of tools/run, as in: tools/run examples/chamber.bin > chamber.txt"
+ENDINGS = {"unswept": "done without iterations", "settled": "settled after %s", "ranout": "ran out after %s"}
+
+
+def double(word):
+    if not re.fullmatch("[0-9A-F]{16}", word):
+        raise ValueError
+    return struct.unpack(">d", bytes.fromhex(word))[0]
+
+
+def whole(word, most):
+    if not re.fullmatch("0|[1-9][0-9]{0,4}", word) or int(word) > most:
+        raise ValueError
+    return int(word)
+
+
+def line_into(answer, k, words):
+    """Adds line k to the answer; a ValueError if it is none of the program's, a Wrong if it can't
+    stand there."""
+    kind, rest = words[0], words[1:]
+    if (kind == "step") != (k == 1) or (kind == "clock") != (k == 2):
+        raise Wrong("line %d should be `%s ..`; %s" % (k, ["step", "clock"][k - 1], AGAIN) if k < 3 else
+                    "line %d is a second `%s ..`: here another answer begins; give one at a time, and %s"
+                    % (k, kind, AGAIN))
+    if kind == "step" and rest[0] in ENDINGS and len(rest) == (2 if rest[0] == "unswept" else 3):
+        answer.ending, answer.iterations, answer.error = rest[0], whole(rest[1], 255), [double(x) for x in rest[2:]]
+        if (answer.ending == "unswept") != (answer.iterations == 0):
+            raise ValueError
+    elif kind == "clock" and len(rest) == 3:
+        answer.clock = [double(x) for x in rest]
+    elif kind == "fluid" and len(rest) == 9 or kind == "wall" and len(rest) in (3, 6):
+        xs, p = [double(x) for x in rest[2:]], Record(model=whole(rest[0], 7), number=whole(rest[1], 4095))
+        if kind == "fluid":
+            p.position, p.velocity, p.pressure = xs[:3], xs[3:6], xs[6]
+        else:
+            p.position, p.volume, p.force = None, xs[0], xs[1:] or None
+        in_order(answer, k, kind, p)
+        getattr(answer, kind).append(p)
+    else:
+        raise ValueError
+
+
+def in_order(answer, k, kind, p):
+    """Takes a particle that can follow those before it. A model may be passed over: one without
+    particles has no lines."""
+    before = getattr(answer, kind)
+    last = before[-1] if before else Record(model=-1, number=-1)
+    if kind == "fluid" and answer.wall:
+        raise Wrong("line %d is of a fluid, but stands behind lines of walls; %s" % (k, AGAIN))
+    if p.model < last.model or p.number != (last.number + 1 if p.model == last.model else 0):
+        raise Wrong("line %d, of %s %d, particle %d, does not follow the line before it: lines are missing, twice "
+                    "there or of another answer; %s"
+                    % (k, kind, p.model, p.number, AGAIN))
+    if kind == "wall" and p.model == last.model and (p.force is None) != (last.force is None):
+        raise Wrong("line %d: wall %d has forces in some lines and none in others; %s" % (k, p.model, AGAIN))
+
+
+def no_answer(line, name):
+    """What to do about a line that stands alone instead of an answer."""
+    refused = re.fullmatch("refused ([1-9]|10) (0|[1-9][0-9]*)", line)
+    if refused and refused[1] == "8":
+        raise Wrong("the step refused the lists that it was lent, so there are no answers: %s (refusal 8)\n"
+                    "lend an answer list of 7 doubles for each fluid particle, and "
+                    "for each wall particle 1, or 4 where forces are kept; and a work list of 14 for each fluid "
+                    "particle and 1 for each wall particle "
+                    "(iisph_needed gives both lengths)" % REFUSALS[8])
+    if refused:
+        raise Wrong("the step refused this scene, so there are no answers: %s (refusal %s)\n"
+                    "see what stands there with: tools/scene.py at %s %s"
+                    % (REFUSALS[int(refused[1])], *refused.groups(), name or "SCENE.bin"))
+    if line == "too long":
+        raise Wrong("the program takes scenes of at most 32,768 bytes, and this one is longer; leave particles or "
+                    "contacts out, or call the library")
+
+
+def parse(text, name=None):
+    """The answer that the text holds; `name` is its scene's, for messages."""
+    *lines, rest = text.replace("\r\n", "\n").split("\n")
+    if rest:
+        raise Wrong("the last line has no end, so the text was cut off there; " + AGAIN)
+    if len(lines) == 1:
+        no_answer(lines[0], name)
+    answer = Record(ending=None, clock=None, fluid=[], wall=[], held=False)
+    for k, line in enumerate(lines, 1):
+        try:
+            line_into(answer, k, line.split(" "))
+        except (ValueError, IndexError):
+            raise Wrong("line %d is none that the program writes: %.60s\n%s" % (k, line, AGAIN)) from None
+    if answer.ending is None or answer.clock is None:
+        raise Wrong("the lines `step ..` and `clock ..` are not there; " + AGAIN)
+    return answer
+
+
+def hold(answer, data, name):
+    """Holds an answer to the packed scene that it should be of."""
+    walk, other = Walk(data), "; is it the answer of this scene, and whole? " + AGAIN
+    for line in told(walk.faults[:1]):
+        raise Wrong("%s is no scene that has an answer, since a step refuses it: %s" % (name, line))
+    for kind, models in (("fluid", answer.fluid), ("wall", answer.wall)):
+        found = {(kind, p.model): p.number + 1 for p in models}      # numbers run on from 0
+        for model in sorted({*found, *(m for m in walk.counts if m[0] == kind)}):
+            if found.get(model, 0) != walk.counts.get(model, 0):
+                raise Wrong("the answer has %s of %s %d, but %s has %d%s"
+                            % (counted(found.get(model, 0), "particle"), *model, name, walk.counts.get(model, 0),
+                               other))
+    keeps = [w["keeps_forces"] for w in tree(walk).get("walls", [])]
+    for w in answer.wall:
+        if keeps[w.model] != (w.force is not None):
+            raise Wrong("wall %d keeps %s forces in %s, but its lines %s%s"
+                        % (w.model, *(("its", name, "have none") if keeps[w.model] else ("no", name, "have some")),
+                           other))
+    least, most, dt, remaining = struct.unpack_from(">2xBBdd", data)
+    if struct.pack(">3d", *answer.clock) != struct.pack(">3d", dt, 1.0 / dt if dt else 0.0, remaining - dt):
+        raise Wrong("the answer's clock is not the one of %s%s" % (name, other))
+    if not {"unswept": most == 0 == answer.iterations, "settled": least < answer.iterations <= most,
+            "ranout": answer.iterations == most > 0}[answer.ending]:
+        raise Wrong("the answer ended after %s, which %s does not allow%s"
+                    % (counted(answer.iterations, "iteration"), name, other))
+    answer.held = True
+
+
+def place_walls(answer, text, name):
+    """Gives each wall particle the position that the text has for it."""
+    found = {}
+    for k, line in enumerate(text.splitlines(), 1):
+        words = line.split("#")[0].split()
+        try:
+            if words:
+                (model, number), xyz = (whole(word, 4095) for word in words[:2]), [float(x) for x in words[2:]]
+                if len(xyz) != 3 or not all(map(math.isfinite, xyz)):
+                    raise ValueError
+                if (model, number) in found:
+                    raise Wrong("%s, line %d: wall %d, particle %d stands there twice; keep one of the lines"
+                                % (name, k, model, number))
+                found[model, number] = xyz
+        except ValueError:
+            raise Wrong("%s, line %d: give a wall's and a particle's number and three decimals, as in: 0 3 0.5 0 -1"
+                        % (name, k)) from None
+    for w in answer.wall:
+        if (w.model, w.number) not in found:
+            raise Wrong("%s has no position for wall %d, particle %d; add a line: %d %d X Y Z"
+                        % (name, w.model, w.number, w.model, w.number))
+        w.position = found.pop((w.model, w.number))
+    if found:
+        raise Wrong("%s has a line for wall %d, particle %d, but the answer has no such particle; is it the file of "
+                    "this scene?" % (name, *min(found)))

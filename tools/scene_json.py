@@ -1,0 +1,156 @@
+"""Scenes as JSON: from a packed scene to JSON's objects and text, and from JSON to bytes.
+tools/scene.py has the form of the JSON in its head."""
+import itertools
+import json
+import re
+import struct
+
+from commands import Wrong
+from scene_walk import CONTACT, CONTACTS, FLUID_PARTICLE, HEADER, MODELS, NAMED, PARTICLES, WALL_PARTICLE
+from scene_walk import Walk, key_of, told
+
+LONGEST = 32768      # of what the program reads
+LEFT_OUT = {"warm_pressure": 0, "least_iterations": 1, "most_iterations": 50, "keeps_forces": False}
+
+
+# ---- from a packed scene
+
+def tree(walk):
+    """The scene as JSON's objects."""
+    scene = {}
+    for field in walk.fields:
+        node = scene
+        for word, k in field.owner:
+            models = node.setdefault(key_of(word), [])
+            models.extend({} for _ in range(k + 1 - len(models)))
+            node = models[k]
+        for key, value in field.parts.items():
+            node[key] = node.get(key, []) + [value] if field.axis else value
+    return scene
+
+
+def written(value, indent=0, width=150):
+    """JSON, with everything that fits on one line on one line."""
+    line = json.dumps(value)
+    if indent + len(line) <= width or not isinstance(value, (dict, list)):
+        return line
+    between = ",\n" + " " * (indent + 1)
+    if isinstance(value, dict):
+        return "{" + between.join(json.dumps(key) + ": " + written(part, indent + 1, width)
+                                  for key, part in value.items()) + "}"
+    return "[" + between.join(written(part, indent + 1, width) for part in value) + "]"
+
+
+# ---- to a packed scene
+
+def no_constant(name):
+    raise Wrong("%s is no JSON; write a double that is not finite as its 16 hex digits, in quotes" % name)
+
+
+def unique(pairs):
+    if len(dict(pairs)) < len(pairs):
+        raise Wrong("a name stands twice in the object with %s; keep one of them" % ", ".join(key for key, _ in pairs))
+    return dict(pairs)
+
+
+def members(path, value, keys):
+    """Takes an object with no names but these."""
+    if not isinstance(value, dict):
+        raise Wrong("%s: give an object with %s" % (path or "the scene", ", ".join(keys)))
+    for key in value:
+        if key not in keys:
+            raise Wrong("%s: %r is no name here; the names are %s" % (path or "the scene", key, ", ".join(keys)))
+
+
+def member(path, value, key, size=1):
+    """A member's path and value; the value that stands for it where it is left out."""
+    path = path + "." + key if path else key
+    if key not in value and size != 3 and key not in LEFT_OUT:
+        raise Wrong("%s is missing; give it a number" % path)
+    return path, value.get(key, LEFT_OUT.get(key, [0, 0, 0]))
+
+
+def items(path, value, key, most):
+    path, found = path + "." + key if path else key, value.get(key, [])
+    if not isinstance(found, list) or len(found) > most:
+        raise Wrong("%s: give a list of at most %d" % (path, most)
+                    + (", not of %d" % len(found) if isinstance(found, list) else ""))
+    return [("%s[%d]" % (path, k), item) for k, item in enumerate(found)]
+
+
+def whole(path, n, most):
+    if isinstance(n, bool) or not isinstance(n, int) or not 0 <= n <= most:
+        raise Wrong("%s: give a whole number from 0 to %d, not %.40s" % (path, most, json.dumps(n)))
+    return n
+
+
+def double(path, x):
+    if isinstance(x, str) and re.fullmatch("[0-9A-Fa-f]{16}", x):
+        return bytes.fromhex(x)
+    if isinstance(x, bool) or not isinstance(x, (int, float)):
+        raise Wrong('%s: give a decimal such as 0.5, or 16 hex digits in quotes such as "3FE0000000000000", not %.40s'
+                    % (path, json.dumps(x)))
+    if not abs(x) < 2**1024 - 2**970:      # from here on the nearest double would be infinity
+        raise Wrong("%s: the number is too large for a double; give one below 1.79e308" % path)
+    return struct.pack(">d", x)
+
+
+def doubles(path, value, form):
+    packed = b""
+    for key, size in form:
+        here, x = member(path, value, key, size)
+        if size == 3 and not (isinstance(x, list) and len(x) == 3):
+            raise Wrong("%s: give three numbers, as in [0, 0, -9.81]" % here)
+        packed += b"".join(double("%s[%d]" % (here, k), y) for k, y in enumerate(x)) if size == 3 else double(here, x)
+    return packed
+
+
+def contact(path, value, model, form):
+    members(path, value, [model, "particle"] + [key for key, _ in form])
+    name = whole(*member(path, value, model), 15) << 12 | whole(*member(path, value, "particle"), NAMED)
+    return struct.pack(">H", name) + doubles(path, value, form)
+
+
+def particle(path, value, form, words):
+    members(path, value, [key for key, _ in form] + [key_of(word) for word in words])
+    lists = [[contact(*item, *CONTACT[word]) for item in items(path, value, key_of(word), CONTACTS)] for word in words]
+    return doubles(path, value, form) + bytes(map(len, lists)) + b"".join(itertools.chain(*lists))
+
+
+def fluid(path, value):
+    members(path, value, ["rest_density", "particles"])
+    records = [particle(*item, *FLUID_PARTICLE) for item in items(path, value, "particles", PARTICLES)]
+    return struct.pack(">H", len(records)) + doubles(path, value, [("rest_density", 1)]) + b"".join(records)
+
+
+def wall(path, value):
+    members(path, value, ["keeps_forces", "particles"])
+    here, keeps = member(path, value, "keeps_forces")
+    if not isinstance(keeps, bool):
+        raise Wrong("%s: give true or false" % here)
+    found = items(path, value, "particles", PARTICLES)
+    for item, p in found:
+        if isinstance(p, dict) and "force" in p and not keeps:
+            raise Wrong("%s: a force has no place in a wall that keeps none; take it out, or set %s to true"
+                        % (item, here))
+    records = b"".join(particle(*item, *WALL_PARTICLE[keeps]) for item in found)
+    return struct.pack(">H", keeps << 15 | len(found)) + records
+
+
+def pack(text):
+    """The packed scene of a JSON text, and notes on what the program will say to it."""
+    try:
+        scene = json.loads(text, parse_constant=no_constant, object_pairs_hook=unique)
+    except (ValueError, RecursionError) as e:
+        raise Wrong("this is no JSON: %s; mend it there, or start from examples/scene-a.json" % e) from None
+    members("", scene, ["comment", "least_iterations", "most_iterations", *[key for key, _ in HEADER], "fluids",
+                        "walls"])
+    fluids, walls = items("", scene, "fluids", MODELS), items("", scene, "walls", MODELS)
+    data = bytes([16 + len(fluids), 16 * len(walls)]
+                 + [whole(*member("", scene, key), 255) for key in ("least_iterations", "most_iterations")])
+    data += doubles("", scene, HEADER) + b"".join([fluid(*f) for f in fluids] + [wall(*w) for w in walls])
+    notes = ["it is packed, but a step refuses it: " + line for line in told(Walk(data).faults[:1])]
+    if len(data) > LONGEST:
+        notes.append("it has %d bytes, and the program takes %d; leave out particles or contacts, or call the library"
+                     % (len(data), LONGEST))
+    return data, notes

@@ -1,0 +1,137 @@
+"""A packed scene, field by field, and what a step refuses in it. docs/FORMAT.md, 1 and 2."""
+import math
+import struct
+from types import SimpleNamespace as Record
+
+from commands import counted
+
+MODELS, PARTICLES, NAMED, CONTACTS = 8, 4096, 4095, 255
+HEADER = [("step_length", 1), ("remaining_time", 1), ("error_limit", 1), ("gravity", 3)]
+FLUID_PARTICLE = ([("position", 3), ("velocity", 3), ("acceleration", 3), ("volume", 1), ("warm_pressure", 1)],
+                  ["fluid contact", "wall contact"])
+# Without and with forces.
+WALL_PARTICLE = ([("velocity", 3)], ["contact"]), ([("velocity", 3), ("force", 3)], ["contact"])
+# A contact's word, what it names, its doubles.
+CONTACT = {"fluid contact": ("fluid", [("weight", 1), ("gradient", 3)]),
+           "wall contact": ("wall", [("weight", 1), ("gradient", 3)]), "contact": ("wall", [("weight", 1)])}
+
+
+def key_of(word): return word.replace(" ", "_") + "s"
+def span(at, size): return "byte %d" % at if size == 1 else "bytes %d to %d" % (at, at + size - 1)
+def titled(owner): return ", ".join("%s %d" % part for part in owner) or "header"
+
+
+class Walk:
+    """Goes through a packed scene as far as it can, also where a step would have refused it.
+
+    `fields`: those met, the last one perhaps cut; a field's `owner` is a list of words and numbers,
+    its `parts` what it adds to the owner's JSON. `faults`: what a step refuses, as number, offset
+    and text: the first of them is its answer, unless that is 8, 9 or 10. `end`: where the last
+    field ends.
+    """
+
+    def __init__(self, data):
+        self.data, self.end, self.fields, self.faults, self.contacts, self.counts = data, 0, [], [], [], {}
+        try:
+            self.scene()
+            self.behind()
+        except EOFError:      # the scene ends within the last field
+            pass
+
+    def fault(self, number, at, text): self.faults.append((number, at, text))
+
+    def number(self, owner, name, size):
+        field = Record(at=self.end, size=size, owner=owner, name=name, raw=self.data[self.end:self.end + size],
+                       axis=False, parts={}, text="cut short")
+        self.fields.append(field)
+        if len(field.raw) < size:
+            self.fault(1, field.at,
+                       "%s, %s needs %s, but the scene ends after %s; get the whole file again, or mend the counts "
+                       "before this place"
+                       % (titled(owner), name, span(field.at, size), counted(len(self.data), "byte")))
+            raise EOFError
+        self.end += size
+        return field, int.from_bytes(field.raw, "big")
+
+    def whole(self, owner, name, size, text, parts=lambda n: {}):
+        field, n = self.number(owner, name, size)
+        field.text, field.parts = text(n), parts(n)
+        return n
+
+    def doubles(self, owner, form):
+        for key, size in form:
+            for axis in ["", " x", " y", " z"][size // 2:][:size]:
+                field, _ = self.number(owner, key.replace("_", " ") + axis, 8)
+                x, digits = struct.unpack(">d", field.raw)[0], field.raw.hex().upper()
+                field.axis, field.parts, field.text = size == 3, {key: x}, repr(x)
+                if not math.isfinite(x):
+                    kind = "not a number" if math.isnan(x) else "infinite"
+                    field.parts, field.text = {key: digits}, "%s (%s)" % (digits, kind)
+                    self.fault(6, field.at, "%s, %s is %s; put a finite number there"
+                               % (titled(owner), field.name, field.text))
+
+    def scene(self):
+        first = self.whole((), "version and fluids", 1, lambda n: "version %d, %s" % (n >> 4, counted(n & 15, "fluid")))
+        if first >> 4 != 1:
+            self.fault(2, 0, "the version is %d, not 1; is this a packed scene? tools/scene.py pack makes one from JSON"
+                       % (first >> 4))
+        if first & 15 > MODELS:
+            self.fault(3, 0, "%d fluids; leave out some, at most %d may be there" % (first & 15, MODELS))
+        second = self.whole((), "walls", 1, lambda n: counted(n >> 4, "wall"))
+        if second >> 4 > MODELS:
+            self.fault(3, 1, "%d walls; leave out some, at most %d may be there" % (second >> 4, MODELS))
+        if second & 15:
+            self.fault(2, 1, "the last four bits of byte 1 are %d, not 0; put %02X hex there"
+                       % (second & 15, second & 0xF0))
+        for key in "least_iterations", "most_iterations":
+            self.whole((), key.replace("_", " "), 1, lambda n: "%s %d" % (key.replace("_", " "), n), lambda n: {key: n})
+        self.doubles((), HEADER)
+        for owner in [(("fluid", m),) for m in range(first & 15)]:
+            count = self.count(owner, 0xFFFF)
+            self.doubles(owner, [("rest_density", 1)])
+            self.particles(owner, count, *FLUID_PARTICLE)
+        for owner in [(("wall", m),) for m in range(second >> 4)]:
+            count = self.count(owner, 0x7FFF, lambda n: {"keeps_forces": n > 0x7FFF})
+            self.particles(owner, count & 0x7FFF, *WALL_PARTICLE[count >> 15])
+
+    def count(self, owner, mask, parts=lambda n: {}):
+        def text(n): return counted(n & mask, "particle") + (", keeps forces" if n & ~mask else "")
+        both = self.whole(owner, "count", 2, text, parts)
+        if both & mask > PARTICLES:
+            self.fault(4, self.end - 2, "%s has a count of %d; correct it, at most %d may be there"
+                       % (titled(owner), both & mask, PARTICLES))
+        self.counts[owner[0]] = both & mask
+        return both
+
+    def particles(self, model, count, form, words):
+        for owner in (model + (("particle", k),) for k in range(count)):
+            self.doubles(owner, form)
+            for word, n in [(word, self.whole(owner, "number of %ss" % word, 1, lambda n: counted(n, word)))
+                            for word in words]:
+                for k in range(n):
+                    self.contact(owner + ((word, k),), *CONTACT[word])
+
+    def contact(self, owner, model, form):
+        name = self.whole(owner, "the particle it names", 2,
+                          lambda n: "names %s %d, particle %d" % (model, n >> 12, n & 0xFFF),
+                          lambda n: {model: n >> 12, "particle": n & 0xFFF})
+        self.contacts.append((self.fields[-1], (model, name >> 12), name & 0xFFF))
+        self.doubles(owner, form)
+
+    def behind(self):
+        """What is tested after the last field."""
+        if self.end < len(self.data):
+            self.fault(5, self.end,
+                       "what stands from offset %d on (%s) follows the last record; cut it off, or mend the counts "
+                       "before it"
+                       % (self.end, counted(len(self.data) - self.end, "byte")))
+        for field, model, k in self.contacts:
+            if k >= self.counts.get(model, 0):
+                there = "there is no %s" % titled([model])
+                if model in self.counts:
+                    there = "%s has %s" % (titled([model]), counted(self.counts[model], "particle"))
+                self.fault(7, field.at, "%s %s, but %s (numbers start at 0); name one that is there"
+                           % (titled(field.owner), field.text, there))
+
+
+def told(faults): return ["refusal %d at %d: %s" % fault for fault in faults]
