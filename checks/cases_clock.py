@@ -1,12 +1,13 @@
 #!/usr/bin/env python3
 """The scenes of crates/cases_clock and the lines that it must write.
 
-  checks/cases_clock.py          says whether the crate's files are what is worked out here (status 1 if not)
+  checks/cases_clock.py          says whether the crate's files are what is worked out here
+                                 (status 1 if not)
   checks/cases_clock.py --write  writes them
 
-The program keeps a clock over steps on the scenes below, in this order, with lists for two fluid particles, and writes
-the clock after each. Whether a step is done is what cases_step.py works out from the specification; the clock is moved
-on here, in floats, by METHOD 2.
+The program keeps a clock over steps on the scenes below, in this order, with lists for two fluid
+particles, and writes the clock after each. Whether a step is done is what cases_step.py works out
+from the specification; the clock is moved on here, in floats, by METHOD 2.
 """
 import argparse
 import pathlib
