@@ -1,0 +1,233 @@
+"""The whole step, read from the specification alone, for cases_step.py and cases_clock.py, and by
+reference.py for all that edit its text: checks a packed scene, runs the step and gives the
+program's lines.
+
+Python's floats are IEEE 754 doubles and each operation stands in METHOD's order; `div` adds the
+division by zero that Python refuses. wrong_rules.py, wrong_reads.py and branches.py quote this
+text, and it needs no other file of checks/.
+"""
+import math
+import struct
+from functools import reduce
+from types import SimpleNamespace as Record
+
+LONGEST = 32768
+ZERO = (0.0, 0.0, 0.0)
+
+
+# ---- doubles and vectors; a sum starts at +0 and goes in order (Python's own `sum` need not)
+
+def div(a, b):
+    if b != 0.0:
+        return a / b
+    return math.nan if a == 0.0 or math.isnan(a) else math.copysign(math.inf, a) * math.copysign(1.0, b)
+
+
+def bits(x): return "7FF8000000000000" if math.isnan(x) else struct.pack(">d", x).hex().upper()
+def add(a, b): return tuple(x + y for x, y in zip(a, b))
+def sub(a, b): return tuple(x - y for x, y in zip(a, b))
+def scale(a, s): return tuple(x * s for x in a)
+def dot(a, b): return (a[0] * b[0] + a[1] * b[1]) + a[2] * b[2]
+def total(terms): return reduce(lambda x, y: x + y, terms, 0.0)
+def vector_total(terms): return reduce(add, terms, ZERO)
+
+
+# ---- the check of a packed scene: refusals 1 to 7
+
+class Refused(Exception):
+    """Its arguments are a refusal's number and place."""
+
+
+class Reader:
+    """Goes through the fields in order. Each is first there (1), then tested by its own rule."""
+
+    def __init__(self, data):
+        self.data, self.at = data, 0
+
+    def number(self, size):
+        here, self.at = self.at, self.at + size
+        if self.at > len(self.data):
+            raise Refused(1, here)
+        return int.from_bytes(self.data[here:self.at], "big")
+
+    def must(self, holds, number, size):
+        """Refuses the field of this size that was read last."""
+        if not holds:
+            raise Refused(number, self.at - size)
+
+    def double(self):
+        x = struct.unpack(">d", self.number(8).to_bytes(8, "big"))[0]
+        self.must(math.isfinite(x), 6, 8)
+        return x
+
+    def vector(self):
+        return self.double(), self.double(), self.double()
+
+    def count(self, mask):
+        """The count within the mask, and whether a bit beside it is set."""
+        both = self.number(2)
+        self.must(both & mask <= 4096, 4, 2)
+        return both & mask, both & ~mask != 0
+
+    def contact(self, gradient):
+        place, name = self.at, self.number(2)
+        return Record(place=place, model=name >> 12, number=name & 0xFFF, weight=self.double(),
+                      gradient=self.vector() if gradient else None)
+
+    def fluid_particle(self):
+        p = Record(place=self.at, position=self.vector(), velocity=self.vector(), acceleration=self.vector(),
+                   volume=self.double(), warm=self.double())
+        near, walls = self.number(1), self.number(1)
+        p.near, p.walls = [self.contact(True) for _ in range(near)], [self.contact(True) for _ in range(walls)]
+        return p
+
+    def wall_particle(self, keeps):
+        return Record(velocity=self.vector(), force=self.vector() if keeps else None,
+                      walls=[self.contact(False) for _ in range(self.number(1))])
+
+
+def walk(data):
+    """The scene of a packed one, with each contact's `named` the particle that it names."""
+    r = Reader(data)
+    first = r.number(1)
+    r.must(first >> 4 == 1, 2, 1)
+    r.must(first & 15 <= 8, 3, 1)
+    second = r.number(1)
+    r.must(second >> 4 <= 8, 3, 1)
+    r.must(second & 15 == 0, 2, 1)
+    s = Record(least=r.number(1), most=r.number(1), dt=r.double(), remaining=r.double(), limit=r.double(),
+               gravity=r.vector(), fluids=[], walls=[])
+    for _ in range(first & 15):
+        n, _ = r.count(0xFFFF)
+        s.fluids.append(Record(rest=r.double(), particles=[r.fluid_particle() for _ in range(n)]))
+    for _ in range(second >> 4):
+        n, keeps = r.count(0x7FFF)
+        s.walls.append(Record(keeps=keeps, particles=[r.wall_particle(keeps) for _ in range(n)]))
+    if r.at < len(data):
+        raise Refused(5, r.at)
+    s.all = [(f, p) for f in s.fluids for p in f.particles]
+    s.stones = [w for wall in s.walls for w in wall.particles]
+    names = [(c, s.fluids) for _, p in s.all for c in p.near]
+    names += [(c, s.walls) for p in [p for _, p in s.all] + s.stones for c in p.walls]
+    for c, models in sorted(names, key=lambda name: name[0].place):
+        if c.model >= len(models) or c.number >= len(models[c.model].particles):
+            raise Refused(7, c.place)
+        c.named = models[c.model].particles[c.number]
+    return s
+
+
+# ---- the step: refusals 8 to 10, modules 4 to 7
+
+def prepare(s):
+    """Modules 4 and 5. A particle's `links` are its fluid contacts, then its wall contacts; a
+    contact's `mass` is m_j."""
+    dt = s.dt
+    for w in s.stones:
+        weights = total(c.weight for c in w.walls)
+        w.volume = 0.0 if weights == 0.0 else 1.0 / weights
+        w.v = w.velocity
+    for fluid, p in s.all:
+        p.mass = p.volume * fluid.rest
+        p.change = add(ZERO, scale(add(p.acceleration, s.gravity), dt))
+        p.v = add(p.velocity, p.change)
+    for fluid, p in s.all:
+        for c in p.near:
+            c.mass = c.named.mass
+        for c in p.walls:
+            c.mass = c.named.volume * fluid.rest
+        p.links = p.near + p.walls
+        p.rho = total(c.mass * c.weight for c in p.links)
+    for _, p in s.all:
+        if p.rho == 0.0:
+            raise Refused(9, p.place)
+    for _, p in s.all:
+        p.predicted = p.rho + total(c.mass * dot(sub(p.v, c.named.v), c.gradient) for c in p.links) * dt
+        if p.predicted == 0.0:
+            raise Refused(10, p.place)
+    for _, p in s.all:
+        f, p.e = div((-dt) * dt, p.rho * p.rho), div((dt * dt) * p.mass, p.rho * p.rho)
+        p.dii = vector_total(scale(c.gradient, c.mass * f) for c in p.links)
+        p.aii = total(c.mass * dot(sub(p.dii, scale(c.gradient, p.e)), c.gradient) for c in p.links)
+        p.pressure = 0.5 * p.warm
+
+
+def relaxed(rest, p):
+    """A particle's next pressure and error term."""
+    if not abs(p.aii) > 1e-9:
+        return 0.0, 0.0
+    factors = [sub(sub(p.dij, scale(c.named.dii, c.named.pressure)),
+                   sub(c.named.dij, scale(scale(c.gradient, p.e), p.pressure))) for c in p.near]
+    found = total(c.mass * dot(factor, c.gradient) for c, factor in zip(p.links, factors + [p.dij] * len(p.walls)))
+    pressure = 0.5 * p.pressure + div(0.5 * ((rest - p.predicted) - found), p.aii)
+    return (pressure, div((-found) - p.aii * pressure, rest)) if pressure > 0.0 else (0.0, 0.0)
+
+
+def iteration(s):
+    """Module 6, one iteration: moves all pressures on, and gives the error."""
+    for _, p in s.all:
+        p.dij = scale(vector_total(scale(c.gradient, div((-c.mass) * c.named.pressure, c.named.rho * c.named.rho))
+                                   for c in p.near), s.dt * s.dt)
+    for fluid, p in s.all:
+        p.next, p.term = relaxed(fluid.rest, p)
+    for _, p in s.all:
+        p.pressure = p.next
+    error = 0.0
+    for average in [total(p.term for p in f.particles) / len(f.particles) for f in s.fluids if f.particles]:
+        if average > error:      # false for one that is not a number
+            error = average
+    return error
+
+
+def finish(s):
+    """Module 7, after the last iteration."""
+    for _, p in s.all:
+        for c in p.near:
+            both = div(p.pressure, p.rho * p.rho) + div(c.named.pressure, c.named.rho * c.named.rho)
+            p.change = sub(p.change, scale(c.gradient, (s.dt * c.mass) * both))
+        for c in p.walls:
+            a = scale(c.gradient, div(c.mass * p.pressure, p.rho * p.rho))
+            p.change = sub(p.change, scale(a, s.dt))
+            if c.named.force is not None:
+                c.named.force = add(c.named.force, scale(a, p.mass))
+        p.velocity = add(p.velocity, p.change)
+        p.position = add(p.position, scale(p.velocity, s.dt))
+
+
+def step(s, answers=math.inf, work=math.inf):
+    """Runs the step, with lists of these lengths lent, and gives line 1 from its second word on."""
+    of_walls = sum(1 if w.force is None else 4 for w in s.stones)
+    if answers < 7 * len(s.all) + of_walls or work < 14 * len(s.all) + len(s.stones):
+        raise Refused(8, 0)
+    prepare(s)
+    s.inv_dt = 0.0 if s.dt == 0.0 else 1.0 / s.dt
+    s.remaining = s.remaining - s.dt
+    ending = "unswept 0"
+    for i in range(s.most):
+        error = iteration(s)
+        settled = error <= s.limit and i >= s.least
+        ending = "%s %d %s" % ("settled" if settled else "ranout", i + 1, bits(error))
+        if settled:
+            break
+    finish(s)
+    return ending
+
+
+# ---- the lines
+
+def row(head, *numbers): return " ".join([head, *map(bits, numbers)]) + "\n"
+
+
+def lines(data, **lent):
+    """The program's text for a packed scene, with these lists lent."""
+    if len(data) > LONGEST:
+        return "too long\n"
+    try:
+        s = walk(data)
+        text = ["step %s\n" % step(s, **lent), row("clock", s.dt, s.inv_dt, s.remaining)]
+    except Refused as e:
+        return "refused %d %d\n" % e.args
+    text += [row("fluid %d %d" % (m, k), *p.position, *p.velocity, p.pressure)
+             for m, f in enumerate(s.fluids) for k, p in enumerate(f.particles)]
+    text += [row("wall %d %d" % (m, k), w.volume, *(w.force or ()))
+             for m, wall in enumerate(s.walls) for k, w in enumerate(wall.particles)]
+    return "".join(text)
