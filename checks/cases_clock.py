@@ -6,15 +6,15 @@
   checks/cases_clock.py --write  writes them
 
 The program keeps a clock over steps on the scenes below, in this order, with lists for two fluid
-particles, and writes the clock after each. Whether a step is done is what cases_step.py works out
-from the specification; the clock is moved on here, in floats, by METHOD 2.
+particles, and writes the clock after each. Whether a step is done is what parts/step_rules.py works
+out from the specification; the clock is moved on here, in floats, by METHOD 2.
 """
 import argparse
 import pathlib
 import struct
 import sys
 
-import cases_step as step
+from parts import step_rules, step_scenes as made
 
 CRATE = pathlib.Path(__file__).resolve().parent.parent / "crates" / "cases_clock"
 LISTS = {"answers": 14, "work": 28}
@@ -22,23 +22,23 @@ LISTS = {"answers": 14, "work": 28}
 CLOCKS = (0.1, 7.0, 7.0, 0.3), (-0.0, 7.0, 7.0, 1.0), (5e-324, 7.0, 7.0, -1.0)
 # cut: refused 1; idle, no contacts: 9; crowd, three particles: 8; the others are done, with step lengths of their own
 SCENES = {
-    "cut": step.EMPTY[:51],
-    "a": step.scene_a(),
-    "b": step.scene([step.pair()]),
-    "idle": step.scene_a([]),
-    "crowd": step.scene([step.pair(), step.one([step.to(1, 0)])]),
-    "empty": step.EMPTY,
+    "cut": made.EMPTY[:51],
+    "a": made.scene_a(),
+    "b": made.scene([made.pair()]),
+    "idle": made.scene_a([]),
+    "crowd": made.scene([made.pair(), made.one([made.to(1, 0)])]),
+    "empty": made.EMPTY,
 }
 ORDER = "cut", "a", "b", "idle", "crowd", "empty", "cut"
 
 
 def advanced(clock):
     length, _, _, remaining = clock
-    return length, length, 0.0 if length == 0.0 else step.div(1.0, length), remaining - length
+    return length, length, 0.0 if length == 0.0 else step_rules.div(1.0, length), remaining - length
 
 
 def is_done(scene):
-    return step.lines(scene, **LISTS).startswith("step ")
+    return step_rules.lines(scene, **LISTS).startswith("step ")
 
 
 def line(name, clock):
@@ -56,8 +56,8 @@ def lines():
 
 
 def files():
-    made = {CRATE / "data" / name: scene for name, scene in SCENES.items()}
-    return {**made, CRATE / "stdout": lines().encode()}
+    scenes = {CRATE / "data" / name: scene for name, scene in SCENES.items()}
+    return {**scenes, CRATE / "stdout": lines().encode()}
 
 
 def main():

@@ -13,7 +13,7 @@ output.
                     `too long` to the oracle
   --subject COMMAND the program to compare; it is run in a folder with the file `scenes` and prints
                     the lines of all its scenes (target/bin/cases_step)
-  --reference       compare checks/cases_step.py instead
+  --reference       compare checks/parts/step_rules.py instead
   --stdin           run the command once for each scene, which it reads from standard input, as the
                     program iisph does
   --bytes N         at most so many bytes in one file `scenes` (300,000)
@@ -35,11 +35,12 @@ import shlex
 import sys
 import time
 
+from cases_step import cases
 from made_scenes import CLASSES, LARGE, made
 from parts.kernel_pairs import NAN, kernel_run
 from parts.sides import Failed, Sides, files_full
 from parts.smaller import shrunk
-from reference import Stop, load, text
+from reference import Stop
 
 ROOT = pathlib.Path(__file__).resolve().parent.parent
 
@@ -49,7 +50,7 @@ ROOT = pathlib.Path(__file__).resolve().parent.parent
 def stream(options):
     """Class and scene, in the order of the classes."""
     if not options.only:
-        for case in load(text())["cases"]():
+        for case in cases():
             yield "cases_step", case[1]
     names = [options.only] if options.only else list(CLASSES)
     for k, name in enumerate(names):

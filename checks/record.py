@@ -10,8 +10,8 @@ The scenes come from checks/made_scenes.py and checks/cases_step.py, small ones 
 from the oracle. Scenes are taken, short ones first, until each branch of the rules and each refusal
 (BRANCHES, in parts/branches.py) has been met some times, each class has its share, and each wrong
 version of checks/wrong_versions.py is noticed by several. Which branches a scene meets is seen by
-notes put into checks/cases_step.py's text. Status 2 if a file is missing, the use is wrong, or a
-branch or a wrong version is met by no scene.
+notes put into checks/parts/step_rules.py's text. Status 2 if a file is missing, the use is wrong,
+or a branch or a wrong version is met by no scene.
 """
 import argparse
 import collections
@@ -20,6 +20,7 @@ import pathlib
 import sys
 import tempfile
 
+from cases_step import cases
 from made_scenes import CLASSES, made
 from parts.branches import BRANCHES, Branches
 from parts.sides import Failed, ran
@@ -39,10 +40,10 @@ def asked(oracle, scenes):
     return found
 
 
-def pool(source, oracle):
+def pool(oracle):
     """Class, scene and the Rust's answer; short scenes of all classes, each once, without those
     that runs skip."""
-    found = [("cases_step", case[1]) for case in load(source)["cases"]()]
+    found = [("cases_step", case[1]) for case in cases()]
     found = [(name, data) for name, data in found if len(data) <= LONGEST_SCENE[name]]
     for name in CLASSES:
         found += itertools.islice(((name, data) for data in made(SEED, name) if len(data) <= LONGEST_SCENE[name]), POOL)
@@ -104,7 +105,7 @@ def told(met, share):
 
 def write(oracle):
     source = text()
-    candidates = pool(source, oracle)
+    candidates = pool(oracle)
     print("%d candidates" % len(candidates), flush=True)
     sample = [candidates[k] for k in chosen(candidates, source)]
     scenes, lines = batch(data for _, data, _ in sample), "".join(answer for _, _, answer in sample)

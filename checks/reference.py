@@ -1,5 +1,5 @@
 #!/usr/bin/env python3
-"""The step of checks/cases_step.py, loaded without running its commands; and a subject for
+"""The step of checks/parts/step_rules.py, loaded from its text or an edit of it; and a subject for
 compare.py.
 
   checks/reference.py [--any-length]    prints the lines of all cases of the file `scenes` in the
@@ -10,7 +10,7 @@ import pathlib
 import struct
 import sys
 
-SOURCE = pathlib.Path(__file__).resolve().parent / "cases_step.py"
+SOURCE = pathlib.Path(__file__).resolve().parent / "parts/step_rules.py"
 
 
 class Stop(Exception):
@@ -18,7 +18,7 @@ class Stop(Exception):
 
 
 def text():
-    """The source of checks/cases_step.py."""
+    """The source of checks/parts/step_rules.py."""
     try:
         return SOURCE.read_text(encoding="utf-8")
     except OSError as e:
@@ -27,7 +27,7 @@ def text():
 
 def load(source):
     """The names that this source defines."""
-    names = {"__name__": "cases_step", "__file__": str(SOURCE)}
+    names = {"__name__": "step_rules", "__file__": str(SOURCE)}
     exec(compile(source, str(SOURCE), "exec"), names)
     return names
 

@@ -5,9 +5,9 @@
                                     holds it against crates/cases_replay/stdout
   checks/wrong_versions.py --list   only prints the edits
 
-Each is an edit of checks/cases_step.py by text that is there exactly once. NOTICED must each be
-noticed; the edits of SAME change no output, each for the reason that stands with it, and so can't
-be. Ends with 1 if one of NOTICED is not noticed, or one of SAME is.
+Each is an edit of checks/parts/step_rules.py by text that is there exactly once. NOTICED must each
+be noticed; the edits of SAME change no output, each for the reason that stands with it, and so
+can't be. Ends with 1 if one of NOTICED is not noticed, or one of SAME is.
 """
 import pathlib
 import sys
@@ -55,7 +55,7 @@ SAME = [
 
 def edited(source, old, new):
     if source.count(old) != 1:
-        raise Stop("this text should be in checks/cases_step.py once, but is there %d times:\n%s"
+        raise Stop("this text should be in checks/parts/step_rules.py once, but is there %d times:\n%s"
                    % (source.count(old), old))
     return source.replace(old, new)
 
@@ -86,8 +86,8 @@ def check():
     right = load(source)["lines"]
     wrong = [k for k, data in enumerate(scenes) if right(data) != given[k]]
     if wrong:
-        raise Stop("checks/cases_step.py itself differs from the recorded answers on %d scenes, first on number %d"
-                   % (len(wrong), wrong[0]))
+        raise Stop("checks/parts/step_rules.py itself differs from the recorded answers on %d scenes, first on "
+                   "number %d" % (len(wrong), wrong[0]))
     missed = 0
     for must, versions in (True, NOTICED), (False, [edit[:3] for edit in SAME]):
         print("to be noticed:" if must else "the same in all outputs, so not to be noticed:")

@@ -14,13 +14,13 @@ import xml.etree.ElementTree as ElementTree
 
 ROOT = pathlib.Path(__file__).resolve().parent.parent
 sys.path[:0] = [str(ROOT / "tools"), str(ROOT / "checks")]
-import answer_files     # noqa: E402
-import answer_picture   # noqa: E402
-import answers          # noqa: E402
-import cases_step       # noqa: E402
-import commands         # noqa: E402
-import reference        # noqa: E402
-import scene            # noqa: E402
+import answer_files                         # noqa: E402
+import answer_picture                       # noqa: E402
+import answers                              # noqa: E402
+import commands                             # noqa: E402
+import reference                            # noqa: E402
+import scene                                # noqa: E402
+from parts import step_rules, step_scenes   # noqa: E402
 
 EXAMPLES = ROOT / "examples"
 TEXTS = reference.texts((ROOT / "crates/cases_step/stdout").read_text())
@@ -60,7 +60,7 @@ class Reading(unittest.TestCase):
             lines = iter(text.splitlines()[2:])
             for row in answers.csv(answers.parse(text)).splitlines()[1:]:
                 cells = [cell for cell in row.split(",") if cell]
-                self.assertEqual(next(lines), " ".join(cells[:3] + [cases_step.bits(float(x)) for x in cells[3:]]))
+                self.assertEqual(next(lines), " ".join(cells[:3] + [step_rules.bits(float(x)) for x in cells[3:]]))
             self.assertIsNone(next(lines, None))
 
     def test_no_answer_stops_it(self):
@@ -124,8 +124,8 @@ class Reading(unittest.TestCase):
                      "the answer has 8 particles of wall 1, but its scene has 12; ", CHAMBER_SCENE)
 
     def test_another_scene_is_noticed(self):
-        rich = cases_step.rich()      # fluid 0 and wall 1 are empty, wall 0 keeps forces
-        text, head, kept = cases_step.lines(rich), struct.pack(">d", 0.25), scene.tree(scene.Walk(rich))
+        rich = step_scenes.rich()      # fluid 0 and wall 1 are empty, wall 0 keeps forces
+        text, head, kept = step_rules.lines(rich), struct.pack(">d", 0.25), scene.tree(scene.Walk(rich))
         lines = text.splitlines(keepends=True)
         answers.hold(answers.parse(text), rich, "its scene")
         self.refused("".join(lines[:4] + lines[5:]), "the answer has 0 particles of wall 0, but its scene has 1; ",

@@ -9,9 +9,9 @@ import unittest
 
 ROOT = pathlib.Path(__file__).resolve().parent.parent
 sys.path[:0] = [str(ROOT / "tools"), str(ROOT / "checks")]
-import cases_step   # noqa: E402
-import chamber      # noqa: E402
-import scene        # noqa: E402
+import chamber                 # noqa: E402
+import scene                   # noqa: E402
+from parts import step_rules   # noqa: E402
 
 EXAMPLES = ROOT / "examples"
 NAMES = sorted(path.stem for path in EXAMPLES.glob("*.json"))
@@ -23,7 +23,7 @@ class Examples(unittest.TestCase):
         for name in NAMES:
             data, text = (EXAMPLES / (name + ".bin")).read_bytes(), (EXAMPLES / (name + ".txt")).read_text()
             self.assertEqual(scene.pack((EXAMPLES / (name + ".json")).read_text()), (data, []))
-            self.assertEqual(cases_step.lines(data), text)
+            self.assertEqual(step_rules.lines(data), text)
             if "IISPH" in os.environ:      # the built program: IISPH=target/bin/iisph python3 -m unittest
                 done = subprocess.run([os.environ["IISPH"]], input=data, capture_output=True)
                 self.assertEqual(done.stdout.decode(), text)
@@ -39,8 +39,8 @@ class Examples(unittest.TestCase):
                              (8.0 / math.pi * shape, 8.0 / math.pi * fall))
 
     def test_the_faint_droplet_hides_a_coefficient(self):
-        read = cases_step.walk((EXAMPLES / "torn-droplet-faint.bin").read_bytes())
-        cases_step.step(read)
+        read = step_rules.walk((EXAMPLES / "torn-droplet-faint.bin").read_bytes())
+        step_rules.step(read)
         drop = read.all[2][1]
         self.assertTrue(drop.rho > 0.0 and math.isnan(drop.aii) and drop.pressure == 0.0
                         and all(map(math.isfinite, [*drop.position, *drop.velocity])))

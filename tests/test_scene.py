@@ -1,5 +1,5 @@
 """tools/scene.py against the scenes of cases_step and cases_check, and against the reading of the
-specification in checks/cases_step.py."""
+specification in checks/parts/step_rules.py."""
 import contextlib
 import functools
 import io
@@ -13,8 +13,8 @@ import unittest
 
 ROOT = pathlib.Path(__file__).resolve().parent.parent
 sys.path[:0] = [str(ROOT / "tools"), str(ROOT / "checks")]
-import cases_step   # noqa: E402
-import scene        # noqa: E402
+import scene                                # noqa: E402
+from parts import step_rules, step_scenes   # noqa: E402
 
 
 @functools.cache
@@ -39,10 +39,10 @@ def blocks():
 
 @functools.cache
 def refusal(data):
-    """Number and place, by checks/cases_step.py."""
+    """Number and place, by checks/parts/step_rules.py."""
     try:
-        cases_step.walk(data)
-    except cases_step.Refused as e:
+        step_rules.walk(data)
+    except step_rules.Refused as e:
         return e.args
     return None
 
@@ -105,14 +105,14 @@ class Packed(unittest.TestCase):
 
 class Places(unittest.TestCase):
     def test_the_example_of_the_head(self):
-        lost = cases_step.scene_a([cases_step.to(0, 1, 2.0)])
+        lost = step_scenes.scene_a([step_scenes.to(0, 1, 2.0)])
         said = "\n".join(scene.at(lost, 152)[0])
         self.assertIn("fluid 0, particle 0, fluid contact 0: ", said)
         self.assertIn("refusal 7 at 152: ", said)
         self.assertIn("fluid 0 has 1 particle", said)
 
     def test_every_field_has_its_name(self):
-        rich = cases_step.rich()
+        rich = step_scenes.rich()
         for at, name in ((0, "header: version and fluids"), (1, "header: walls"), (2, "header: least iterations"),
                          (3, "header: most iterations"),
                          (4, "header: step length"), (51, "header: gravity z"), (52, "fluid 0: count"),
@@ -137,7 +137,7 @@ class Places(unittest.TestCase):
                                     for said in scene.at(data, place)[0]), (line, scene.at(data, place)))
 
     def test_damage_never_stops_it(self):
-        draw, rich = random.Random(1), cases_step.rich()
+        draw, rich = random.Random(1), step_scenes.rich()
         for _ in range(300):
             data = bytearray(rich[:draw.randrange(len(rich) + 1)] + bytes(draw.randrange(3)))
             for _ in range(draw.randrange(6)):
@@ -181,7 +181,7 @@ class Mistakes(unittest.TestCase):
             self.assertIn(piece, str(raised.exception))
 
     def test_what_a_step_will_refuse_is_noted(self):
-        lost = scene.tree(scene.Walk(cases_step.scene_a([cases_step.to(0, 1, 2.0)])))
+        lost = scene.tree(scene.Walk(step_scenes.scene_a([step_scenes.to(0, 1, 2.0)])))
         self.assertIn("refusal 7 at 152", scene.pack(json.dumps(lost))[1][0])
         wide = {"step_length": 1, "remaining_time": 0, "error_limit": 0, "walls": [{"particles": [{}] * 1400}]}
         self.assertIn("the program takes 32768", scene.pack(json.dumps(wide))[1][0])
@@ -219,7 +219,7 @@ class Mistakes(unittest.TestCase):
             _, notes, whole = scene.at(data, offset)
             self.assertEqual((len(notes), notes[0].startswith("a step refuses this scene, " + said), whole),
                              (1, True, False))
-        for data, offset in ((sound, 400), (cases_step.scene_a([cases_step.to(0, 1, 2.0)]), 152)):
+        for data, offset in ((sound, 400), (step_scenes.scene_a([step_scenes.to(0, 1, 2.0)]), 152)):
             self.assertEqual(scene.at(data, offset)[1:], ([], False))
         found, text, said = command("at", 4, "-", given=sound[:-1])
         self.assertEqual((found, text[:20], said[:27]), (1, b"header: step length ", "a step refuses this scene, "))

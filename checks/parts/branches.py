@@ -1,5 +1,5 @@
 """Which branches of the rules and which refusals a scene meets, for record.py: seen by notes put
-into checks/cases_step.py's text."""
+into checks/parts/step_rules.py's text."""
 import math
 
 from reference import load

@@ -1,16 +1,17 @@
 """Wrong versions of the step's rules, for wrong_versions.py: a name, a text that is in
-checks/cases_step.py exactly once, and what stands there instead."""
+checks/parts/step_rules.py exactly once, and what stands there instead."""
 
 SUM = "def total(terms): return reduce(lambda x, y: x + y, terms, 0.0)"
 DOT = "return (a[0] * b[0] + a[1] * b[1]) + a[2] * b[2]"
-FACTOR = ("sub(sub(p.dij, scale(c.named.dii, c.named.pressure)), "
+FACTOR = ("sub(sub(p.dij, scale(c.named.dii, c.named.pressure)),\n" + " " * 19 +
           "sub(c.named.dij, scale(scale(c.gradient, p.e), p.pressure)))")
 NEXT = "0.5 * p.pressure + div(0.5 * ((rest - p.predicted) - found), p.aii)"
 TERM = "div((-found) - p.aii * pressure, rest)"
 DELTA = "total(c.mass * dot(sub(p.v, c.named.v), c.gradient) for c in p.links) * dt"
 AII = "total(c.mass * dot(sub(p.dii, scale(c.gradient, p.e)), c.gradient) for c in p.links)"
 BOTH = "div(p.pressure, p.rho * p.rho) + div(c.named.pressure, c.named.rho * c.named.rho)"
-DIJ = "scale(c.gradient, div((-c.mass) * c.named.pressure, c.named.rho * c.named.rho)) for c in p.near), s.dt * s.dt)"
+NEAR = "\n" + " " * 35 + "for c in p.near)"
+DIJ = "scale(c.gradient, div((-c.mass) * c.named.pressure, c.named.rho * c.named.rho))" + NEAR + ", s.dt * s.dt)"
 
 RULES = [
     # sums and the dot product
@@ -117,10 +118,10 @@ RULES = [
     ("dij times dt once", DIJ, DIJ.replace("s.dt * s.dt)", "s.dt)")),
     ("dij times dt and again times dt", "p.dij = scale(vector_total(" + DIJ, "p.dij = scale(scale(vector_total("
      + DIJ.replace("s.dt * s.dt)", "s.dt), s.dt)")),
-    ("dij by the own density", "c.named.rho * c.named.rho)) for c in p.near)", "p.rho * p.rho)) for c in p.near)"),
+    ("dij by the own density", "c.named.rho * c.named.rho))" + NEAR, "p.rho * p.rho))" + NEAR),
     ("dij by the own pressure", "div((-c.mass) * c.named.pressure, c.named.rho",
      "div((-c.mass) * p.pressure, c.named.rho"),
-    ("dij also of walls", "c.named.rho * c.named.rho)) for c in p.near), s.dt * s.dt)",
+    ("dij also of walls", "c.named.rho * c.named.rho))" + NEAR + ", s.dt * s.dt)",
      "c.named.rho * c.named.rho)) for c in p.near) if not p.walls else "
      "vector_total(scale(c.gradient, div((-c.mass) * getattr(c.named, 'pressure', p.pressure), getattr(c.named, 'rho', "
      "p.rho) * getattr(c.named, 'rho', p.rho))) "
