@@ -83,8 +83,8 @@ def rich(near=(1, 0), walls=(2, 0), own=(0, 0), weight=1.0):
     """Fluids at 52 (empty) and 62, with records at 72 (contacts 162, 196, 230) and 264 (354); walls
     at 388 (record 390, contacts 439, 449), 459 (empty) and 461 (record 463, contact 488); 498
     bytes."""
-    near = [to(*near, weight, X), to(1, 1, 0.5, Z)]
-    first = particle(near, [to(*walls, 0.25, X)], velocity=(0.5, 0.25, -0.0), warm=1.0)
+    first = particle([to(*near, weight, X), to(1, 1, 0.5, Z)], [to(*walls, 0.25, X)], velocity=(0.5, 0.25, -0.0),
+                     warm=1.0)
     kept = wall(stone(beside(*own, 2.0), beside(0, 0, 2.0), velocity=X, force=(1.0, 2.0, 4.0)), keeps=1)
     fluids = fluid(7.0), fluid(2.0, first, particle([to(1, 0, 1.0, Z)], position=X, volume=0.5))
     return scene(fluids, [kept, wall(), wall(stone(beside(2, 0, 0.5), velocity=ZEROS))], most=2)
