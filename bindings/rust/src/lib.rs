@@ -32,134 +32,14 @@
 //! at least 2 MiB, the standard library's default.
 #![warn(missing_docs)]
 
-use std::error::Error;
-use std::fmt;
-
+mod c;
 mod pack;
+mod refusals;
+
+use refusals::refusal;
 
 pub use pack::{Boundary, BoundaryContact, BoundaryParticle, Contact, Fluid, FluidParticle, Misfit, Scene};
-
-mod c {
-    extern "C" {
-        #[allow(clippy::too_many_arguments)]
-        pub fn iisph_step(
-            scene: *const u8,
-            scene_len: usize,
-            answers: *mut f64,
-            answers_len: usize,
-            work: *mut f64,
-            work_len: usize,
-            numbers: *mut f64,
-            numbers_len: usize,
-            counts: *mut u64,
-            counts_len: usize,
-        ) -> u64;
-        #[allow(clippy::too_many_arguments)]
-        pub fn iisph_step_keeping(
-            scene: *const u8,
-            scene_len: usize,
-            clock: *mut f64,
-            clock_len: usize,
-            answers: *mut f64,
-            answers_len: usize,
-            work: *mut f64,
-            work_len: usize,
-            numbers: *mut f64,
-            numbers_len: usize,
-            counts: *mut u64,
-            counts_len: usize,
-        ) -> u64;
-        pub fn iisph_needed(scene: *const u8, scene_len: usize, counts: *mut u64, counts_len: usize) -> u64;
-        pub fn iisph_validate(
-            scene: *const u8,
-            scene_len: usize,
-            work: *mut f64,
-            work_len: usize,
-            counts: *mut u64,
-            counts_len: usize,
-        ) -> u64;
-        pub fn iisph_weight(r: f64, h: f64, out: *mut f64, out_len: usize) -> u64;
-        pub fn iisph_slope(r: f64, h: f64, out: *mut f64, out_len: usize) -> u64;
-    }
-}
-
-/// Why a packed scene is turned down. The variants stand in the order of their numbers, 1 to 10.
-#[derive(Clone, Copy, Debug, PartialEq, Eq, Hash)]
-pub enum Reason {
-    /// A field is not wholly there.
-    Missing = 1,
-    /// Another version than 1, or a bit set where zeros belong.
-    Form,
-    /// More than 8 fluids or boundaries.
-    Models,
-    /// A count above 4,096.
-    Count,
-    /// Bytes follow the last record.
-    Trailing,
-    /// A double that is not finite.
-    NotFinite,
-    /// A contact names a model or a particle that is not there.
-    NotThere,
-    /// The answer or the work list is shorter than needed.
-    ShortList,
-    /// A density is zero.
-    ZeroDensity,
-    /// A predicted density is zero.
-    ZeroPredictedDensity,
-}
-
-impl Reason {
-    const ALL: [Reason; 10] = [
-        Reason::Missing,
-        Reason::Form,
-        Reason::Models,
-        Reason::Count,
-        Reason::Trailing,
-        Reason::NotFinite,
-        Reason::NotThere,
-        Reason::ShortList,
-        Reason::ZeroDensity,
-        Reason::ZeroPredictedDensity,
-    ];
-
-    /// Its number, 1 to 10.
-    pub fn number(self) -> u8 {
-        self as u8
-    }
-
-    fn text(self) -> &'static str {
-        match self {
-            Reason::Missing => "a field is not wholly there",
-            Reason::Form => "another version than 1, or a bit set where zeros belong",
-            Reason::Models => "more than 8 fluids or boundaries",
-            Reason::Count => "a count above 4096",
-            Reason::Trailing => "bytes follow the last record",
-            Reason::NotFinite => "a double is infinite or not a number",
-            Reason::NotThere => "a contact names a model or a particle that is not there",
-            Reason::ShortList => "the answer or the work list is shorter than needed",
-            Reason::ZeroDensity => "a density is zero",
-            Reason::ZeroPredictedDensity => "a predicted density is zero",
-        }
-    }
-}
-
-/// A scene that is turned down, with the offset of the byte where the field, contact or record
-/// begins (0 for a short list).
-#[derive(Clone, Copy, Debug, PartialEq, Eq, Hash)]
-pub struct Refusal {
-    /// Why.
-    pub reason: Reason,
-    /// Where.
-    pub offset: u64,
-}
-
-impl fmt::Display for Refusal {
-    fn fmt(&self, f: &mut fmt::Formatter<'_>) -> fmt::Result {
-        write!(f, "refused {} at byte {}: {}", self.reason.number(), self.offset, self.reason.text())
-    }
-}
-
-impl Error for Refusal {}
+pub use refusals::{KernelRefusal, Reason, Refusal};
 
 /// The lengths that the lists of a step must have at least.
 #[derive(Clone, Copy, Debug, PartialEq, Eq, Hash)]
@@ -194,34 +74,6 @@ pub struct Report {
     pub inv_dt: f64,
     /// The remaining time after the step.
     pub remaining_time: f64,
-}
-
-/// The kernel's argument that is turned down.
-#[derive(Clone, Copy, Debug, PartialEq, Eq, Hash)]
-pub enum KernelRefusal {
-    /// 11: the distance is not finite or below 0.
-    Distance,
-    /// 12: the radius is not finite or not above 0.
-    Radius,
-}
-
-impl fmt::Display for KernelRefusal {
-    fn fmt(&self, f: &mut fmt::Formatter<'_>) -> fmt::Result {
-        f.write_str(match self {
-            KernelRefusal::Distance => "refused 11: the distance is not finite or below 0",
-            KernelRefusal::Radius => "refused 12: the radius is not finite or not above 0",
-        })
-    }
-}
-
-impl Error for KernelRefusal {}
-
-// 100 + n, n from 1 to 10; the contracts leave no other number.
-fn refusal(code: u64, offset: u64) -> Refusal {
-    match code.checked_sub(101).and_then(|n| Reason::ALL.get(n as usize)) {
-        Some(&reason) => Refusal { reason, offset },
-        None => unreachable!("the archive answered {code}"),
-    }
 }
 
 /// The lengths that the answer list and the work list of a step must have. Refuses what is wrong

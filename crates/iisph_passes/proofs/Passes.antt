@@ -1,7 +1,7 @@
 -- What a pass leaves in the work list: its rows, beside other slots and what stands behind the rows, and all else as it
--- was. From the laws of stores, for every pass at once. Assumes nothing.
+-- was; and what the pass at hand finds there. From the laws of stores, for every pass at once. Assumes nothing.
 use Prim.Native.Nat.{ℕ, _+_, _<_, _≤_}
-use mathlib.Core.Path.{_≡_}
+use mathlib.Core.Path.{_≡_, subst}
 use mathlib.Core.List.{List}
 use mathlib.Core.Logic.{_⊎_}
 use native.Mathlib.Omega.{arith}
@@ -9,12 +9,15 @@ use lib.Ieee.{Float, nan}
 use lib.ListN.{length, getD, drop, length-drop}
 use lib.Seq.{ext-getD, getD-drop}
 use Rattle.scene_format.specs.Format.{axes}
-use Rattle.scene_format.specs.Scene.{fluidSize}
+use Rattle.scene_format.specs.Scene.{Scene, fluidSize}
 use Rattle.scene_format.specs.SceneOf.{sceneOf}
 use Rattle.scene_lengths.specs.Lengths.{workWidth}
 use Rattle.iisph_rows.specs.Rows.{rowAt, stored, Rows, Behind}
-use Rattle.iisph_passes.specs.Traverse.{slotOf, rowOf}
+use Rattle.iisph_rows.specs.Passes.{CoefficientsReady}
+use Rattle.iisph_pressures.specs.IterationRows.{Iterating, DijReady}
+use Rattle.iisph_passes.specs.Traverse.{slotOf, rowOf, Ready}
 use Rattle.iisph_passes.specs.declared.traverse.Pass.{Pass}
+use Rattle.iisph_passes.specs.declared.traverse.Pass.the-variants.{Coefficients, DijPjl, NextPressures}
 use Rattle.lists.proofs.Stores.{stored-beyond, stored-rows}
 use Rattle.iisph_passes.proofs.Traversal.{rowLength, row-fits, row-length, pass-kept, volumes-kept, length-kept}
 
@@ -52,3 +55,18 @@ module _ (b : List ℕ) {n : ℕ} (size : n ≡ fluidSize (sceneOf b)) (pass : P
 
   pub pass-drop : (k : ℕ) → rowAt n ≤ k → drop k (stored n (slotOf pass) (rowOf (sceneOf b) l pass) l) ≡ drop k l
   pass-drop k h = drop-same k _ l (length-kept b size pass n (omega arith) l) (λ j m. pass-beyond j (omega arith))
+
+-- ---- of the pass at hand
+
+module _ (s : Scene) {pass : Pass} (n : ℕ) (work : List Float) (q : Ready s n work pass) where
+  pub coefficients-ready : pass ≡ Coefficients → CoefficientsReady s n work
+  unfolding Ready
+  coefficients-ready e = subst (Ready s n work) e q
+
+  pub dij-ready : pass ≡ DijPjl → DijReady s n work
+  unfolding Ready
+  dij-ready e = subst (Ready s n work) e q
+
+  pub next-ready : pass ≡ NextPressures → Iterating s n work
+  unfolding Ready
+  next-ready e = subst (Ready s n work) e q

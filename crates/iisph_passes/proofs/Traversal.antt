@@ -1,7 +1,7 @@
 -- The passes over the fluid particles, case by case: how many values each stores in a row, that its turn stores them,
 -- and that what it needs of the list stays while it stores. Each case cites the laws of stores. Assumes nothing.
 use Prim.Native.Nat.{ℕ, suc, _+_, _<_, _≤_}
-use mathlib.Core.Path.{_≡_, refl, sym, ap, _∙_, subst}
+use mathlib.Core.Path.{_≡_, refl, sym, ap, _∙_}
 use mathlib.Core.Logic.{_⊎_, inl, inr}
 use mathlib.Core.List.{List, [], _∷_, _++_}
 use native.Mathlib.Nat.{add-zero}
@@ -25,7 +25,7 @@ use Rattle.scene_lengths.specs.Lengths.{workWidth}
 use Rattle.iisph_rows.specs.Passes.{firstPressure, CoefficientsReady}
 use Rattle.iisph_coefficients.specs.Neighbours.{coefficientRow, CoefficientsAre}
 use Rattle.iisph_pressures.specs.IterationRows.{pressuresIn, dijsIn, rowQuotient, rowShare, NextIs}
-use Rattle.iisph_pressures.specs.IterationRows.{IterationReady, Iterating, DijReady}
+use Rattle.iisph_pressures.specs.IterationRows.{IterationReady}
 use Rattle.iisph_coefficients.specs.declared.coefficients.CoefficientsOf.{CoefficientsOf}
 use Rattle.iisph_pressures.specs.declared.iteration.Next.{Next}
 use Rattle.lists.proofs.Stores.{length-stored, stored-other, rows-kept, part-kept}
@@ -284,18 +284,3 @@ module _ (b : List ℕ) {n : ℕ} (size : n ≡ fluidSize (sceneOf b)) where
         (iteration-same NextPressures _ (omega arith) (inl (omega arith)) q)
     ready-kept Exchange e q = tt
     ready-kept Shares e q = tt
-
--- ---- of the pass at hand
-
-module _ (s : Scene) {pass : Pass} (n : ℕ) (work : List Float) (q : Ready s n work pass) where
-  pub coefficients-ready : pass ≡ Coefficients → CoefficientsReady s n work
-  unfolding Ready
-  coefficients-ready e = subst (Ready s n work) e q
-
-  pub dij-ready : pass ≡ DijPjl → DijReady s n work
-  unfolding Ready
-  dij-ready e = subst (Ready s n work) e q
-
-  pub next-ready : pass ≡ NextPressures → Iterating s n work
-  unfolding Ready
-  next-ready e = subst (Ready s n work) e q

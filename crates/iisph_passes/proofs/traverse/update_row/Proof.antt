@@ -5,7 +5,7 @@ use lib.ListN.{length-set}
 use Rattle.scene_format.specs.SceneOf.{sceneOf}
 use Rattle.iisph_passes.proofs.Traversal.{mass-stored, advected-stored, coefficients-stored, quotient-stored}
 use Rattle.iisph_passes.proofs.Traversal.{dij-stored, next-stored, exchange-stored, share-stored}
-use Rattle.iisph_passes.proofs.Traversal.{coefficients-ready, dij-ready, next-ready}
+use Rattle.iisph_passes.proofs.Passes.{coefficients-ready, dij-ready, next-ready}
 use borrow.Author.Needs.{needs}
 use Rattle.iisph_passes.proofs.traverse.update_row.Statement.{statement}
 use Rattle.iisph_passes.proofs.traverse.update_row.Tie as tie
