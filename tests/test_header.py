@@ -5,8 +5,8 @@ import unittest
 
 ROOT = pathlib.Path(__file__).resolve().parent.parent
 HEADER = (ROOT / "include/iisph.h").read_text()
-IN_C = {"&[u8]": ["const uint8_t *", "size_t "], "&mut [f64]": ["double *", "size_t "], "&mut [u64]": ["uint64_t *", "size_t "],
-        "f64": ["double "], "u64": ["uint64_t "]}
+IN_C = {"&[u8]": ["const uint8_t *", "size_t "], "&mut [f64]": ["double *", "size_t "],
+        "&mut [u64]": ["uint64_t *", "size_t "], "f64": ["double "], "u64": ["uint64_t "]}
 
 
 def exported():

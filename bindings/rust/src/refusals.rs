@@ -29,7 +29,7 @@ pub enum Reason {
 }
 
 impl Reason {
-    const ALL: [Reason; 10] = [
+    pub(crate) const ALL: [Reason; 10] = [
         Reason::Missing,
         Reason::Form,
         Reason::Models,
