@@ -6,7 +6,8 @@ const MODELS: usize = 8;
 const PARTICLES: usize = 4096;
 const CONTACTS: usize = 255;
 
-/// A scene, as a step takes it once it is packed. [`Default`] has the iterations and the error limit of salva's solver (1, 50 and 0.05), zeros, and no models.
+/// A scene, as a step takes it once it is packed. [`Default`] has the iterations and the error
+/// limit of salva's solver (1, 50 and 0.05), zeros, and no models.
 #[derive(Clone, Debug, PartialEq)]
 pub struct Scene {
     /// The iteration with this number, counted from 0, is the first that may be the last: at most 255.
@@ -180,8 +181,9 @@ fn name(out: &mut Vec<u8>, model: usize, particle: usize) -> Result<(), Misfit> 
 impl Scene {
     /// The scene's bytes, for [`needed`](crate::needed) and [`step`](crate::step).
     ///
-    /// An error names the first count or number that does not fit. What fits is packed as it is: of a double that is not finite and of a contact that names nothing
-    /// the step says where it stands when it refuses the scene.
+    /// An error names the first count or number that does not fit. What fits is packed as it is: of
+    /// a double that is not finite and of a contact that names nothing the step says where it
+    /// stands when it refuses the scene.
     pub fn pack(&self) -> Result<Vec<u8>, Misfit> {
         let fluids = fits("fluids.len()", self.fluids.len(), MODELS)?;
         let boundaries = fits("boundaries.len()", self.boundaries.len(), MODELS)?;

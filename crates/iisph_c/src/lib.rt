@@ -47,8 +47,8 @@ pub extern "C" fn iisph_step(
     }
 }
 
-// The same for a caller that keeps a clock: where the step is done it is moved on in its place. 99 also where `clock` is
-// too short.
+// The same for a caller that keeps a clock: where the step is done it is moved on in its place. 99 also where `clock`
+// is too short.
 #[no_mangle]
 pub extern "C" fn iisph_step_keeping(
     scene: &[u8],
