@@ -7,7 +7,7 @@ use math::Vec3;
 use scene_format::Kind;
 use scene_format::read;
 use scene_index::contacts::target_of;
-use scene_index::index::BOUNDARY_RECORDS;
+use scene_index::records::record_of;
 ghost use mathlib.Core.Path.{_≡_};
 ghost use Rattle.iisph_rows.specs.Passes.{PassOver, CoefficientsReady};
 ghost use Rattle.math.specs.Vector.{coordinates};
@@ -61,7 +61,7 @@ pub fn velocity(
     match kind {
         Kind::Fluid => vector_at(work, ROW * j + ADVECTED),
         Kind::Boundary => {
-            let record = index[BOUNDARY_RECORDS + j];
+            let record = record_of(scene, index, Kind::Boundary, j);
             read::vector(scene, record)
         }
     }

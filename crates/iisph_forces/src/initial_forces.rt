@@ -2,9 +2,10 @@
 // where the forces of each boundary begin.
 use iisph_rows::rows::ROW;
 use iisph_rows::rows::put_vector;
+use scene_format::Kind;
 use scene_format::format::KEPT_FORCE;
 use scene_format::read;
-use scene_index::index::BOUNDARY_RECORDS;
+use scene_index::records::record_of;
 use scene_layout::Layout;
 use scene_lengths::ANSWER_WIDTH;
 use scene_lengths::KEPT_ANSWER_WIDTH;
@@ -49,7 +50,7 @@ fn put_particle(
 {
     answers[at] = work[ROW * n + j];
     if keeps == 1 {
-        let record = index[BOUNDARY_RECORDS + j];
+        let record = record_of(scene, index, Kind::Boundary, j);
         let force = read::vector(scene, record + KEPT_FORCE);
         put_vector(answers, at + 1, force);
         return at + KEPT_ANSWER_WIDTH;

@@ -9,7 +9,7 @@ use scene_format::format::CONTACT_GRADIENT;
 use scene_format::format::DENSITY0;
 use scene_format::read;
 use scene_index::contacts::target_of;
-use scene_index::index::HEADS;
+use scene_index::records::head_of;
 ghost use mathlib.Core.Path.{_≡_};
 ghost use Prim.Native.Nat.{_<_};
 ghost use Rattle.iisph_pressures.specs.IterationRows.{pressuresIn, Iterating};
@@ -40,7 +40,7 @@ pub fn pressure_state_of(
     requires { ⌜ Iterating (sceneOf (now scene)) n (now work) ⌝ }
     ensures { λ r. ⌜ PressureStateIs (sceneOf (now (scene .entry))) (pressuresIn n (now (work .entry))) i r ⌝ }
 {
-    let head = index[HEADS + i];
+    let head = head_of(scene, index, i);
     let density0 = read::double(scene, head + DENSITY0);
     let row = ROW * i;
     let rho = work[row];

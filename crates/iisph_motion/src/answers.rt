@@ -5,9 +5,10 @@ use iisph_rows::rows::PRESSURE;
 use iisph_rows::rows::ROW;
 use iisph_rows::rows::put_vector;
 use math::Vec3;
+use scene_format::Kind;
 use scene_format::format::VELOCITY;
 use scene_format::read;
-use scene_index::index::RECORDS;
+use scene_index::records::record_of;
 use scene_lengths::ANSWER_PRESSURE;
 use scene_lengths::ANSWER_VELOCITY;
 use scene_lengths::ANSWER_WIDTH;
@@ -49,7 +50,7 @@ fn motion_of(
     ensures { λ r. ⌜ MotionIs (sceneOf (now (scene .entry))) (pressuresIn n (now (work .entry))) i r ⌝ }
 {
     let change = final_change_of(scene, index, work, n, clock, gravity, i);
-    let at = index[RECORDS + i];
+    let at = record_of(scene, index, Kind::Fluid, i);
     let before = read::vector(scene, at + VELOCITY);
     let velocity = before.add(change);
     let position = read::vector(scene, at).add(velocity.scale(clock.dt));

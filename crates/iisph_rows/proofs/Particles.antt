@@ -12,10 +12,12 @@ use Rattle.scene_check.specs.Accepted.{FluidParticleOk}
 use Rattle.scene_format.specs.Bytes.{doubleAt, vectorAt}
 use Rattle.scene_format.specs.Format.{axes, density0Offset, velocityOffset, accelerationOffset, volumeOffset}
 use Rattle.scene_format.specs.Format.{warmPressureOffset}
-use Rattle.scene_format.specs.Format.{Location}
-use Rattle.scene_format.specs.Scene.{Scene, particle}
+use Rattle.scene_format.specs.Format.{Location, locationOf}
+use Rattle.scene_format.specs.Scene.{Scene, fluidSize, sizeOf, particle}
 use Rattle.scene_format.specs.SceneOf.{headerOf, fluidParticleAt, sceneOf}
-use Rattle.scene_index.proofs.ContactLists.{indexedLocation, particle-here}
+use Rattle.scene_index.specs.Index.{Indexed}
+use Rattle.scene_index.proofs.ContactLists.{particle-here}
+use Rattle.scene_format.specs.declared.Kind.the-variants.{Fluid}
 use Rattle.timestep_manager.specs.declared.Clock.{Clock}
 use Rattle.iisph_rows.specs.Passes.{PassOver, firstPressure}
 
@@ -30,9 +32,26 @@ zero-is b = refl
 
 -- ---- the particle's record, where the index says
 
-pub over-here : {b index : List ℕ} {n : ℕ} → PassOver b index n → (i : ℕ) → i < n
-    → FluidParticleOk b (indexedLocation index i) i
-over-here pass i h = particle-here (pass .indexed) i (omega (arith, pass .size))
+module _ {b index : List ℕ} {n : ℕ} (pass : PassOver b index n) {i : ℕ} (h : i < n) where
+  pub fluid-below : i < fluidSize (sceneOf b)
+  fluid-below = omega (arith, pass .size)
+
+  -- what `record_of` and `head_of` ask
+  pub record-asked : Indexed b index × (i < sizeOf Fluid (sceneOf b))
+  unfolding sizeOf
+  record-asked = (pass .indexed, fluid-below)
+
+  pub head-asked : Indexed b index × (i < fluidSize (sceneOf b))
+  head-asked = (pass .indexed, fluid-below)
+
+  -- where they say
+  pub over-here : {at head : ℕ} → at ≡ locationOf Fluid b i .at → head ≡ locationOf Fluid b i .head
+      → FluidParticleOk b (record { head = head; at = at }) i
+  over-here = particle-here (pass .indexed) i fluid-below
+
+  pub record-here : {at : ℕ} → at ≡ locationOf Fluid b i .at
+      → FluidParticleOk b (record { head = locationOf Fluid b i .head; at = at }) i
+  record-here e = over-here e refl
 
 -- ---- the rules' values from the doubles of a record
 

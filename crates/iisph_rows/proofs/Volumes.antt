@@ -18,13 +18,12 @@ use Rattle.math.specs.Real.{_⊕_, _⊘_, +0, one, isZero, total}
 use Rattle.scene_check.proofs.Records.{boundary-particle-ok}
 use Rattle.scene_format.specs.Format.{axes, modelNumber, boundaryRecordWidth, boundaryContactCount, countsOf}
 use Rattle.scene_format.specs.Format.{locationOf}
-use Rattle.scene_format.specs.Scene.{Scene, boundary}
+use Rattle.scene_format.specs.Scene.{Scene, sizeOf, boundary}
 use Rattle.scene_format.specs.SceneOf.{boundaryWeights, boundaryParticleAt, sceneOf}
 use Rattle.scene_format.specs.declared.Kind.the-variants.{Boundary}
-use Rattle.scene_index.specs.Index.{recordsAt, Indexed}
+use Rattle.scene_index.specs.Index.{Indexed}
 use Rattle.scene_index.specs.Runs.{BoundaryRun}
 use Rattle.scene_index.proofs.Runs.{before, none-before, all-before, start-before, count-next}
-use Rattle.scene_index.proofs.Targets.{boundary-record-at}
 use Rattle.scene_layout.specs.Layout.{layoutModels}
 use Rattle.scene_layout.specs.declared.Models.{Models}
 use Rattle.scene_walk.specs.Accepted.{BoundaryRecordOk}
@@ -57,25 +56,27 @@ module _ (b : List ℕ) (k at : ℕ) {n : ℕ} {sum : Float} (contacts : n ≡ b
 -- ---- one boundary
 
 module _ {b index : List ℕ} (ix : Indexed b index) {first count keeps : ℕ} (run : BoundaryRun b first count keeps)
-    (p : ℕ) (h : p < count) where
-  record-here : getD index (recordsAt Boundary + (first + p)) 0 ≡ locationOf Boundary b (first + p) .at
-  record-here = boundary-record-at ix (first + p) (omega (arith, run .within))
+    {p : ℕ} (h : p < count) where
+  -- what `record_of` asks
+  pub run-asked : Indexed b index × (first + p < sizeOf Boundary (sceneOf b))
+  unfolding sizeOf
+  run-asked = (ix, omega (arith, run .within))
 
-  pub record-ok : BoundaryRecordOk b keeps (getD index (recordsAt Boundary + (first + p)) 0)
-  record-ok =
-      rw (record-here, ← run .same p h)
-      (boundary-particle-ok b (ix .accepted) (first + p) (omega (arith, run .within)) .own)
+  -- where it says
+  module _ {at : ℕ} (e : at ≡ locationOf Boundary b (first + p) .at) where
+    pub record-ok : BoundaryRecordOk b keeps at
+    record-ok =
+        rw (e, ← run .same p h)
+        (boundary-particle-ok b (ix .accepted) (first + p) (omega (arith, run .within)) .own)
 
-  pub volume-here : volumeAt b keeps (getD index (recordsAt Boundary + (first + p)) 0)
-      ≡ boundaryVolume (boundary (sceneOf b) (first + p))
-  unfolding volumeAt boundaryVolume boundaryParticleAt
-  volume-here =
-      rw (
-        record-here,
-        ← run .same p h,
-        boundary-particle-ok b (ix .accepted) (first + p)
-            (omega (arith, run .within)) .boundary,
-      )
+    pub volume-here : volumeAt b keeps at ≡ boundaryVolume (boundary (sceneOf b) (first + p))
+    unfolding volumeAt boundaryVolume boundaryParticleAt
+    volume-here =
+        rw (
+          e,
+          ← run .same p h,
+          boundary-particle-ok b (ix .accepted) (first + p) (omega (arith, run .within)) .boundary,
+        )
 
 -- ---- boundary after boundary
 

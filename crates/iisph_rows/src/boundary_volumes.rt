@@ -2,12 +2,13 @@
 // list.
 use crate::rows::ROW;
 use math::is_zero;
+use scene_format::Kind;
 use scene_format::format::BOUNDARY_CONTACT_WIDTH;
 use scene_format::format::CONTACT_WEIGHT;
 use scene_format::format::VECTOR_WIDTH;
 use scene_format::read::byte;
 use scene_format::read::double;
-use scene_index::index::BOUNDARY_RECORDS;
+use scene_index::records::record_of;
 use scene_layout::Layout;
 ghost use mathlib.Core.Path.{_≡_};
 ghost use Prim.Native.Nat.{ℕ, _+_, _*_, _≤_, _<_};
@@ -74,7 +75,7 @@ fn put_volumes(
 {
     let mut p = 0;
     while p < count {
-        let at = index[BOUNDARY_RECORDS + (first + p)];
+        let at = record_of(scene, index, Kind::Boundary, first + p);
         work[k + p] = volume(scene, keeps, at);
         p += 1;
     }

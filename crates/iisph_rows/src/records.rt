@@ -1,14 +1,15 @@
 // What a pass takes of a fluid particle's own record: mass, velocity with its change before the pressures, and first
 // pressure.
 use math::Vec3;
+use scene_format::Kind;
 use scene_format::format::ACCELERATION;
 use scene_format::format::DENSITY0;
 use scene_format::format::VELOCITY;
 use scene_format::format::VOLUME;
 use scene_format::format::WARM_PRESSURE;
 use scene_format::read;
-use scene_index::index::HEADS;
-use scene_index::index::RECORDS;
+use scene_index::records::head_of;
+use scene_index::records::record_of;
 use timestep_manager::Clock;
 ghost use mathlib.Core.Path.{_≡_};
 ghost use Prim.Native.Nat.{_<_};
@@ -23,8 +24,8 @@ pub fn mass_of(scene: &[u8], index: &[usize], n: usize, i: usize) -> f64
     requires { ⌜ PassOver (now scene) (now index) n × (i < n) ⌝ }
     ensures { λ r. ⌜ r ≡ particleMass (particle (sceneOf (now (scene .entry))) i) ⌝ }
 {
-    let at = index[RECORDS + i];
-    let head = index[HEADS + i];
+    let at = record_of(scene, index, Kind::Fluid, i);
+    let head = head_of(scene, index, i);
     read::double(scene, at + VOLUME) * read::double(scene, head + DENSITY0)
 }
 
@@ -43,7 +44,7 @@ pub fn velocity_change_of(
         coordinates r ≡ velocityChange s (particle s i))
         ⌝ }
 {
-    let at = index[RECORDS + i];
+    let at = record_of(scene, index, Kind::Fluid, i);
     let acceleration = read::vector(scene, at + ACCELERATION).add(gravity);
     let none = Vec3::zero();
     none.add(acceleration.scale(clock.dt))
@@ -64,7 +65,7 @@ pub fn advected_of(
         coordinates r ≡ advectedVelocity s (particle s i))
         ⌝ }
 {
-    let at = index[RECORDS + i];
+    let at = record_of(scene, index, Kind::Fluid, i);
     let change = velocity_change_of(scene, index, n, clock, gravity, i);
     read::vector(scene, at + VELOCITY).add(change)
 }
@@ -74,6 +75,6 @@ pub fn first_pressure(scene: &[u8], index: &[usize], n: usize, i: usize) -> f64
     requires { ⌜ PassOver (now scene) (now index) n × (i < n) ⌝ }
     ensures { λ r. ⌜ r ≡ firstPressure (sceneOf (now (scene .entry))) i ⌝ }
 {
-    let at = index[RECORDS + i];
+    let at = record_of(scene, index, Kind::Fluid, i);
     read::double(scene, at + WARM_PRESSURE) * 0.5
 }

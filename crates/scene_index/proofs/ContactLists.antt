@@ -6,7 +6,7 @@ use mathlib.Core.List.{List}
 use native.Mathlib.Numerals.{add-one}
 use native.Mathlib.Omega.{arith}
 use lib.Ieee.{Float}
-use lib.ListN.{length, getD}
+use lib.ListN.{length}
 use Rattle.lists.specs.Lists.{fold}
 use Rattle.lists.proofs.Lists.{fold-table}
 use Rattle.scene_check.specs.Accepted.{FluidParticleOk}
@@ -19,9 +19,8 @@ use Rattle.scene_format.specs.SceneOf.{contactAt, contactList, fluidParticleAt,
 use Rattle.scene_format.specs.declared.Kind.{Kind}
 use Rattle.scene_format.specs.declared.Kind.the-variants.{Fluid, Boundary}
 use Rattle.scene_index.specs.Contacts.{ContactReady, ContactsReady, contactListAt, overList}
-use Rattle.scene_index.specs.Index.{headsAt, recordsAt, Indexed}
+use Rattle.scene_index.specs.Index.{Indexed}
 use Rattle.scene_index.specs.declared.contacts.ContactList.{ContactList}
-use Rattle.scene_index.proofs.Targets.{fluid-record-at, head-at}
 
 -- ---- a list of contacts, as the rules see it
 
@@ -62,10 +61,6 @@ over-list {b = b} {list = list} h f a =
 
 -- ---- through the index
 
--- what the index says of fluid particle i
-abbrev pub indexedLocation : List ℕ → ℕ → Location
-indexedLocation index i = record { head = getD index (headsAt + i) 0; at = getD index (recordsAt Fluid + i) 0 }
-
 module _ {b index : List ℕ} (ix : Indexed b index) (i : ℕ) (h : i < fluidSize (sceneOf b)) where
   -- the list that `contacts_of` returns
   pub contacts-are : {κ : Kind} {list : ContactList} → list ≡ contactListAt κ b (locationOf Fluid b i)
@@ -73,35 +68,33 @@ module _ {b index : List ℕ} (ix : Indexed b index) (i : ℕ) (h : i < fluidSiz
   contacts-are {κ} e =
       subst (ContactsAre b κ (particle (sceneOf b) i)) (sym e) (contacts-at κ (fluid-particle-ok b (ix .accepted) i h))
 
-  location-here : indexedLocation index i ≡ locationOf Fluid b i
-  location-here = rw (fluid-record-at ix i h, head-at ix i h)
+  -- the particle's record at the offset that `record_of` found, and its head at that of `head_of`
+  module _ {at head : ℕ} (ae : at ≡ locationOf Fluid b i .at) (he : head ≡ locationOf Fluid b i .head) where
+    abbrev found : Location
+    found = record { head = head; at = at }
 
-  -- all that a step may use of the particle, at the index's entries
-  pub particle-here : FluidParticleOk b (indexedLocation index i) i
-  particle-here = subst (λ p. FluidParticleOk b p i) (sym location-here) (fluid-particle-ok b (ix .accepted) i h)
+    location-here : found ≡ locationOf Fluid b i
+    location-here = rw (ae, he)
 
-  module _ {κ : Kind} {d : Float} {f : ℕ} (de : d ≡ doubleAt b (indexedLocation index i .head + density0Offset))
-      (fe : f ≡ byteAt b (indexedLocation index i .at + contactCountOffset Fluid axes)) where
-    pub fluid-contacts : κ ≡ Fluid
-        → _≡_ {A = ContactList}
-        (record { kind = κ; density0 = d; count = f; at = indexedLocation index i .at + recordWidth axes })
-        (contactListAt κ b (locationOf Fluid b i))
-    unfolding contactListAt
-    fluid-contacts e = rw (← location-here, e, de, fe)
+    -- all that a step may use of the particle
+    pub particle-here : FluidParticleOk b found i
+    particle-here = subst (λ p. FluidParticleOk b p i) (sym location-here) (fluid-particle-ok b (ix .accepted) i h)
 
-    pub boundary-contacts : {c : ℕ} → c ≡ byteAt b (indexedLocation index i .at + contactCountOffset Boundary axes)
-        → κ ≡ Boundary
-        → _≡_ {A = ContactList}
-        (record {
-          kind = κ;
-          density0 = d;
-          count = c;
-          at = indexedLocation index i .at + recordWidth axes + contactWidth
-              axes * f;
-        })
-        (contactListAt κ b (locationOf Fluid b i))
-    unfolding contactListAt
-    boundary-contacts ce e = rw (← location-here, e, de, ce, fe)
+    module _ {κ : Kind} {d : Float} {f : ℕ} (de : d ≡ doubleAt b (head + density0Offset))
+        (fe : f ≡ byteAt b (at + contactCountOffset Fluid axes)) where
+      pub fluid-contacts : κ ≡ Fluid
+          → _≡_ {A = ContactList}
+          (record { kind = κ; density0 = d; count = f; at = at + recordWidth axes })
+          (contactListAt κ b (locationOf Fluid b i))
+      unfolding contactListAt
+      fluid-contacts e = rw (← location-here, e, de, fe)
+
+      pub boundary-contacts : {c : ℕ} → c ≡ byteAt b (at + contactCountOffset Boundary axes) → κ ≡ Boundary
+          → _≡_ {A = ContactList}
+          (record { kind = κ; density0 = d; count = c; at = at + recordWidth axes + contactWidth axes * f })
+          (contactListAt κ b (locationOf Fluid b i))
+      unfolding contactListAt
+      boundary-contacts ce e = rw (← location-here, e, de, ce, fe)
 
 -- ---- a turn of a loop over contacts
 

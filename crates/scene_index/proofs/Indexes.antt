@@ -1,20 +1,22 @@
--- The models of a scene by their kind, as the layout gives them, and the index that is filled from them: its five
--- sections stand apart, so each holds what was stored there. Assumes nothing.
+-- The models of a scene by their kind, as the layout gives them, and the index that is filled from them, section behind
+-- section, which is one store of the whole. Assumes nothing.
 use Prim.Native.Nat.{ℕ, _+_, _*_, _/_, _%_, _<_, _≤_}
 use mathlib.Core.Path.{_≡_, sym, ap, _∙_}
 use mathlib.Core.List.{List, map}
 use native.Mathlib.Omega.{arith}
-use lib.ListN.{length, getD, length-map, replicate}
+use lib.ListN.{length, getD, replicate}
 use lib.Seq.{sets, length-sets}
-use Rattle.lists.specs.Stores.{Part}
 use Rattle.lists.proofs.Fills.{table-copies}
-use Rattle.lists.proofs.Lists.{length-table, table-same}
+use Rattle.lists.proofs.Lists.{table-same}
 use Rattle.lists.proofs.Numbering.{start-at-most}
-use Rattle.lists.proofs.Stores.{sets-in, sets-below}
+use Rattle.lists.proofs.Stores.{sets-in}
+use Rattle.scene_check.proofs.Accepted.{accepted}
 use Rattle.scene_check.specs.Check.{Passed}
 use Rattle.scene_check.proofs.Records.{size-few, fluid-size-few, boundary-size-few}
 use Rattle.scene_format.specs.Format.{mostModels, mostOfAKind, modelNumber, particlesAt, headAt, headsOf, countsOf}
 use Rattle.scene_format.specs.Format.{startsOf, modelLocations, locationsOf}
+use Rattle.scene_format.specs.Scene.{fluidSize, boundarySize, sizeOf}
+use Rattle.scene_format.specs.SceneOf.{sceneOf}
 use Rattle.scene_format.specs.Within.{ModelWithin, ModelsWithin}
 use Rattle.scene_format.specs.declared.Kind.{Kind}
 use Rattle.scene_format.specs.declared.Kind.the-variants.{Fluid, Boundary}
@@ -23,9 +25,12 @@ use Rattle.scene_layout.specs.declared.Layout.{Layout}
 use Rattle.scene_layout.specs.declared.Models.{Models}
 use Rattle.scene_layout.proofs.Filled.{padded-at}
 use Rattle.scene_layout.proofs.Locations.{heads-at, size-locations, size-sum}
-use Rattle.scene_index.specs.Index.{basesLength, basesAt, headsAt, recordsAt, indexLength, baseOf, basesOf}
-use Rattle.scene_index.specs.Index.{blockSize, modelBlocks, entryOf, entriesOf, indexOf, Indexed}
+use Rattle.scene_index.specs.Index.{blockSize, modelBlocks, startsLength, basesAt, headsAt, recordsAt}
+use Rattle.scene_index.specs.Index.{indexNeeded, longestIndex, sectionsOf, baseOf, basesOf, kindBases, entryOf}
+use Rattle.scene_index.specs.Index.{entriesOf, startNumbers, indexOf, Indexed}
 use Rattle.scene_index.specs.declared.index.Entry.the-variants.{Offset, Head}
+use Rattle.scene_index.specs.declared.index.Sections.{Sections}
+use Rattle.scene_index.proofs.Sections.{length-index, stored-sections}
 use Rattle.scene_index.proofs.Traversals.{model-table}
 
 -- ---- models
@@ -61,11 +66,37 @@ unfolding entryOf
 heads-copied κ b head {n} e = sym (table-copies n head) ∙ model-table κ b (entryOf Head) head e
 
 -- beyond the last model the layout says 0, as a list does
-bases-padded : (starts : List ℕ) → basesOf (padded starts) ≡ basesOf starts
+bases-padded : (number : ℕ) (starts : List ℕ) → basesOf number (padded starts) ≡ basesOf number starts
 unfolding basesOf baseOf
-bases-padded starts =
-    table-same basesLength _ _
+bases-padded number starts =
+    table-same (modelBlocks * number) _ _
     (λ x h. ap (λ (s : ℕ). s + blockSize * (x % modelBlocks)) (padded-at starts (x / modelBlocks)))
+
+-- few models and particles of each kind, so that no sum overflows
+pub record CountsFew (layout : Layout) : Type 0 where
+  pub fluids : layout .fluids .number ≤ mostModels
+  pub boundaries : layout .boundaries .number ≤ mostModels
+  pub fluidTotal : layout .fluids .total ≤ mostOfAKind
+  pub boundaryTotal : layout .boundaries .total ≤ mostOfAKind
+
+-- the code's sections are these
+pub record SectionsAre (b : List ℕ) (s : Sections) : Type 0 where
+  pub all : startNumbers s ≡ startNumbers (sectionsOf b)
+  pub bases : s .«boundary_bases» ≡ basesAt Boundary b
+  pub records : s .records ≡ recordsAt Fluid b
+  pub heads : s .heads ≡ headsAt b
+  pub boundaryRecords : s .«boundary_records» ≡ recordsAt Boundary b
+
+pub sections-are : {b : List ℕ} {s : Sections} → s ≡ sectionsOf b → SectionsAre b s
+unfolding sectionsOf
+sections-are e =
+    record {
+      all = ap startNumbers e;
+      bases = ap (λ (s : Sections). s .«boundary_bases») e;
+      records = ap (λ (s : Sections). s .records) e;
+      heads = ap (λ (s : Sections). s .heads) e;
+      boundaryRecords = ap (λ (s : Sections). s .«boundary_records») e;
+    }
 
 module _ {b : List ℕ} {layout : Layout} (passed : Passed b layout) where
   pub fluids-are : layout .fluids ≡ layoutModels Fluid b
@@ -85,90 +116,130 @@ module _ {b : List ℕ} {layout : Layout} (passed : Passed b layout) where
       (omega (arith, start-at-most 0 (countsOf κ b) m, size-sum b κ, size-few b (passed .walk) κ))
 
   starts-are : (κ : Kind) {models : Models} → models ≡ layoutModels κ b
-      → basesOf (models .starts) ≡ basesOf (startsOf κ b)
+      → basesOf (models .number) (models .starts) ≡ kindBases κ b
   unfolding layoutModels
-  starts-are κ is = rw is (bases-padded (startsOf κ b))
+  starts-are κ is = rw is (bases-padded (modelNumber κ b) (startsOf κ b))
 
-  pub locations-few : (κ : Kind) → length (locationsOf κ b) ≤ mostOfAKind
-  locations-few κ = rw (← size-locations b κ) (size-few b (passed .walk) κ)
+  pub number-few : (κ : Kind) → modelNumber κ b ≤ mostModels
+  number-few κ = accepted b (passed .walk) .fields .header .few κ
 
-  -- the five sections, one after the other
-  pub all-filled : (l : List ℕ) {bases bothBases records heads index : List ℕ}
-      → bases ≡ sets l (basesAt Fluid) (basesOf (layout .fluids .starts))
-      → bothBases ≡ sets bases (basesAt Boundary) (basesOf (layout .boundaries .starts))
-      → records ≡ sets bothBases (recordsAt Fluid) (entriesOf Offset Fluid b)
-      → heads ≡ sets records headsAt (entriesOf Head Fluid b)
-      → index ≡ sets heads (recordsAt Boundary) (entriesOf Offset Boundary b)
-      → index ≡ indexOf b l
-  unfolding indexOf
-  all-filled l p q r s t = rw (t, s, r, q, p, starts-are Fluid fluids-are, starts-are Boundary boundaries-are)
+  total-is : (κ : Kind) {models : Models} → models ≡ layoutModels κ b → models .total ≡ sizeOf κ (sceneOf b)
+  unfolding layoutModels
+  total-is κ is = ap (λ (m : Models). m .total) is ∙ sym (size-sum b κ)
+
+  pub fluid-total : layout .fluids .total ≡ fluidSize (sceneOf b)
+  unfolding sizeOf
+  fluid-total = total-is Fluid fluids-are
+
+  pub boundary-total : layout .boundaries .total ≡ boundarySize (sceneOf b)
+  unfolding sizeOf
+  boundary-total = total-is Boundary boundaries-are
+
+  pub fluid-number : layout .fluids .number ≡ modelNumber Fluid b
+  unfolding layoutModels
+  fluid-number = ap (λ (m : Models). m .number) fluids-are
+
+  pub boundary-number : layout .boundaries .number ≡ modelNumber Boundary b
+  unfolding layoutModels
+  boundary-number = ap (λ (m : Models). m .number) boundaries-are
+
+  -- as many places as particles
+  pub fluid-places : length (locationsOf Fluid b) ≡ fluidSize (sceneOf b)
+  unfolding sizeOf
+  fluid-places = sym (size-locations b Fluid)
+
+  pub boundary-places : length (locationsOf Boundary b) ≡ boundarySize (sceneOf b)
+  unfolding sizeOf
+  boundary-places = sym (size-locations b Boundary)
+
+  pub counts-few : CountsFew layout
+  unfolding layoutModels
+  counts-few =
+      record {
+        fluids = rw fluids-are (number-few Fluid);
+        boundaries = rw boundaries-are (number-few Boundary);
+        fluidTotal = rw fluid-total (fluid-size-few b (passed .walk));
+        boundaryTotal = rw boundary-total (boundary-size-few b (passed .walk));
+      }
+
+  -- a layout's sections
+  pub sections-made : {bases records heads boundaryRecords end : ℕ}
+      → bases ≡ startsLength + modelBlocks * layout .fluids .number
+      → records ≡ bases + modelBlocks * layout .boundaries .number
+      → heads ≡ records + layout .fluids .total
+      → boundaryRecords ≡ heads + layout .fluids .total
+      → end ≡ boundaryRecords + layout .boundaries .total
+      → record {
+        «boundary_bases» = bases;
+        records = records;
+        heads = heads;
+        «boundary_records» = boundaryRecords;
+        end = end;
+      } ≡ sectionsOf b
+  unfolding sectionsOf layoutModels
+  sections-made p q r s t =
+      rw (
+        t,
+        s,
+        r,
+        q,
+        p,
+        fluid-total,
+        boundary-total,
+        ap (λ (m : Models). m .number) fluids-are,
+        ap (λ (m : Models). m .number) boundaries-are,
+      )
+
+  -- the sections, one behind the other, where s says
+  pub all-filled : (l : List ℕ) {s : Sections} → SectionsAre b s
+      → {starts bases bothBases records heads index : List ℕ}
+      → starts ≡ sets l 0 (startNumbers s)
+      → bases ≡ sets starts (basesAt Fluid b) (basesOf (layout .fluids .number) (layout .fluids .starts))
+      → bothBases
+      ≡ sets bases (s .«boundary_bases») (basesOf (layout .boundaries .number) (layout .boundaries .starts))
+      → records ≡ sets bothBases (s .records) (entriesOf Offset Fluid b)
+      → heads ≡ sets records (s .heads) (entriesOf Head Fluid b)
+      → index ≡ sets heads (s .«boundary_records») (entriesOf Offset Boundary b)
+      → index ≡ sets l 0 (indexOf b)
+  all-filled l is o p q r s t =
+      rw (
+        t,
+        s,
+        r,
+        q,
+        p,
+        o,
+        is .all,
+        is .bases,
+        is .records,
+        is .heads,
+        is .boundaryRecords,
+        starts-are Fluid fluids-are,
+        starts-are Boundary boundaries-are,
+      )
+      (sym (stored-sections b l))
 
 -- ---- what the index holds
 
-part-here : (k : ℕ) (xs l : List ℕ) → k + length xs ≤ length l → Part 0 k xs (sets l k xs)
-part-here k xs l room = record { holds = λ i h. sets-in 0 xs l k i room h }
-
-part-kept : (k : ℕ) {xs l : List ℕ} (k′ : ℕ) (ys : List ℕ) → k + length xs ≤ k′ → Part 0 k xs l
-    → Part 0 k xs (sets l k′ ys)
-part-kept k {l = l} k′ ys apart s = record { holds = λ i h. sets-below 0 ys l k′ (k + i) (omega arith) ∙ s .holds i h }
-
-length-bases : (starts : List ℕ) → length (basesOf starts) ≡ basesLength
-unfolding basesOf
-length-bases starts = length-table basesLength (baseOf starts)
-
-module _ {b : List ℕ} {layout : Layout} (passed : Passed b layout) (l : List ℕ) (room : indexLength ≤ length l) where
-  length-index : length (indexOf b l) ≡ length l
-  unfolding indexOf
-  length-index = simp length-sets
-
-  pub indexed : Indexed b (indexOf b l)
-  unfolding indexOf
-  indexed =
-      let fluids = basesOf (startsOf Fluid b) in
-      let boundaries = basesOf (startsOf Boundary b) in
-      let at = entriesOf Offset Fluid b in
-      let head = entriesOf Head Fluid b in
-      let boundaryAt = entriesOf Offset Boundary b in
-      let l₁ = sets l (basesAt Fluid) fluids in
-      let l₂ = sets l₁ (basesAt Boundary) boundaries in
-      let l₃ = sets l₂ (recordsAt Fluid) at in
-      let l₄ = sets l₃ headsAt head in
-      -- how long each is
-      let of-fluids : length fluids ≡ basesLength = length-bases (startsOf Fluid b) in
-      let of-boundaries : length boundaries ≡ basesLength = length-bases (startsOf Boundary b) in
-      let of-at : length at ≤ mostOfAKind = rw length-map (locations-few passed Fluid) in
-      let of-head : length head ≤ mostOfAKind = rw length-map (locations-few passed Fluid) in
-      let of-boundary : length boundaryAt ≤ mostOfAKind = rw length-map (locations-few passed Boundary) in
-      let of-1 : length l₁ ≡ length l = length-sets l (basesAt Fluid) fluids in
-      let of-2 : length l₂ ≡ length l = length-sets l₁ (basesAt Boundary) boundaries ∙ of-1 in
-      let of-3 : length l₃ ≡ length l = length-sets l₂ (recordsAt Fluid) at ∙ of-2 in
-      let of-4 : length l₄ ≡ length l = length-sets l₃ headsAt head ∙ of-3 in
+module _ {b : List ℕ} {layout : Layout} (passed : Passed b layout) where
+  pub indexed : (l : List ℕ) → indexNeeded b ≤ length l → Indexed b (sets l 0 (indexOf b))
+  indexed l room =
       record {
         bytes = passed .bytes;
         accepted = passed .walk;
-        room = rw length-index room;
+        room = rw (length-sets l 0 (indexOf b)) room;
         fewFluid = fluid-size-few b (passed .walk);
         fewBoundary = boundary-size-few b (passed .walk);
-        bases =
-            either (λ κ. Part 0 (basesAt κ) (basesOf (startsOf κ b)) (sets l₄ (recordsAt Boundary) boundaryAt))
-            (part-kept (basesAt Fluid) (recordsAt Boundary) boundaryAt (omega arith)
-            (part-kept (basesAt Fluid) headsAt head (omega arith)
-            (part-kept (basesAt Fluid) (recordsAt Fluid) at (omega arith)
-            (part-kept (basesAt Fluid) (basesAt Boundary) boundaries (omega arith)
-            (part-here (basesAt Fluid) fluids l (omega arith))))))
-            (part-kept (basesAt Boundary) (recordsAt Boundary) boundaryAt (omega arith)
-            (part-kept (basesAt Boundary) headsAt head (omega arith)
-            (part-kept (basesAt Boundary) (recordsAt Fluid) at (omega arith)
-            (part-here (basesAt Boundary) boundaries l₁ (omega arith)))));
-        records =
-            either (λ κ. Part 0 (recordsAt κ) (entriesOf Offset κ b) (sets l₄ (recordsAt Boundary) boundaryAt))
-            (part-kept (recordsAt Fluid) (recordsAt Boundary) boundaryAt (omega arith)
-            (part-kept (recordsAt Fluid) headsAt head (omega arith) (part-here (recordsAt Fluid) at l₂ (omega arith))))
-            (part-here (recordsAt Boundary) boundaryAt l₄ (omega arith));
-        heads = part-kept headsAt (recordsAt Boundary) boundaryAt (omega arith)
-            (part-here headsAt head l₃ (omega arith));
+        holds = record { holds = λ i h. sets-in 0 (indexOf b) l 0 i (omega (arith, length-index b)) h };
       }
-    where
-      either : (P : Kind → Type 0) → P Fluid → P Boundary → (κ : Kind) → P κ
-      either P f g Fluid = f
-      either P f g Boundary = g
+
+  -- no accepted scene needs a longer one
+  pub index-few : indexNeeded b ≤ longestIndex
+  index-few =
+      omega (
+        arith,
+        number-few passed Fluid,
+        number-few passed Boundary,
+        fluid-size-few b (passed .walk),
+        boundary-size-few b (passed .walk),
+      )

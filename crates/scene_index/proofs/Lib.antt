@@ -1,3 +1,4 @@
+pub mod Sections
 pub mod Traversals
 pub mod Indexes
 pub mod Targets

@@ -1,22 +1,23 @@
 -- The index of an accepted packed scene: where each record stands, in one lent list with a section for each question.
--- Records have varying lengths and contacts name them at random, so offsets are found once. Scaffolding: no promise
--- rests on it. Definitions only.
+-- Records have varying lengths and contacts name them at random, so offsets are found once. `indexNeeded` is part of
+-- the promise of a step that is lent its index; the rest is scaffolding. Definitions only.
 use Prim.Native.Nat.{ℕ, _+_, _*_, _/_, _%_, _≤_}
 use mathlib.Core.Path.{_≡_}
-use mathlib.Core.List.{List, map}
+use mathlib.Core.List.{List, [], _∷_, _++_, map}
 use lib.ListN.{length, getD}
-use lib.Seq.{sets}
 use Rattle.lists.specs.Lists.{table}
 use Rattle.lists.specs.Stores.{Part}
 use Rattle.scene_check.specs.Walk.{checked}
 use Rattle.scene_format.specs.Bytes.{Bytes}
-use Rattle.scene_format.specs.Format.{mostOfAKind, nameableModels, nameableParticles, startsOf, Location, locationsOf}
+use Rattle.scene_format.specs.Format.{mostModels, mostOfAKind, nameableParticles, modelNumber, startsOf}
+use Rattle.scene_format.specs.Format.{Location, locationsOf}
 use Rattle.scene_format.specs.Scene.{fluidSize, boundarySize}
 use Rattle.scene_format.specs.SceneOf.{sceneOf}
 use Rattle.scene_format.specs.declared.Kind.{Kind}
 use Rattle.scene_format.specs.declared.Kind.the-variants.{Fluid, Boundary}
 use Rattle.scene_format.specs.declared.Walk.the-variants.{At}
 use Rattle.scene_index.specs.declared.index.Entry.{Entry}
+use Rattle.scene_index.specs.declared.index.Sections.{Sections}
 use Rattle.scene_index.specs.declared.index.Entry.the-variants.{Offset, Head}
 
 -- the names of a model's particles fall into blocks of so many numbers, and so many blocks
@@ -26,25 +27,47 @@ blockSize = 256
 abbrev pub modelBlocks : ℕ
 modelBlocks = nameableParticles / blockSize
 
--- ---- sections: for each kind the bases of names, of which there is one for each block; the offsets of the fluid
--- ---- records, those of their heads, and those of the boundary records
+-- ---- sections: where the later ones begin; for each kind the bases of names, one for each block of its models; the
+-- ---- offsets of the fluid records, those of their heads, and those of the boundary records
 
-abbrev pub basesLength : ℕ
-basesLength = nameableModels * modelBlocks
+-- so many sections begin where one of the first numbers says
+abbrev pub startsLength : ℕ
+startsLength = 4
 
-abbrev pub basesAt : Kind → ℕ
-basesAt Fluid = 0
-basesAt Boundary = basesLength
+abbrev pub basesLength : Kind → List ℕ → ℕ
+basesLength κ b = modelBlocks * modelNumber κ b
 
-abbrev pub headsAt : ℕ
-headsAt = 2 * basesLength + mostOfAKind
+abbrev pub basesAt : Kind → List ℕ → ℕ
+basesAt Fluid b = startsLength
+basesAt Boundary b = startsLength + basesLength Fluid b
 
-abbrev pub recordsAt : Kind → ℕ
-recordsAt Fluid = 2 * basesLength
-recordsAt Boundary = headsAt + mostOfAKind
+abbrev pub fluidRecordsAt : List ℕ → ℕ
+fluidRecordsAt b = basesAt Boundary b + basesLength Boundary b
 
-abbrev pub indexLength : ℕ
-indexLength = recordsAt Boundary + mostOfAKind
+abbrev pub headsAt : List ℕ → ℕ
+headsAt b = fluidRecordsAt b + fluidSize (sceneOf b)
+
+abbrev pub recordsAt : Kind → List ℕ → ℕ
+recordsAt Fluid b = fluidRecordsAt b
+recordsAt Boundary b = headsAt b + fluidSize (sceneOf b)
+
+-- how long the index of the bytes b is
+abbrev pub indexNeeded : List ℕ → ℕ
+indexNeeded b = recordsAt Boundary b + boundarySize (sceneOf b)
+
+-- no accepted scene needs more
+abbrev pub longestIndex : ℕ
+longestIndex = startsLength + 2 * (modelBlocks * mostModels) + 3 * mostOfAKind
+
+unfoldable pub sectionsOf : List ℕ → Sections
+sectionsOf b =
+    record {
+      «boundary_bases» = basesAt Boundary b;
+      records = recordsAt Fluid b;
+      heads = headsAt b;
+      «boundary_records» = recordsAt Boundary b;
+      end = indexNeeded b;
+    }
 
 -- ---- what they hold
 
@@ -53,8 +76,12 @@ indexLength = recordsAt Boundary + mostOfAKind
 unfoldable pub baseOf : List ℕ → ℕ → ℕ
 baseOf starts x = getD starts (x / modelBlocks) 0 + blockSize * (x % modelBlocks)
 
-unfoldable pub basesOf : List ℕ → List ℕ
-basesOf starts = table basesLength (baseOf starts)
+-- of the blocks of so many models
+unfoldable pub basesOf : ℕ → List ℕ → List ℕ
+basesOf number starts = table (modelBlocks * number) (baseOf starts)
+
+abbrev pub kindBases : Kind → List ℕ → List ℕ
+kindBases κ b = basesOf (modelNumber κ b) (startsOf κ b)
 
 -- what is held of a record
 unfoldable pub entryOf : Entry → Location → ℕ
@@ -64,22 +91,23 @@ entryOf Head p = p .head
 abbrev pub entriesOf : Entry → Kind → List ℕ → List ℕ
 entriesOf entry κ b = map (entryOf entry) (locationsOf κ b)
 
--- the lent list with the five sections set, all else as before
-unfoldable pub indexOf : List ℕ → List ℕ → List ℕ
-indexOf b l =
-    let bases = sets (sets l (basesAt Fluid) (basesOf (startsOf Fluid b))) (basesAt Boundary)
-    (basesOf (startsOf Boundary b)) in
-    let records = sets bases (recordsAt Fluid) (entriesOf Offset Fluid b) in
-    let heads = sets records headsAt (entriesOf Head Fluid b) in
-    sets heads (recordsAt Boundary) (entriesOf Offset Boundary b)
+-- where the sections behind the fluids' bases begin
+unfoldable pub startNumbers : Sections → List ℕ
+startNumbers s = s .«boundary_bases» ∷ s .records ∷ s .heads ∷ s .«boundary_records» ∷ []
 
--- the index of the bytes b, which are accepted
+-- the whole index
+unfoldable pub indexOf : List ℕ → List ℕ
+indexOf b =
+    startNumbers (sectionsOf b)
+    ++ (kindBases Fluid b
+    ++ (kindBases Boundary b
+    ++ (entriesOf Offset Fluid b ++ (entriesOf Head Fluid b ++ entriesOf Offset Boundary b))))
+
+-- a list with the index of the bytes b, which are accepted, in front
 pub record Indexed (b index : List ℕ) : Type 0 where
   pub bytes : Bytes b
   pub accepted : checked b ≡ At (length b)
-  pub room : indexLength ≤ length index
+  pub room : indexNeeded b ≤ length index
   pub fewFluid : fluidSize (sceneOf b) ≤ mostOfAKind
   pub fewBoundary : boundarySize (sceneOf b) ≤ mostOfAKind
-  pub bases : (κ : Kind) → Part 0 (basesAt κ) (basesOf (startsOf κ b)) index
-  pub records : (κ : Kind) → Part 0 (recordsAt κ) (entriesOf Offset κ b) index
-  pub heads : Part 0 headsAt (entriesOf Head Fluid b) index
+  pub holds : Part 0 0 (indexOf b) index

@@ -3,9 +3,9 @@
 use crate::index::BLOCK_SIZE;
 use crate::index::BOUNDARY_BASES;
 use crate::index::FLUID_BASES;
-use crate::index::HEADS;
 use crate::index::MODEL_BLOCKS;
-use crate::index::RECORDS;
+use crate::records::head_of;
+use crate::records::record_of;
 use scene_format::Kind;
 use scene_format::format::BOUNDARY_CONTACTS;
 use scene_format::format::CONTACT_WIDTH;
@@ -36,8 +36,8 @@ pub fn contacts_of(scene: &[u8], index: &[usize], kind: Kind, i: usize) -> Conta
     requires { ⌜ i < fluidSize (sceneOf (now scene)) ⌝ }
     ensures { λ r. ⌜ r ≡ contactListAt kind (now (scene .entry)) (locationOf Kind.Fluid (now (scene .entry)) i) ⌝ }
 {
-    let at = index[RECORDS + i];
-    let head = index[HEADS + i];
+    let at = record_of(scene, index, Kind::Fluid, i);
+    let head = head_of(scene, index, i);
     let density0 = read::double(scene, head + DENSITY0);
     let fluids = read::byte(scene, at + FLUID_CONTACTS);
     match kind {
@@ -72,6 +72,9 @@ pub fn target_of(scene: &[u8], index: &[usize], kind: Kind, at: usize) -> usize
     let block = MODEL_BLOCKS * model + particle / BLOCK_SIZE;
     match kind {
         Kind::Fluid => index[FLUID_BASES + block] + particle % BLOCK_SIZE,
-        Kind::Boundary => index[BOUNDARY_BASES + block] + particle % BLOCK_SIZE,
+        Kind::Boundary => {
+            let bases = index[BOUNDARY_BASES];
+            index[bases + block] + particle % BLOCK_SIZE
+        }
     }
 }

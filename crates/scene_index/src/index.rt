@@ -12,37 +12,45 @@ use scene_layout::Layout;
 use scene_layout::Models;
 ghost use mathlib.Core.Path.{_≡_};
 ghost use mathlib.Core.List.{map};
-ghost use Prim.Native.Nat.{ℕ, _+_, _≤_};
+ghost use Prim.Native.Nat.{ℕ, _+_, _*_, _≤_};
 ghost use lib.ListN.{length, getD, replicate};
 ghost use lib.Seq.{sets};
 ghost use Rattle.scene_check.specs.Check.{Passed};
-ghost use Rattle.scene_format.specs.Format.{mostOfAKind, particlesAt, modelLocations, locationsOf};
+ghost use Rattle.scene_format.specs.Format.{mostOfAKind, nameableModels, particlesAt, modelLocations, locationsOf};
 ghost use Rattle.scene_format.specs.Within.{ModelWithin, ModelsWithin};
 ghost use Rattle.scene_layout.specs.Layout.{layoutModels};
-ghost use Rattle.scene_index.specs.Index.{basesLength, basesOf, entryOf, entriesOf, indexLength, indexOf};
+ghost use Rattle.scene_index.specs.Index.{modelBlocks, startsLength, sectionsOf, startNumbers, basesOf};
+ghost use Rattle.scene_index.specs.Index.{entryOf, entriesOf, indexNeeded, indexOf};
 
 // The names of a model's particles fall into blocks of so many numbers, and so many blocks.
 pub const BLOCK_SIZE: usize = 256;
 
 pub const MODEL_BLOCKS: usize = NAMEABLE_PARTICLES / BLOCK_SIZE;
 
-// The bases of a kind: one for each block of names.
-const BASES_LENGTH: usize = NAMEABLE_MODELS * MODEL_BLOCKS;
-
 const MAX_OF_A_KIND: usize = MAX_MODELS * MAX_PARTICLES;
 
-// Where the sections begin, and how long the index is.
-pub const FLUID_BASES: usize = 0;
+// The first numbers of the index say where its sections begin, but for the bases of the fluids, which stand behind them.
+pub const BOUNDARY_BASES: usize = 0;
 
-pub const BOUNDARY_BASES: usize = BASES_LENGTH;
+pub const RECORDS: usize = 1;
 
-pub const RECORDS: usize = 2 * BASES_LENGTH;
+pub const HEADS: usize = 2;
 
-pub const HEADS: usize = RECORDS + MAX_OF_A_KIND;
+pub const BOUNDARY_RECORDS: usize = 3;
 
-pub const BOUNDARY_RECORDS: usize = HEADS + MAX_OF_A_KIND;
+pub const FLUID_BASES: usize = 4;
 
-pub const INDEX_LENGTH: usize = BOUNDARY_RECORDS + MAX_OF_A_KIND;
+// No accepted scene needs a longer index.
+pub const LONGEST_INDEX: usize = FLUID_BASES + 2 * (MODEL_BLOCKS * MAX_MODELS) + 3 * MAX_OF_A_KIND;
+
+// Where the sections of an index begin, and how long it is.
+pub struct Sections {
+    pub boundary_bases: usize,
+    pub records: usize,
+    pub heads: usize,
+    pub boundary_records: usize,
+    pub end: usize,
+}
 
 // What the index holds of each record.
 enum Entry {
@@ -52,14 +60,47 @@ enum Entry {
     Head,
 }
 
-// The bases of one kind, from element k on: of each block of contacts' names.
-fn fill_bases(starts: [usize; NAMEABLE_MODELS], k: usize, index: &mut [usize])
-    requires { ⌜ k + basesLength ≤ length (now index) ⌝ }
-    requires { ⌜ ((m : ℕ) → getD starts m 0 ≤ mostOfAKind) ⌝ }
-    ensures { λ _. ⌜ now (index .exit) ≡ sets (now (index .entry)) k (basesOf starts) ⌝ }
+// The sections of the index of a scene with this layout.
+pub fn sections_of(scene: &[u8], layout: Layout) -> Sections
+    requires { ⌜ Passed (now scene) layout ⌝ }
+    ensures { λ r. ⌜ r ≡ sectionsOf (now (scene .entry)) ⌝ }
 {
+    let fluids = layout.fluids;
+    let boundaries = layout.boundaries;
+    let boundary_bases = FLUID_BASES + MODEL_BLOCKS * fluids.number;
+    let records = boundary_bases + MODEL_BLOCKS * boundaries.number;
+    let heads = records + fluids.total;
+    let boundary_records = heads + fluids.total;
+    let end = boundary_records + boundaries.total;
+    Sections {
+        boundary_bases,
+        records,
+        heads,
+        boundary_records,
+        end,
+    }
+}
+
+// The numbers in front.
+fn put_starts(sections: Sections, index: &mut [usize])
+    requires { ⌜ startsLength ≤ length (now index) ⌝ }
+    ensures { λ _. ⌜ now (index .exit) ≡ sets (now (index .entry)) 0 (startNumbers sections) ⌝ }
+{
+    index[BOUNDARY_BASES] = sections.boundary_bases;
+    index[RECORDS] = sections.records;
+    index[HEADS] = sections.heads;
+    index[BOUNDARY_RECORDS] = sections.boundary_records;
+}
+
+// The bases of one kind, from element k on: of each block of the names of so many models.
+fn fill_bases(starts: [usize; NAMEABLE_MODELS], number: usize, k: usize, index: &mut [usize])
+    requires { ⌜ (number ≤ nameableModels) × (k + modelBlocks * number ≤ length (now index)) ⌝ }
+    requires { ⌜ ((m : ℕ) → getD starts m 0 ≤ mostOfAKind) ⌝ }
+    ensures { λ _. ⌜ now (index .exit) ≡ sets (now (index .entry)) k (basesOf number starts) ⌝ }
+{
+    let end = MODEL_BLOCKS * number;
     let mut x = 0;
-    while x < BASES_LENGTH {
+    while x < end {
         index[k + x] = starts[x / MODEL_BLOCKS] + BLOCK_SIZE * (x % MODEL_BLOCKS);
         x += 1;
     }
@@ -144,25 +185,31 @@ fn fill_models(
     }
 }
 
-// The whole index.
+// The whole index, in front of a list.
 pub fn fill(scene: &[u8], layout: Layout, index: &mut [usize])
-    requires { ⌜ Passed (now scene) layout × (indexLength ≤ length (now index)) ⌝ }
-    ensures { λ _. ⌜ now (index .exit) ≡ indexOf (now (scene .entry)) (now (index .entry)) ⌝ }
+    requires { ⌜ Passed (now scene) layout × (indexNeeded (now scene) ≤ length (now index)) ⌝ }
+    ensures { λ _. ⌜ now (index .exit) ≡ sets (now (index .entry)) 0 (indexOf (now (scene .entry))) ⌝ }
 {
     let fluids = layout.fluids;
     let boundaries = layout.boundaries;
     let fluid_starts = fluids.starts;
     let boundary_starts = boundaries.starts;
-    fill_bases(fluid_starts, FLUID_BASES, index);
-    fill_bases(boundary_starts, BOUNDARY_BASES, index);
-    fill_models(scene, Kind::Fluid, Entry::Offset, fluids, RECORDS, index);
-    fill_models(scene, Kind::Fluid, Entry::Head, fluids, HEADS, index);
+    let sections = sections_of(scene, layout);
+    let bases = sections.boundary_bases;
+    let records = sections.records;
+    let heads = sections.heads;
+    let boundary_records = sections.boundary_records;
+    put_starts(sections, index);
+    fill_bases(fluid_starts, fluids.number, FLUID_BASES, index);
+    fill_bases(boundary_starts, boundaries.number, bases, index);
+    fill_models(scene, Kind::Fluid, Entry::Offset, fluids, records, index);
+    fill_models(scene, Kind::Fluid, Entry::Head, fluids, heads, index);
     fill_models(
         scene,
         Kind::Boundary,
         Entry::Offset,
         boundaries,
-        BOUNDARY_RECORDS,
+        boundary_records,
         index,
     );
 }

@@ -2,3 +2,4 @@
 // functions are for the crates of the method, which show what they ask: an accepted scene with its layout or its index.
 pub mod contacts;
 pub mod index;
+pub mod records;

@@ -3,39 +3,43 @@ use mathlib.Core.Path.{_∙_}
 use native.Mathlib.Omega.{arith}
 use denote.Ref.{now}
 use Rattle.scene_check.specs.Accepted.{FluidParticleOk}
-use Rattle.scene_index.proofs.ContactLists.{indexedLocation}
-use Rattle.iisph_rows.proofs.Particles.{over-here, advected-made}
+use Rattle.scene_format.specs.Format.{locationOf}
+use Rattle.scene_format.specs.declared.Kind.the-variants.{Fluid}
+use Rattle.iisph_rows.proofs.Particles.{record-asked, record-here, advected-made}
 use borrow.Author.Needs.{needs}
 use Rattle.iisph_rows.proofs.records.advected_of.Statement.{statement}
 use Rattle.iisph_rows.proofs.records.advected_of.Tie as tie
 
--- the particle's record, by what the index says of it
-here : (c : tie.Start)
-    → FluidParticleOk (now (c .args .scene)) (indexedLocation (now (c .args .index)) (c .args .i)) (c .args .i)
-here c = over-here (c .pre .0 .timed .over) (c .args .i) (c .pre .1)
+abbrev Begin : tie.After-record-of → tie.Start
+Begin c = c .before .before .before
 
-abbrev Begin : tie.After-velocity-change-of → tie.Start
-Begin c = c .before .before .before .before
+-- the particle's record, where the index says
+here : (c : tie.After-record-of)
+    → let a = Begin c .args in
+    FluidParticleOk (now (a .scene))
+    (record { head = locationOf Fluid (now (a .scene)) (a .i) .head; at = c .record-of .result }) (a .i)
+here c = record-here (Begin c .pre .0 .timed .over) (Begin c .pre .1) (c .record-of .ensures)
+
+record-of-requires : tie.Need-record-of-requires
+record-of-requires c κs = let p = c .before .before .pre in record-asked (p .0 .timed .over) (p .1)
 
 add-vector : tie.Need-add-vector
-add-vector c = omega (arith, here (Begin c) .own .counts)
+add-vector c = omega (arith, here (c .before) .own .counts)
 
 vector-requires : tie.Need-vector-requires
-vector-requires c κs = here (Begin c) .own .velocity
+vector-requires c κs = here (c .before) .own .velocity
 
 returns : tie.Need-returns
 returns c =
     let v = c .before in
-    c .add .ensures
-    ∙ advected-made (here (Begin (v .before))) (v .vector .ensures) (v .before .velocity-change-of .ensures)
+    let w = v .before in
+    c .add .ensures ∙ advected-made (here (w .before)) (v .vector .ensures) (w .velocity-change-of .ensures)
 
 pub advected-of-spec : {M : Type 1} → statement M
 advected-of-spec =
     tie.close
     (tie.spec
-    (λ c. search needs)
-    (λ c. search needs)
-    (λ c. search needs)
+    record-of-requires
     (λ c κs. search needs)
     add-vector
     vector-requires

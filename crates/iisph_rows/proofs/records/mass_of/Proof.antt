@@ -3,45 +3,42 @@
 use native.Mathlib.Omega.{arith}
 use denote.Ref.{now}
 use Rattle.scene_check.specs.Accepted.{FluidParticleOk}
-use Rattle.scene_index.proofs.ContactLists.{indexedLocation}
-use Rattle.iisph_rows.proofs.Particles.{over-here, mass-made}
+use Rattle.iisph_rows.proofs.Particles.{record-asked, head-asked, over-here, mass-made}
 use borrow.Author.Needs.{needs}
 use Rattle.iisph_rows.proofs.records.mass_of.Statement.{statement}
 use Rattle.iisph_rows.proofs.records.mass_of.Tie as tie
 
--- the particle's record, by what the index says of it
-here : (c : tie.Start)
-    → FluidParticleOk (now (c .args .scene)) (indexedLocation (now (c .args .index)) (c .args .i)) (c .args .i)
-here c = over-here (c .pre .0) (c .args .i) (c .pre .1)
+abbrev Begin : tie.After-head-of → tie.Start
+Begin c = c .before .before .before .before
+
+-- the particle's record and head, where the index says
+here : (c : tie.After-head-of)
+    → let a = Begin c .args in
+    FluidParticleOk (now (a .scene)) (record { head = c .head-of .result; at = c .before .record-of .result }) (a .i)
+here c = over-here (Begin c .pre .0) (Begin c .pre .1) (c .before .record-of .ensures) (c .head-of .ensures)
+
+record-of-requires : tie.Need-record-of-requires
+record-of-requires c κs = let p = c .before .before .pre in record-asked (p .0) (p .1)
+
+head-of-requires : tie.Need-head-of-requires
+head-of-requires c κs = let p = c .before .before .before .pre in head-asked (p .0) (p .1)
 
 add-double : tie.Need-add-double
-add-double c = omega (arith, here (c .before .before .before .before) .own .counts)
+add-double c = omega (arith, here c .own .counts)
 
 double-requires : tie.Need-double-requires
-double-requires c κs = here (c .before .before .before .before) .own .volume
+double-requires c κs = here c .own .volume
 
 add-double-2 : tie.Need-add-double-2
-add-double-2 c = omega (arith, here (c .before .before .before .before .before) .density0 .present)
+add-double-2 c = omega (arith, here (c .before) .density0 .present)
 
 double-requires-2 : tie.Need-double-requires-2
-double-requires-2 c κs = here (c .before .before .before .before .before) .density0
+double-requires-2 c κs = here (c .before) .density0
 
 returns : tie.Need-returns
-returns c = mass-made (here (c .before .before .before .before .before .before)) (c .before .double .ensures)
-    (c .double2 .ensures)
+returns c = mass-made (here (c .before .before)) (c .before .double .ensures) (c .double2 .ensures)
 
 pub mass-of-spec : {M : Type 1} → statement M
 mass-of-spec =
     tie.close
-    (tie.spec
-    (λ c. search needs)
-    (λ c. search needs)
-    (λ c. search needs)
-    (λ c. search needs)
-    (λ c. search needs)
-    (λ c. search needs)
-    add-double
-    double-requires
-    add-double-2
-    double-requires-2
-    returns)
+    (tie.spec record-of-requires head-of-requires add-double double-requires add-double-2 double-requires-2 returns)

@@ -1,18 +1,18 @@
 -- `scene_index::index::fill_bases` meets its contract: base by base. Assumes nothing.
-use Prim.Native.Nat.{_-_, _/_}
+use Prim.Native.Nat.{_*_, _-_, _/_}
 use mathlib.Core.Path.{refl}
 use native.Mathlib.Omega.{arith}
-use Rattle.scene_index.specs.Index.{modelBlocks, basesLength, baseOf, basesOf}
+use Rattle.scene_index.specs.Index.{modelBlocks, baseOf, basesOf}
 use Rattle.lists.proofs.Fills.{Filling, none-stored, one-more-stored, all-stored}
 use borrow.Author.Needs.{needs}
 use Rattle.scene_index.proofs.index.fill_bases.Statement.{statement}
 use Rattle.scene_index.proofs.index.fill_bases.Tie as tie
 
 abbrev Inv-loop : tie.InvT-loop
-Inv-loop k index₀ starts x₀ index x = Filling index₀ k (baseOf starts) basesLength x index
+Inv-loop number k index₀ starts end x₀ index x = Filling index₀ k (baseOf starts) (modelBlocks * number) x index
 
 abbrev μ-loop : tie.MeasureT-loop
-μ-loop k index₀ starts x₀ index x = basesLength - x
+μ-loop number k index₀ starts end x₀ index x = modelBlocks * number - x
 
 loop-holds : tie.Need-loop-holds Inv-loop μ-loop
 loop-holds c = none-stored _ _ _ _
@@ -34,6 +34,7 @@ fill-bases-spec =
     (tie.spec
     Inv-loop
     μ-loop
+    (λ c. search needs)
     loop-holds
     (λ c. search needs)
     (λ c. search needs)
