@@ -5,7 +5,6 @@ use mathlib.Core.Path.{_≡_, ap, _∙_}
 use mathlib.Core.List.{List}
 use native.Mathlib.Omega.{arith}
 use lib.Ieee.{Float}
-use lib.ListN.{getD}
 use Rattle.iisph_rows.specs.Passes.{PassOver, CoefficientsReady}
 use Rattle.iisph_rows.specs.Rows.{dijSlot, massSlot, rowAt, elementAt, vectorFrom}
 use Rattle.iisph_rows.proofs.RowReads.{mass-at, volume-at, advected-at}
@@ -13,12 +12,11 @@ use Rattle.iisph_rules.specs.Coefficients.{fluidMass, boundaryMass}
 use Rattle.iisph_rules.proofs.Sizes.{length-advected}
 use Rattle.math.specs.Real.{_⊗_}
 use Rattle.scene_format.specs.Bytes.{vectorAt}
-use Rattle.scene_format.specs.Format.{axes, startsOf}
+use Rattle.scene_format.specs.Format.{axes, startsOf, locationOf}
 use Rattle.scene_format.specs.SceneOf.{targetAt, contactAt, sceneOf}
 use Rattle.scene_format.specs.declared.Kind.{Kind}
 use Rattle.scene_format.specs.declared.Kind.the-variants.{Fluid, Boundary}
 use Rattle.scene_index.specs.Contacts.{ContactReady}
-use Rattle.scene_index.specs.Index.{recordsAt}
 use Rattle.scene_index.proofs.Targets.{fluid-named, boundary-named, boundary-velocity-at}
 use Rattle.iisph_coefficients.specs.Neighbours.{massOf, velocityOf}
 
@@ -44,8 +42,8 @@ module _ {κ : Kind} {b index : List ℕ} {at j : ℕ} (ready : ContactReady κ 
       let h = fluid-named ready named e in
       advected-at p j (omega (arith, pass .size)) (length-advected b j h) ∙ rw (named, e)
 
-  pub boundary-velocity : κ ≡ Boundary
-      → vectorAt axes b (getD index (recordsAt Boundary + j) 0)
-      ≡ velocityOf κ (sceneOf b) (contactAt (startsOf κ b) b at)
+  -- in the boundary particle's record
+  pub boundary-velocity : κ ≡ Boundary → {from : ℕ} → from ≡ locationOf Boundary b j .at
+      → vectorAt axes b from ≡ velocityOf κ (sceneOf b) (contactAt (startsOf κ b) b at)
   unfolding velocityOf contactAt
-  boundary-velocity e = boundary-velocity-at (pass .indexed) j (boundary-named ready named e) ∙ rw (named, e)
+  boundary-velocity e q = boundary-velocity-at (pass .indexed) (boundary-named ready named e) q ∙ rw (named, e)

@@ -31,10 +31,9 @@ use Rattle.scene_format.specs.Scene.{Scene, fluidSize, boundarySize, boundary}
 use Rattle.scene_format.specs.SceneOf.{forceAt, boundaryParticleAt, sceneOf}
 use Rattle.scene_format.specs.declared.Kind.the-variants.{Boundary}
 use Rattle.scene_format.specs.declared.Walk.the-variants.{At}
-use Rattle.scene_index.specs.Index.{recordsAt, Indexed}
+use Rattle.scene_index.specs.Index.{Indexed}
 use Rattle.scene_index.proofs.Indexes.{boundaries-are}
 use Rattle.scene_index.proofs.Runs.{before, keeps-at, none-before, all-before, start-before, count-next, boundary-run}
-use Rattle.scene_index.proofs.Targets.{boundary-record-at}
 use Rattle.scene_layout.specs.declared.Layout.{Layout}
 use Rattle.scene_layout.proofs.Locations.{boundary-at}
 use Rattle.scene_lengths.specs.Lengths.{fluidAnswerWidth, answerWidth, boundaryAnswerWidth, answersNeeded}
@@ -67,17 +66,18 @@ module _ {b index : List ℕ} (ix : Indexed b index) (j : ℕ) (h : j < boundary
   keeps-one : keepsAt b (locationOf Boundary b j .head) ≡ 1
   keeps-one = eqb-true _ 1 (sym (keeps-at b j h) ∙ kept)
 
-  pub force-finite : AllFinite b (getD index (recordsAt Boundary + j) 0 + forceOffset axes) axes
-  force-finite =
-      rw (boundary-record-at ix j h)
+  -- where `record_of` says
+  pub force-finite : {at : ℕ} → at ≡ locationOf Boundary b j .at → AllFinite b (at + forceOffset axes) axes
+  force-finite e =
+      rw e
       (subst (λ (k : ℕ). AllFinite b (locationOf Boundary b j .at + forceOffset axes) (axes * k)) keeps-one
       (boundary-particle-ok b (ix .accepted) j h .own .force))
 
-  pub force-here : vectorAt axes b (getD index (recordsAt Boundary + j) 0 + forceOffset axes)
-      ≡ boundary (sceneOf b) j .force
+  pub force-here : {at : ℕ} → at ≡ locationOf Boundary b j .at
+      → vectorAt axes b (at + forceOffset axes) ≡ boundary (sceneOf b) j .force
   unfolding boundaryParticleAt
-  force-here =
-      ap (λ (at : ℕ). vectorAt axes b (at + forceOffset axes)) (boundary-record-at ix j h)
+  force-here e =
+      ap (λ (at : ℕ). vectorAt axes b (at + forceOffset axes)) e
       ∙ force-read b _ (locationOf Boundary b j .at + forceOffset axes) keeps-one
       ∙ sym (ap (λ p. p .force) (boundary-at b j h))
 

@@ -6,13 +6,13 @@ use mathlib.Core.List.{List}
 use native.Mathlib.Omega.{arith}
 use lib.Ieee.{Float}
 use lib.ListN.{length, drop, replicate, length-replicate}
-use lib.Seq.{drop-at}
+use lib.Seq.{sets, drop-at}
 use Rattle.math.specs.Real.{+0}
 use Rattle.scene_format.specs.Scene.{fluidSize}
 use Rattle.scene_format.specs.SceneOf.{sceneOf}
 use Rattle.scene_check.specs.Check.{Passed}
 use Rattle.scene_layout.specs.declared.Layout.{Layout}
-use Rattle.scene_index.specs.Index.{indexLength, indexOf}
+use Rattle.scene_index.specs.Index.{indexNeeded, indexOf}
 use Rattle.scene_index.proofs.Indexes.{indexed}
 use Rattle.scene_lengths.specs.Lengths.{workNeeded}
 use Rattle.scene_lengths.proofs.Needed.{fluids-total, work-needed}
@@ -29,7 +29,7 @@ use Rattle.iisph_preparation.proofs.RowsFilled.{drop-prepared}
 
 -- the filled index and the layout's number of fluid particles are what a pass goes over
 pub indexed-over : {b : List ℕ} {layout : Layout} → Passed b layout → (l : List ℕ) {index : List ℕ}
-    → indexLength ≤ length l → index ≡ indexOf b l → PassOver b index (layout .fluids .total)
+    → indexNeeded b ≤ length l → index ≡ sets l 0 (indexOf b) → PassOver b index (layout .fluids .total)
 indexed-over passed l room e = record { indexed = rw e (indexed passed l room); size = fluids-total passed }
 
 -- what a pass may rely on, with the header's clock and gravity

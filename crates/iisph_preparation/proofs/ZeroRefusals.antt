@@ -8,7 +8,7 @@ use mathlib.Core.List.{List, _++_, map}
 use native.Mathlib.Nat.{zero-add}
 use native.Mathlib.Omega.{arith}
 use lib.Ieee.{Float, nan}
-use lib.ListN.{length, length-map, getD, drop, replicate}
+use lib.ListN.{length, getD, drop, replicate}
 use lib.Seq.{sets, length-sets}
 use Rattle.math.specs.Real.{+0}
 use Rattle.lists.specs.Lists.{choose}
@@ -19,9 +19,7 @@ use Rattle.scene_format.specs.SceneOf.{sceneOf}
 use Rattle.scene_lengths.specs.Lengths.{workNeeded}
 use Rattle.scene_format.specs.declared.Kind.the-variants.{Fluid}
 use Rattle.scene_format.specs.declared.Refusal.{Refusal}
-use Rattle.scene_format.specs.declared.Refusal.the-variants.{ZeroDensity, ZeroPredictedDensity}
 use Rattle.iisph_rules.specs.Coefficients.{Coefficients, coefficientsOf, coefficients}
-use Rattle.scene_index.specs.Index.{recordsAt, Indexed}
 use Rattle.iisph_rows.specs.Passes.{volumes}
 use Rattle.iisph_coefficients.specs.Neighbours.{coefficientRow}
 use Rattle.iisph_preparation.specs.Prepare.{rowsFilled, prepared, workPrepared, readiness, zeroAnswer}
@@ -32,11 +30,9 @@ use Rattle.iisph_rules.specs.declared.StepAnswer.{StepAnswer}
 use Rattle.iisph_rules.specs.declared.StepAnswer.the-variants as answer
 use Rattle.iisph_preparation.specs.declared.Readiness.{Readiness}
 use Rattle.iisph_preparation.specs.declared.Readiness.the-variants.{Ready, Refused}
-use Rattle.scene_index.proofs.Targets.{fluid-record-at}
 use Rattle.scene_lengths.proofs.Needed.{work-needed}
 use Rattle.lists.proofs.RowParts.{rows-column}
 use Rattle.iisph_preparation.proofs.RowsFilled.{part-stored, drop-prepared, coefficient-rows}
-use Rattle.iisph_rows.proofs.FirstZero.{unless-same}
 
 -- ---- the list, call by call
 
@@ -93,37 +89,14 @@ module _ (b : List ℕ) (l : List Float)
         (λ k. k .predictedDensity) (λ i. (omega arith, refl)),
   )
 
-  -- the index gives the offset of each particle's record
-  offsets-same : {index : List ℕ} → Indexed b index → (x : Coefficients → Float) (i : ℕ)
-      → i < length (map x (coefficients (sceneOf b)))
-      → getD index (recordsAt Fluid + i) 0 ≡ locationOf Fluid b i .at
-  unfolding coefficients
-  offsets-same ix x i m =
-      let n = length-map (coefficients (sceneOf b)) x in
-      fluid-record-at ix i
-      (omega (
-        arith,
-        n,
-        length-table (fluidSize (sceneOf b))
-            (λ i. coefficientsOf (sceneOf b) (particle (sceneOf b) i)),
-      ))
-
   -- refusals 9 and 10 over the columns are the step's
-  pub answer-made : {index : List ℕ} {n : ℕ} {z : List Float} {r : Readiness} → Indexed b index
-      → n ≡ fluidSize (sceneOf b) → z ≡ prepared (sceneOf b) l
+  pub answer-made : {n : ℕ} {z : List Float} {r : Readiness} → n ≡ fluidSize (sceneOf b) → z ≡ prepared (sceneOf b) l
       → ((report : Report)
       → r ≡ readiness
-      (zeroAnswer (λ i. getD index (recordsAt Fluid + i) 0) (column n densitySlot z) (column n predictedSlot z) report))
+      (zeroAnswer (λ i. locationOf Fluid b i .at) (column n densitySlot z) (column n predictedSlot z) report))
       → r ≡ readiness (sceneAnswer (λ i. locationOf Fluid b i .at) (sceneOf b))
   unfolding sceneAnswer
-  answer-made {index} {n} {z} {r} ix size e h =
-      let at : ℕ → ℕ = λ i. getD index (recordsAt Fluid + i) 0 in
-      let place : ℕ → ℕ = λ i. locationOf Fluid b i .at in
-      let given = rw (size, e, columns .0, columns .1) at (h (reportOf (sceneOf b))) in
-      given
-      ∙ ap readiness
-      (unless-same at place ZeroDensity _ (offsets-same ix (λ k. k .density))
-      (unless-same at place ZeroPredictedDensity _ (offsets-same ix (λ k. k .predictedDensity)) refl))
+  answer-made size e h = rw (size, e, columns .0, columns .1) at (h (reportOf (sceneOf b)))
 
 -- ---- what the answer says of the step's
 

@@ -11,25 +11,26 @@ use iisph_rows::zeros::Found;
 use iisph_rows::zeros::clear;
 use iisph_rows::zeros::first_zero;
 use math::Vec3;
+use scene_format::Kind;
 use scene_format::Refusal;
-use scene_index::index::RECORDS;
 use scene_index::index::fill;
+use scene_index::records::record_of;
 use scene_layout::Layout;
 use scene_lengths::lengths_of;
 use timestep_manager::Clock;
 ghost use mathlib.Core.Path.{_≡_};
 ghost use Prim.Native.Nat.{ℕ, _+_, _≤_};
-ghost use lib.ListN.{length, getD};
+ghost use lib.ListN.{length};
 ghost use Rattle.iisph_header.specs.Header.{StepHeaderIs};
-ghost use Rattle.iisph_rows.specs.Passes.{DrivenPass, Room, volumes};
+ghost use Rattle.iisph_rows.specs.Passes.{PassOver, DrivenPass, Room, volumes};
 ghost use Rattle.iisph_rows.specs.Rows.{densitySlot, predictedSlot, rowAt, column, Behind};
 ghost use Rattle.iisph_rules.specs.Step.{sceneAnswer};
 ghost use Rattle.iisph_rules.specs.declared.Report.{Report};
 ghost use Rattle.scene_check.specs.Check.{Passed};
-ghost use Rattle.scene_format.specs.Format.{mostOfAKind, locationOf};
+ghost use Rattle.scene_format.specs.Format.{locationOf};
 ghost use Rattle.scene_format.specs.SceneOf.{sceneOf};
 ghost use Rattle.scene_format.specs.declared.Kind.the-variants.{Fluid};
-ghost use Rattle.scene_index.specs.Index.{indexLength, recordsAt};
+ghost use Rattle.scene_index.specs.Index.{indexNeeded};
 ghost use Rattle.scene_lengths.specs.Lengths.{workNeeded};
 ghost use Rattle.iisph_preparation.specs.Prepare.{rowsFilled, readiness, workPrepared, zeroAnswer, Prepares};
 
@@ -52,24 +53,32 @@ fn fill_rows(scene: &[u8], index: &[usize], n: usize, clock: Clock, gravity: Vec
 
 // Two searches, one after the other: refusal 9 in the densities, 10 in the predicted ones. Each gives the offset of the
 // particle's record.
-fn zero_refusal(index: &[usize], n: usize, work: &[f64]) -> Readiness
-    requires { ⌜ (indexLength ≤ length (now index)) × (n ≤ mostOfAKind) × (rowAt n ≤ length (now work)) ⌝ }
+fn zero_refusal(scene: &[u8], index: &[usize], n: usize, work: &[f64]) -> Readiness
+    requires { ⌜ PassOver (now scene) (now index) n × (rowAt n ≤ length (now work)) ⌝ }
     ensures { λ r. ⌜
         ((report : Report) →
-        (let at : ℕ → ℕ = λ i. getD (now (index .entry)) (recordsAt Fluid + i) 0 in
+        (let at : ℕ → ℕ = λ i. locationOf Fluid (now (scene .entry)) i .at in
         let l = now (work .entry) in
         r ≡ readiness (zeroAnswer at (column n densitySlot l) (column n predictedSlot l) report)))
         ⌝ }
 {
     let density = first_zero(work, n, DENSITY);
     match density {
-        Found::At(i) => Readiness::Refused(Refusal::ZeroDensity(index[RECORDS + i])),
+        Found::At(i) => Readiness::Refused(Refusal::ZeroDensity(record_of(
+            scene,
+            index,
+            Kind::Fluid,
+            i,
+        ))),
         Found::Nothing => {
             let predicted = first_zero(work, n, PREDICTED_DENSITY);
             match predicted {
-                Found::At(j) => Readiness::Refused(Refusal::ZeroPredictedDensity(
-                    index[RECORDS + j],
-                )),
+                Found::At(j) => Readiness::Refused(Refusal::ZeroPredictedDensity(record_of(
+                    scene,
+                    index,
+                    Kind::Fluid,
+                    j,
+                ))),
                 Found::Nothing => Readiness::Ready,
             }
         }
@@ -96,7 +105,7 @@ fn prepare_rows(
 {
     compute_boundary_volumes(scene, layout, index, n, work);
     fill_rows(scene, index, n, clock, gravity, work);
-    let answer = zero_refusal(index, n, work);
+    let answer = zero_refusal(scene, index, n, work);
     match answer {
         Readiness::Ready => Readiness::Ready,
         Readiness::Refused(refusal) => {
@@ -116,7 +125,7 @@ pub fn prepare(
     work: &mut [f64],
 ) -> Readiness
     requires { ⌜ Passed (now scene) layout × StepHeaderIs (sceneOf (now scene)) header ⌝ }
-    requires { ⌜ (indexLength ≤ length (now index)) × (workNeeded (sceneOf (now scene)) ≤ length (now work)) ⌝ }
+    requires { ⌜ (indexNeeded (now scene) ≤ length (now index)) × (workNeeded (sceneOf (now scene)) ≤ length (now work)) ⌝ }
     ensures { λ r. ⌜ Prepares (now (scene .entry)) (now (work .entry)) r (now (index .exit)) (now (work .exit)) ⌝ }
 {
     let clock = header.clock;

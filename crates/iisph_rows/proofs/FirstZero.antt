@@ -80,18 +80,3 @@ module _ (at : ℕ → ℕ) (refusal : ℕ → Refusal) (xs : List Float) (answe
   pub unless-nothing : Nothing ≡ foundBelow n (firstZero xs) → unlessZero at refusal xs answer ≡ answer
   unfolding unlessZero choose foundBelow
   unless-nothing e = rw (size, nothing-go n (firstZero xs) (ltb (firstZero xs) n) refl e)
-
--- offsets that agree on the list's numbers, and equal answers where there is no zero
-unless-go : (at at′ : ℕ → ℕ) (refusal : ℕ → Refusal) (n j : ℕ) {x y : StepAnswer} (t : Bool) → ltb j n ≡ t
-    → ((i : ℕ) → i < n → at i ≡ at′ i) → x ≡ y
-    → choose t (Refused (refusal (at j))) x ≡ choose t (Refused (refusal (at′ j))) y
-unfolding choose
-unless-go at at′ refusal n j true q h e = ap (λ (k : ℕ). Refused (refusal k)) (h j (ltb-true j n q))
-unless-go at at′ refusal n j false q h e = e
-
-pub unless-same : (at at′ : ℕ → ℕ) (refusal : ℕ → Refusal) (xs : List Float) {x y : StepAnswer}
-    → ((i : ℕ) → i < length xs → at i ≡ at′ i) → x ≡ y
-    → unlessZero at refusal xs x ≡ unlessZero at′ refusal xs y
-unfolding unlessZero
-unless-same at at′ refusal xs h e =
-    unless-go at at′ refusal (length xs) (firstZero xs) (ltb (firstZero xs) (length xs)) refl h e

@@ -1,7 +1,7 @@
 -- The sections of the index: each begins where those before it end, since the index is one list that they make up; so
 -- storing them one by one is storing it, and each holds its part of it. By what stands before and behind the place
 -- where two lists meet. Assumes nothing.
-use Prim.Native.Nat.{ℕ, _+_, _<_, _≤_}
+use Prim.Native.Nat.{ℕ, _+_}
 use mathlib.Core.Path.{_≡_, refl, sym, ap, _∙_}
 use mathlib.Core.List.{List, _++_}
 use native.Mathlib.Nat.{add-assoc}
@@ -17,7 +17,7 @@ use Rattle.scene_format.specs.SceneOf.{sceneOf}
 use Rattle.scene_format.specs.declared.Kind.{Kind}
 use Rattle.scene_format.specs.declared.Kind.the-variants.{Fluid, Boundary}
 use Rattle.scene_layout.proofs.Locations.{size-locations}
-use Rattle.scene_index.specs.Index.{startsLength, basesLength, basesAt, fluidRecordsAt, headsAt, recordsAt}
+use Rattle.scene_index.specs.Index.{startsLength, basesLength, basesAt, headsAt, recordsAt}
 use Rattle.scene_index.specs.Index.{indexNeeded, sectionsOf, baseOf, basesOf, kindBases, entryOf, entriesOf}
 use Rattle.scene_index.specs.Index.{startNumbers, indexOf, Indexed}
 use Rattle.scene_index.specs.declared.index.Entry.{Entry}

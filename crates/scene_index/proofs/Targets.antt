@@ -24,7 +24,7 @@ use Rattle.scene_walk.specs.Accepted.{HeaderOk}
 use Rattle.scene_index.specs.Contacts.{ContactReady}
 use Rattle.scene_index.specs.Index.{blockSize, modelBlocks, basesLength, basesAt, headsAt, recordsAt}
 use Rattle.scene_index.specs.Index.{indexNeeded, baseOf, basesOf, entryOf, Indexed}
-use Rattle.scene_index.proofs.Sections.{length-bases, bases-part, records-part, heads-part, bases-begin}
+use Rattle.scene_index.proofs.Sections.{length-bases, bases-part, records-part, heads-part}
 use Rattle.scene_index.proofs.Sections.{records-begin, heads-begin, boundary-records-begin}
 use Rattle.scene_index.specs.declared.index.Entry.{Entry}
 use Rattle.scene_index.specs.declared.index.Entry.the-variants.{Offset, Head}

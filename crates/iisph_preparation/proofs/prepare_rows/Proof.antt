@@ -5,7 +5,6 @@ use mathlib.Core.Path.{_≡_, sym, ap, _∙_}
 use native.Mathlib.Omega.{arith}
 use denote.Ref.{now}
 use lib.ListN.{length}
-use Rattle.scene_format.specs.Format.{mostOfAKind}
 use Rattle.scene_format.specs.Scene.{fluidSize, boundarySize}
 use Rattle.scene_format.specs.SceneOf.{sceneOf}
 use Rattle.iisph_preparation.specs.Prepare.{prepared, workPrepared}
@@ -30,9 +29,6 @@ Filled c = c .before .before .before .before .before
 
 size : (b : tie.Start) → b .args .n ≡ fluidSize (sceneOf (now (b .args .scene)))
 size b = b .pre .0 .timed .over .size
-
-few : (b : tie.Start) → b .args .n ≤ mostOfAKind
-few b = omega (arith, size b, b .pre .0 .timed .over .indexed .fewFluid)
 
 room : (b : tie.Start)
     → rowAt (fluidSize (sceneOf (now (b .args .scene)))) + boundarySize (sceneOf (now (b .args .scene)))
@@ -69,7 +65,7 @@ zero-refusal-requires : tie.Need-zero-refusal-requires
 zero-refusal-requires c κs =
     let f = c .before .before .before in
     let b = Start-of f in
-    (b .pre .0 .timed .over .indexed .room, few b, omega (arith, b .pre .1 .1, ap length (made f), length-of b))
+    (b .pre .0 .timed .over, omega (arith, b .pre .1 .1, ap length (made f), length-of b))
 
 -- the length that the clearing goes by
 needed : (c : tie.After-lengths-of)
@@ -94,8 +90,8 @@ returns c =
     let f = z .before .before .before .before in
     let b = Start-of f in (
       sym (c .enum-told .given .1)
-          ∙ answer-made (now (b .args .scene)) (now (b .args .work)) (room b) (b .pre .0 .timed .over .indexed) (size b)
-          (made f) (z .zero-refusal .ensures),
+          ∙ answer-made (now (b .args .scene)) (now (b .args .work)) (room b) (size b) (made f)
+          (z .zero-refusal .ensures),
       made f,
     )
 
@@ -106,8 +102,8 @@ returns-2 c =
     let f = Filled (a .before) in
     let b = Start-of f in (
       sym (a .answer .given .1)
-          ∙ answer-made (now (b .args .scene)) (now (b .args .work)) (room b) (b .pre .0 .timed .over .indexed) (size b)
-          (made f) (a .before .before .zero-refusal .ensures),
+          ∙ answer-made (now (b .args .scene)) (now (b .args .work)) (room b) (size b) (made f)
+          (a .before .before .zero-refusal .ensures),
       work-cleared (now (b .args .scene)) (size b) (now (b .args .work)) _ (needed l) (made f)
           (c .before .before .clear .ensures),
     )

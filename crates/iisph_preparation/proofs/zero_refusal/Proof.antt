@@ -1,20 +1,19 @@
 -- `iisph_preparation::zero_refusal` meets its contract: each search's answer is the first zero of its column, or
 -- none. Assumes nothing.
-use Prim.Native.Nat.{ℕ, _+_}
+use Prim.Native.Nat.{ℕ}
 use mathlib.Core.Path.{_≡_, sym, ap, _∙_}
-use native.Mathlib.Omega.{arith}
 use denote.Ref.{now}
-use lib.ListN.{getD}
 use Rattle.lists.proofs.Lists.{length-table}
 use Rattle.scene_format.specs.declared.Refusal.the-variants.{ZeroDensity, ZeroPredictedDensity}
 use Rattle.iisph_preparation.specs.Prepare.{readiness}
-use Rattle.scene_index.specs.Index.{recordsAt}
+use Rattle.scene_format.specs.Format.{locationOf}
 use Rattle.scene_format.specs.declared.Kind.the-variants.{Fluid}
 use Rattle.iisph_rows.specs.Passes.{foundBelow}
 use Rattle.iisph_rows.specs.Rows.{densitySlot, predictedSlot, column}
 use Rattle.iisph_rules.specs.Step.{firstZero}
-use Rattle.iisph_rules.specs.declared.StepAnswer.the-variants.{Done}
+use Rattle.iisph_rules.specs.declared.StepAnswer.the-variants.{Done, Refused}
 use Rattle.iisph_rows.specs.declared.zeros.Found.the-variants.{At, Nothing}
+use Rattle.iisph_rows.proofs.Particles.{record-asked}
 use Rattle.iisph_rows.proofs.FirstZero.{found-lt, unless-found, unless-nothing}
 use borrow.Author.Needs.{needs}
 use Rattle.iisph_preparation.proofs.zero_refusal.Statement.{statement}
@@ -27,8 +26,8 @@ First b slot i = At i ≡ foundBelow (b .args .n) (firstZero (column (b .args .n
 abbrev None : tie.Start → ℕ → Type 0
 None b slot = Nothing ≡ foundBelow (b .args .n) (firstZero (column (b .args .n) slot (now (b .args .work))))
 
-abbrev Begin : tie.After-shared-slice-known2 → tie.Start
-Begin c = c .before .before
+abbrev Begin : tie.After-shared-slice-known3 → tie.Start
+Begin c = c .before .before .before
 
 found : (c : tie.After-known-told)
     → First (Begin (c .before .before .before .before)) densitySlot (c .before .density .given .0 .0)
@@ -45,23 +44,12 @@ found-2 c = sym (c .before .predicted .given .1) ∙ c .before .before .before .
 nothing-2 : (c : tie.After-enum-told2) → None (Begin (c .before .before .before .before .before .before)) predictedSlot
 nothing-2 c = sym (c .enum-told2 .given .1) ∙ c .before .before .first-zero2 .ensures
 
-add-t9 : tie.Need-add-t9
-add-t9 c = omega (arith, found-lt _ _ (found c))
+record-of-requires : tie.Need-record-of-requires
+record-of-requires c κs = record-asked (Begin (c .before .before .before .before) .pre .0) (found-lt _ _ (found c))
 
-mul-t10 : tie.Need-mul-t10
-mul-t10 c = omega (arith, found-lt _ _ (found c))
-
-shared-slice-read-t12 : tie.Need-shared-slice-read-t12
-shared-slice-read-t12 c = omega (arith, found-lt _ _ (found (c .before)))
-
-add-t15 : tie.Need-add-t15
-add-t15 c = omega (arith, found-lt _ _ (found-2 c))
-
-mul-t16 : tie.Need-mul-t16
-mul-t16 c = omega (arith, found-lt _ _ (found-2 c))
-
-shared-slice-read-t18 : tie.Need-shared-slice-read-t18
-shared-slice-read-t18 c = omega (arith, found-lt _ _ (found-2 (c .before)))
+record-of-requires-2 : tie.Need-record-of-requires-2
+record-of-requires-2 c κs =
+    record-asked (Begin (c .before .before .before .before .before .before .before) .pre .0) (found-lt _ _ (found-2 c))
 
 returns : tie.Need-returns
 unfolding readiness
@@ -70,8 +58,9 @@ returns c =
     let a = Begin (k .before .before .before .before) .args in
     λ report.
     sym (ap readiness
-    (unless-found (λ i. getD (now (a .index)) (recordsAt Fluid + i) 0) ZeroDensity
-    (column (a .n) densitySlot (now (a .work))) _ (length-table (a .n) _) (found k)))
+    (unless-found (λ i. locationOf Fluid (now (a .scene)) i .at) ZeroDensity
+    (column (a .n) densitySlot (now (a .work))) _ (length-table (a .n) _) (found k)
+    ∙ sym (ap (λ (at : ℕ). Refused (ZeroDensity at)) (c .record-of .ensures))))
 
 returns-2 : tie.Need-returns-2
 unfolding readiness
@@ -81,10 +70,11 @@ returns-2 c =
     let a = Begin (p .before .before .before) .args in
     λ report.
     sym (ap readiness
-    (unless-nothing (λ i. getD (now (a .index)) (recordsAt Fluid + i) 0) ZeroDensity
+    (unless-nothing (λ i. locationOf Fluid (now (a .scene)) i .at) ZeroDensity
     (column (a .n) densitySlot (now (a .work))) _ (length-table (a .n) _) (nothing p)
-    ∙ unless-found (λ i. getD (now (a .index)) (recordsAt Fluid + i) 0) ZeroPredictedDensity
-    (column (a .n) predictedSlot (now (a .work))) _ (length-table (a .n) _) (found-2 k)))
+    ∙ unless-found (λ i. locationOf Fluid (now (a .scene)) i .at) ZeroPredictedDensity
+    (column (a .n) predictedSlot (now (a .work))) _ (length-table (a .n) _) (found-2 k)
+    ∙ sym (ap (λ (at : ℕ). Refused (ZeroPredictedDensity at)) (c .record-of2 .ensures))))
 
 returns-3 : tie.Need-returns-3
 unfolding readiness
@@ -93,9 +83,9 @@ returns-3 c =
     let a = Begin (p .before .before .before) .args in
     λ report.
     sym (ap readiness
-    (unless-nothing (λ i. getD (now (a .index)) (recordsAt Fluid + i) 0) ZeroDensity
+    (unless-nothing (λ i. locationOf Fluid (now (a .scene)) i .at) ZeroDensity
     (column (a .n) densitySlot (now (a .work))) _ (length-table (a .n) _) (nothing p)
-    ∙ unless-nothing (λ i. getD (now (a .index)) (recordsAt Fluid + i) 0) ZeroPredictedDensity
+    ∙ unless-nothing (λ i. locationOf Fluid (now (a .scene)) i .at) ZeroPredictedDensity
     (column (a .n) predictedSlot (now (a .work))) (Done report) (length-table (a .n) _) (nothing-2 c)))
 
 pub zero-refusal-spec : {M : Type 1} → statement M
@@ -104,15 +94,11 @@ zero-refusal-spec =
     (tie.spec
     (λ c κs. search needs)
     (λ c. search needs)
-    add-t9
-    mul-t10
-    shared-slice-read-t12
+    record-of-requires
     (λ c. search needs)
     (λ c κs. search needs)
     (λ c. search needs)
-    add-t15
-    mul-t16
-    shared-slice-read-t18
+    record-of-requires-2
     (λ c. search needs)
     returns
     returns-2

@@ -5,7 +5,7 @@ use mathlib.Core.Path.{_∙_}
 use native.Mathlib.Omega.{arith}
 use borrow.Author.Needs.{needs}
 use denote.Ref.{now}
-use Rattle.scene_format.specs.Scene.{boundarySize}
+use Rattle.scene_format.specs.Scene.{boundarySize, sizeOf}
 use Rattle.scene_format.specs.SceneOf.{sceneOf}
 use Rattle.scene_index.proofs.Targets.{fluid-named, boundary-named, boundary-velocity-finite}
 use Rattle.iisph_coefficients.proofs.Targets.{fluid-velocity, boundary-velocity}
@@ -40,25 +40,14 @@ vector-at-requires c κs =
     let p = Begin (c .before .before) .pre in
     omega (arith, fluid c, p .1 .1 .room)
 
-add-record : tie.Need-add-record
-add-record c =
-    let p = Begin (c .before .before) .pre in
-    omega (arith, boundary c, p .0 .indexed .fewBoundary)
-
-mul-record : tie.Need-mul-record
-mul-record c =
-    let p = Begin (c .before .before) .pre in
-    omega (arith, boundary c, p .0 .indexed .fewBoundary)
-
-shared-slice-read-record : tie.Need-shared-slice-read-record
-shared-slice-read-record c =
-    let p = Begin (c .before .before .before) .pre in
-    omega (arith, boundary (c .before), p .0 .indexed .fewBoundary, p .0 .indexed .room)
+record-of-requires : tie.Need-record-of-requires
+unfolding sizeOf
+record-of-requires c κs = (Begin (c .before .before) .pre .0 .indexed, boundary c)
 
 vector-requires : tie.Need-vector-requires
 vector-requires c κs =
     let p = Begin (c .before .before .before) .pre in
-    boundary-velocity-finite (p .0 .indexed) _ (boundary (c .before))
+    boundary-velocity-finite (p .0 .indexed) (boundary (c .before)) (c .record-of .ensures)
 
 returns : tie.Need-returns
 returns c =
@@ -73,6 +62,7 @@ returns-2 c =
     let p = Begin u .pre in
     c .vector .ensures
     ∙ boundary-velocity (p .1 .0) (u .target-of .ensures) (p .0) (p .1 .1) (c .before .before .enum-told2 .given .1)
+    (c .before .record-of .ensures)
 
 pub velocity-spec : {M : Type 1} → statement M
 velocity-spec =
@@ -84,9 +74,7 @@ velocity-spec =
     add-vector-at
     vector-at-requires
     (λ c. search needs)
-    add-record
-    mul-record
-    shared-slice-read-record
+    record-of-requires
     vector-requires
     returns
     returns-2)

@@ -4,15 +4,13 @@ use Prim.Native.Nat.{_+_}
 use mathlib.Core.Path.{_≡_, ap, _∙_}
 use mathlib.Core.Bool.{true}
 use native.Mathlib.Omega.{arith}
-use lib.ListN.{length, getD, length-set}
+use lib.ListN.{length, length-set}
 use borrow.Author.Needs.{needs}
 use denote.Ref.{now}
 use Rattle.scene_format.specs.Bytes.{AllFinite}
-use Rattle.scene_format.specs.Scene.{boundary}
+use Rattle.scene_format.specs.Scene.{sizeOf, boundary}
 use Rattle.scene_format.specs.SceneOf.{sceneOf}
 use Rattle.scene_format.specs.Format.{axes, forceOffset}
-use Rattle.scene_format.specs.declared.Kind.the-variants.{Boundary}
-use Rattle.scene_index.specs.Index.{recordsAt}
 use Rattle.iisph_rows.proofs.RowReads.{volume-behind}
 use Rattle.iisph_forces.proofs.InitialAnswers.{kept-here, not-kept-here, width-some, force-finite, force-here}
 use Rattle.iisph_forces.proofs.InitialAnswers.{initial-kept, initial-not-kept}
@@ -34,13 +32,15 @@ kept : (c : tie.Then1)
     boundary (sceneOf (now (b .args .scene))) (b .args .j) .keepsForces ≡ true
 kept c = kept-here (Begin (c .before) .pre .1 .1) (c .if1 .taken)
 
-finite : (c : tie.After-shared-slice-known5)
-    → let b = Begin (c .before .before) in
-    let at = getD (now (b .args .index)) (recordsAt Boundary + b .args .j) 0 in
-    AllFinite (now (b .args .scene)) (at + forceOffset axes) axes
+record-of-requires : tie.Need-record-of-requires
+unfolding sizeOf
+record-of-requires c κs = let p = Begin (c .before) .pre in (p .0 .0 .indexed, p .1 .0)
+
+finite : (c : tie.After-record-of)
+    → AllFinite (now (Begin (c .before .before) .args .scene)) (c .record-of .result + forceOffset axes) axes
 finite c =
     let b = Begin (c .before .before) in
-    force-finite (b .pre .0 .0 .indexed) (b .args .j) (b .pre .1 .0) (kept (c .before))
+    force-finite (b .pre .0 .0 .indexed) (b .args .j) (b .pre .1 .0) (kept (c .before)) (c .record-of .ensures)
 
 add-vector : tie.Need-add-vector
 add-vector c = omega (arith, finite c .each 0 (omega arith) .present)
@@ -69,7 +69,7 @@ returns c =
           ∙ initial-kept s (a .j) (now (a .answers)) (a .at)
           (volume-behind s (a .n) (b .pre .0 .1 .volume) (a .j) (b .pre .1 .0))
           (kept t)
-          (v .vector .ensures ∙ force-here (b .pre .0 .0 .indexed) (a .j) (b .pre .1 .0) (kept t)),
+          (v .vector .ensures ∙ force-here (b .pre .0 .0 .indexed) (a .j) (b .pre .1 .0) (kept t) (v .before .record-of .ensures)),
     )
 
 returns-2 : tie.Need-returns-2
@@ -94,9 +94,7 @@ put-particle-spec =
     (λ c. search needs)
     (λ c. search needs)
     slice-write-answers
-    (λ c. search needs)
-    (λ c. search needs)
-    (λ c. search needs)
+    record-of-requires
     add-vector
     vector-requires
     (λ c. search needs)

@@ -4,31 +4,39 @@ use native.Mathlib.Omega.{arith}
 use borrow.Author.Needs.{needs}
 use denote.Ref.{now}
 use Rattle.scene_check.specs.Accepted.{FluidParticleOk}
-use Rattle.iisph_rows.proofs.Particles.{dt-is, over-here}
-use Rattle.scene_index.proofs.ContactLists.{indexedLocation}
+use Rattle.iisph_rows.proofs.Particles.{dt-is, record-asked, record-here}
+use Rattle.scene_format.specs.Format.{locationOf}
+use Rattle.scene_format.specs.declared.Kind.the-variants.{Fluid}
 use Rattle.iisph_motion.proofs.Motions.{velocity-made, position-made}
 use Rattle.iisph_motion.proofs.answers.motion_of.Statement.{statement}
 use Rattle.iisph_motion.proofs.answers.motion_of.Tie as tie
 
-abbrev Begin : tie.After-shared-slice-known4 → tie.Start
+abbrev Begin : tie.After-record-of → tie.Start
 Begin c = c .before .before .before .before .before
 
--- the particle's record, by what the index says of it
-here : (c : tie.Start)
-    → FluidParticleOk (now (c .args .scene)) (indexedLocation (now (c .args .index)) (c .args .i)) (c .args .i)
-here c = over-here (c .pre .0 .0 .timed .over) (c .args .i) (c .pre .0 .1)
+-- the particle's record, where the index says
+here : (c : tie.After-record-of)
+    → let a = Begin c .args in
+    FluidParticleOk (now (a .scene))
+    (record { head = locationOf Fluid (now (a .scene)) (a .i) .head; at = c .record-of .result }) (a .i)
+here c = record-here (Begin c .pre .0 .0 .timed .over) (Begin c .pre .0 .1) (c .record-of .ensures)
 
 final-change-of-requires : tie.Need-final-change-of-requires
 final-change-of-requires c κs = c .before .before .before .pre
 
+record-of-requires : tie.Need-record-of-requires
+record-of-requires c κs =
+    let p = c .before .before .before .before .pre in
+    record-asked (p .0 .0 .timed .over) (p .0 .1)
+
 add-vector : tie.Need-add-vector
-add-vector c = omega (arith, here (Begin c) .own .counts)
+add-vector c = omega (arith, here c .own .counts)
 
 vector-requires : tie.Need-vector-requires
-vector-requires c κs = here (Begin c) .own .velocity
+vector-requires c κs = here c .own .velocity
 
 vector-requires-2 : tie.Need-vector-requires-2
-vector-requires-2 c κs = here (Begin (c .before .before)) .own .position
+vector-requires-2 c κs = here (c .before .before) .own .position
 
 returns : tie.Need-returns
 returns c =
@@ -41,11 +49,11 @@ returns c =
     let d = k .before .final-change-of .ensures in
     record {
       position =
-          position-made (here s) _ d (v .vector .ensures) (x .add .ensures) (dt-is _ (s .pre .0 .0 .timed .clockIs))
+          position-made (here k) _ d (v .vector .ensures) (x .add .ensures) (dt-is _ (s .pre .0 .0 .timed .clockIs))
           (y .vector2 .ensures)
           (w .scale .ensures)
           (c .add2 .ensures);
-      velocity = velocity-made (here s) _ d (v .vector .ensures) (x .add .ensures);
+      velocity = velocity-made (here k) _ d (v .vector .ensures) (x .add .ensures);
     }
 
 pub motion-of-spec : {M : Type 1} → statement M
@@ -53,9 +61,7 @@ motion-of-spec =
     tie.close
     (tie.spec
     final-change-of-requires
-    (λ c. search needs)
-    (λ c. search needs)
-    (λ c. search needs)
+    record-of-requires
     add-vector
     vector-requires
     (λ c κs. search needs)

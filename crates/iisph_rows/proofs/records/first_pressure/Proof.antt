@@ -6,7 +6,6 @@ use Rattle.scene_check.specs.Accepted.{FluidParticleOk}
 use Rattle.scene_format.specs.Format.{locationOf}
 use Rattle.scene_format.specs.declared.Kind.the-variants.{Fluid}
 use Rattle.iisph_rows.proofs.Particles.{record-asked, record-here, pressure-made}
-use borrow.Author.Needs.{needs}
 use Rattle.iisph_rows.proofs.records.first_pressure.Statement.{statement}
 use Rattle.iisph_rows.proofs.records.first_pressure.Tie as tie
 

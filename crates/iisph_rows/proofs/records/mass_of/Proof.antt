@@ -4,7 +4,6 @@ use native.Mathlib.Omega.{arith}
 use denote.Ref.{now}
 use Rattle.scene_check.specs.Accepted.{FluidParticleOk}
 use Rattle.iisph_rows.proofs.Particles.{record-asked, head-asked, over-here, mass-made}
-use borrow.Author.Needs.{needs}
 use Rattle.iisph_rows.proofs.records.mass_of.Statement.{statement}
 use Rattle.iisph_rows.proofs.records.mass_of.Tie as tie
 

@@ -8,7 +8,7 @@ use lib.ListN.{length, getD}
 use borrow.Author.Needs.{needs}
 use Rattle.scene_format.specs.Format.{startsOf}
 use Rattle.scene_format.specs.SceneOf.{targetAt}
-use Rattle.scene_format.specs.declared.Kind.the-variants.{Fluid, Boundary}
+use Rattle.scene_format.specs.declared.Kind.the-variants.{Fluid}
 use Rattle.scene_index.specs.Index.{blockSize, modelBlocks, basesAt}
 use Rattle.scene_index.proofs.Sections.{bases-begin}
 use Rattle.scene_index.proofs.Targets.{base-found, target-few}

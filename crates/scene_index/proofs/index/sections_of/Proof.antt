@@ -2,7 +2,6 @@
 -- nothing.
 use mathlib.Core.Path.{refl}
 use native.Mathlib.Omega.{arith}
-use borrow.Author.Needs.{needs}
 use Rattle.scene_index.proofs.Indexes.{CountsFew, counts-few, sections-made}
 use Rattle.scene_index.proofs.index.sections_of.Statement.{statement}
 use Rattle.scene_index.proofs.index.sections_of.Tie as tie
