@@ -26,7 +26,7 @@ use Rattle.iisph_rules.specs.declared.StepAnswer.{StepAnswer}
 use Rattle.iisph_rules.specs.declared.StepAnswer.the-variants.{Refused}
 use Rattle.iisph_rules.proofs.Iterations.{chosen}
 
-scene-clears : (b : List ℕ) → clearsWork (sceneAnswer (λ i. locationOf Fluid b i .at) (sceneOf b)) ≡ true
+pub scene-clears : (b : List ℕ) → clearsWork (sceneAnswer (λ i. locationOf Fluid b i .at) (sceneOf b)) ≡ true
 unfolding sceneAnswer unlessZero clearsWork
 scene-clears b =
     chosen (λ (x : StepAnswer). clearsWork x ≡ true) _ _ _ (λ _. refl)

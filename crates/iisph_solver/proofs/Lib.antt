@@ -1,3 +1,4 @@
 pub mod Finished
 pub mod Stepped
+pub mod LentSteps
 pub mod TwoSteps

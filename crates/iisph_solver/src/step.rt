@@ -1,97 +1,61 @@
-// One pressure step (the Rust's compute_densities and step): refusals 1 to 10, the iterations, then answers and forces.
-use iisph_forces::boundary_answers;
-use iisph_header::StepHeader;
-use iisph_header::step_header;
-use iisph_iterations::pressure_solve::pressure_solve;
-use iisph_motion::answers::update_velocities_and_positions;
-use iisph_passes::traverse::Pass;
-use iisph_passes::traverse::traverse;
-use iisph_preparation::Readiness;
-use iisph_preparation::prepare;
-use iisph_rows::zeros::clear;
-use iisph_rules::Report;
+// One pressure step with an index of its own: on the stack, of the smallest of three sizes that holds the scene's, so
+// that a small scene clears few numbers. An index that is too short is told before a list is touched, and the next size
+// is tried.
+use crate::lent::LentAnswer;
+use crate::lent::step_accepted;
 use iisph_rules::StepAnswer;
 use scene_check::Verdict;
 use scene_check::check;
-use scene_format::Refusal;
-use scene_index::index::INDEX_LENGTH;
+use scene_index::index::LONGEST_INDEX;
 use scene_layout::Layout;
-use scene_lengths::lengths_of;
-ghost use Prim.Native.Nat.{_≤_};
-ghost use lib.ListN.{length};
-ghost use Rattle.iisph_header.specs.Header.{StepHeaderIs};
-ghost use Rattle.iisph_pressures.specs.IterationRows.{IterationReady};
-ghost use Rattle.iisph_rows.specs.Passes.{PassOver};
-ghost use Rattle.iisph_rules.specs.Step.{firstPressures};
 ghost use Rattle.scene_check.specs.Check.{Passed};
-ghost use Rattle.scene_format.specs.SceneOf.{sceneOf};
-ghost use Rattle.scene_lengths.specs.Lengths.{answersNeeded};
-ghost use Rattle.iisph_solver.specs.Step.{Steps, Finishes};
+ghost use Rattle.iisph_solver.specs.Step.{Steps};
 
-// The iterations and what follows them. Nothing is refused any more, so the answer list is written; the work list is
-// left cleared.
-fn finish(
-    scene: &[u8],
-    layout: Layout,
-    index: &[usize],
-    n: usize,
-    header: StepHeader,
-    answers: &mut [f64],
-    work: &mut [f64],
-) -> Report
-    requires { ⌜ PassOver (now scene) (now index) n × StepHeaderIs (sceneOf (now scene)) header ⌝ }
-    requires { ⌜ Passed (now scene) layout × (answersNeeded (sceneOf (now scene)) ≤ length (now answers)) ⌝ }
-    requires { ⌜ IterationReady (sceneOf (now scene)) (firstPressures (sceneOf (now scene))) n (now work) ⌝ }
-    ensures { λ r. ⌜
-        Finishes (now (scene .entry)) (now (answers .entry)) (now (work .entry)) r (now (answers .exit))
-        (now (work .exit))
-        ⌝ }
-{
-    let clock = header.clock;
-    let gravity = header.gravity;
-    let stopping = header.stopping;
-    let solved = pressure_solve(scene, layout, index, n, clock, gravity, stopping, work);
-    traverse(Pass::Shares, scene, index, n, clock, gravity, work);
-    update_velocities_and_positions(scene, index, work, n, clock, gravity, answers);
-    boundary_answers(scene, layout, index, work, n, answers);
-    let needed = lengths_of(layout).work;
-    clear(work, needed);
-    let ending = solved.ending;
-    Report {
-        clock,
-        iterations: solved.iterations,
-        ending,
-    }
-}
+// For a hundred particles, and for two thousand.
+const SMALL_INDEX: usize = 256;
 
-// A step on a scene that its caller has checked. The index of the records takes 772 KiB of stack.
-pub fn step_accepted(
-    scene: &[u8],
-    layout: Layout,
-    answers: &mut [f64],
-    work: &mut [f64],
-) -> StepAnswer
+const MIDDLE_INDEX: usize = 4096;
+
+// With the longest index, 770 KiB, which no accepted scene finds too short. A compiler puts no function that calls
+// itself in the place of its call; so this one stays apart, and its index takes no stack unless it is called.
+fn step_largest(scene: &[u8], layout: Layout, answers: &mut [f64], work: &mut [f64]) -> StepAnswer
     requires { ⌜ Passed (now scene) layout ⌝ }
     ensures { λ r. ⌜
         Steps (now (scene .entry)) (now (answers .entry)) (now (work .entry)) r (now (answers .exit)) (now (work .exit))
         ⌝ }
 {
-    let needed = lengths_of(layout);
-    if answers.len() < needed.answers {
-        return StepAnswer::Refused(Refusal::ShortList);
+    let mut index = [0usize; LONGEST_INDEX];
+    match step_accepted(scene, layout, answers, work, &mut index) {
+        LentAnswer::Answered(answer) => answer,
+        LentAnswer::ShortIndex(_) => step_largest(scene, layout, answers, work),
     }
-    if work.len() < needed.work {
-        return StepAnswer::Refused(Refusal::ShortList);
+}
+
+// With the middle one.
+fn step_middle(scene: &[u8], layout: Layout, answers: &mut [f64], work: &mut [f64]) -> StepAnswer
+    requires { ⌜ Passed (now scene) layout ⌝ }
+    ensures { λ r. ⌜
+        Steps (now (scene .entry)) (now (answers .entry)) (now (work .entry)) r (now (answers .exit)) (now (work .exit))
+        ⌝ }
+{
+    let mut index = [0usize; MIDDLE_INDEX];
+    match step_accepted(scene, layout, answers, work, &mut index) {
+        LentAnswer::Answered(answer) => answer,
+        LentAnswer::ShortIndex(_) => step_largest(scene, layout, answers, work),
     }
-    let header = step_header(scene);
-    let n = layout.fluids.total;
-    let mut index = [0usize; INDEX_LENGTH];
-    let readiness = prepare(scene, layout, header, &mut index, work);
-    match readiness {
-        Readiness::Refused(refusal) => StepAnswer::Refused(refusal),
-        Readiness::Ready => {
-            StepAnswer::Done(finish(scene, layout, &index, n, header, answers, work))
-        }
+}
+
+// With the small one.
+fn step_small(scene: &[u8], layout: Layout, answers: &mut [f64], work: &mut [f64]) -> StepAnswer
+    requires { ⌜ Passed (now scene) layout ⌝ }
+    ensures { λ r. ⌜
+        Steps (now (scene .entry)) (now (answers .entry)) (now (work .entry)) r (now (answers .exit)) (now (work .exit))
+        ⌝ }
+{
+    let mut index = [0usize; SMALL_INDEX];
+    match step_accepted(scene, layout, answers, work, &mut index) {
+        LentAnswer::Answered(answer) => answer,
+        LentAnswer::ShortIndex(_) => step_middle(scene, layout, answers, work),
     }
 }
 
@@ -107,6 +71,6 @@ pub fn step(scene: &[u8], answers: &mut [f64], work: &mut [f64]) -> StepAnswer
     let layout = found.layout;
     match verdict {
         Verdict::Refused(refusal) => StepAnswer::Refused(refusal),
-        Verdict::Accepted => step_accepted(scene, layout, answers, work),
+        Verdict::Accepted => step_small(scene, layout, answers, work),
     }
 }

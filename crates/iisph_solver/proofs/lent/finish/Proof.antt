@@ -1,4 +1,4 @@
--- `iisph_solver::step::finish` meets its contract: each call finds what it needs in the rows, and what they leave
+-- `iisph_solver::lent::finish` meets its contract: each call finds what it needs in the rows, and what they leave
 -- together is the rules'. Assumes nothing.
 use native.Mathlib.Omega.{arith}
 use lib.Ieee.{nan}
@@ -13,8 +13,8 @@ use denote.Ref.{now}
 use Rattle.iisph_solver.proofs.Finished.{first-pressures, first-ready, solved-ready, shared, finished}
 use Rattle.iisph_solver.proofs.Finished.{answers-room, report-made}
 use Rattle.iisph_preparation.proofs.Prepared.{driven}
-use Rattle.iisph_solver.proofs.step.finish.Statement.{statement}
-use Rattle.iisph_solver.proofs.step.finish.Tie as tie
+use Rattle.iisph_solver.proofs.lent.finish.Statement.{statement}
+use Rattle.iisph_solver.proofs.lent.finish.Tie as tie
 
 -- the calls, from the last back to the start
 abbrev Bound : tie.After-clear → tie.After-lengths-of

@@ -1,0 +1,34 @@
+-- The contract of a step that is lent its index: what it answers, and every element of both lists afterwards, for all
+-- bytes, lists and lengths of the index. Definitions only.
+use Prim.Native.Nat.{ℕ}
+use mathlib.Core.Path.{_≡_}
+use mathlib.Core.Bool.{Bool, _&&_}
+use mathlib.Core.List.{List}
+use lib.Dec.{ltb}
+use lib.Ieee.{Float}
+use lib.ListN.{length}
+use Rattle.lists.specs.Lists.{choose}
+use Rattle.scene_index.specs.Index.{indexNeeded}
+use Rattle.iisph_rules.specs.Answer.{stepAnswer, answersAfter, clearsWork, workAfter}
+use Rattle.iisph_solver.specs.declared.lent.LentAnswer.{LentAnswer}
+use Rattle.iisph_solver.specs.declared.lent.LentAnswer.the-variants.{Answered, ShortIndex}
+
+-- whether the passes, which begin unless 1 to 8 refused, lack an index: `index` is the length of the lent one
+unfoldable pub lacksIndex : List ℕ → ℕ → ℕ → ℕ → Bool
+lacksIndex b answers work index = clearsWork (stepAnswer b answers work) && ltb index (indexNeeded b)
+
+unfoldable pub lentAnswer : List ℕ → ℕ → ℕ → ℕ → LentAnswer
+lentAnswer b answers work index =
+    choose (lacksIndex b answers work index) (ShortIndex (indexNeeded b)) (Answered (stepAnswer b answers work))
+
+-- of the bytes b, the two lists and an index of this length: the answer r, and the lists afterwards, which are those of
+-- `Steps`, or untouched
+pub record StepsLent (b : List ℕ) (answers work : List Float) (index : ℕ) (r : LentAnswer) (answers′ work′ : List Float)
+    : Type 0 where
+  pub answer : r ≡ lentAnswer b (length answers) (length work) index
+  pub answersThen : answers′
+      ≡ choose (lacksIndex b (length answers) (length work) index) answers
+      (answersAfter b (length answers) (length work) answers)
+  pub workThen : work′
+      ≡ choose (lacksIndex b (length answers) (length work) index) work
+      (workAfter b (length answers) (length work) work)
