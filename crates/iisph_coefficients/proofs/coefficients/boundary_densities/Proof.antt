@@ -1,4 +1,4 @@
--- `iisph_coefficients::coefficients::densities` meets its contract. The invariant: each sum is the rule's over the
+-- `iisph_coefficients::coefficients::boundary_densities` meets its contract. The invariant: each sum is the rule's over the
 -- contacts passed; a turn takes in one more. The measure is the number of contacts left. Assumes nothing.
 use Prim.Native.Nat.{_+_, _*_, _-_, _≤_}
 use mathlib.Core.Path.{_≡_, refl}
@@ -10,21 +10,22 @@ use Rattle.lists.specs.Lists.{fold, table}
 use Rattle.math.specs.Vector.{coordinates}
 use Rattle.scene_format.specs.Format.{axes, contactWidth}
 use Rattle.scene_format.specs.SceneOf.{contactAt, contactList}
+use Rattle.scene_format.specs.declared.Kind.the-variants.{Boundary}
 use Rattle.scene_index.specs.Contacts.{ContactReady}
-use Rattle.iisph_coefficients.specs.Neighbours.{summed}
-use Rattle.iisph_coefficients.proofs.Sums.{weighed, approached, summed-next}
+use Rattle.iisph_coefficients.specs.Neighbours.{weighed, approached, summed}
+use Rattle.iisph_coefficients.proofs.Sums.{summed-next}
 use Rattle.scene_index.proofs.ContactLists.{contact-room}
-use Rattle.iisph_coefficients.proofs.coefficients.densities.Statement.{statement}
-use Rattle.iisph_coefficients.proofs.coefficients.densities.Tie as tie
+use Rattle.iisph_coefficients.proofs.coefficients.boundary_densities.Statement.{statement}
+use Rattle.iisph_coefficients.proofs.coefficients.boundary_densities.Tie as tie
 
 abbrev Inv-loop : tie.InvT-loop
-Inv-loop scene index work n list v kind count at density₀ delta₀ k₀ density delta k =
+Inv-loop scene index work n list v count at density₀ delta₀ k₀ density delta k =
     (k ≤ count)
-    × (density ≡ summed scene list weighed density₀ k)
-    × (delta ≡ summed scene list (approached (coordinates v)) delta₀ k)
+    × (density ≡ summed Boundary scene list weighed density₀ k)
+    × (delta ≡ summed Boundary scene list (approached (coordinates v)) delta₀ k)
 
 abbrev μ-loop : tie.MeasureT-loop
-μ-loop scene index work n list v kind count at density₀ delta₀ k₀ density delta k = count - k
+μ-loop scene index work n list v count at density₀ delta₀ k₀ density delta k = count - k
 
 loop-holds : tie.Need-loop-holds Inv-loop μ-loop
 unfolding contactList table fold
@@ -35,9 +36,9 @@ Begin c = c .before .before .before .before .before
 
 -- the contact of a turn
 here : (c : tie.In-loop Inv-loop μ-loop)
-    → ContactReady (Begin c .args .list .kind) (now (Begin c .args .scene))
+    → ContactReady Boundary (now (Begin c .args .scene))
     (Begin c .args .list .at + contactWidth axes * c .before .loop .k)
-here c = Begin c .pre .1 .0 .each (c .before .loop .k) (c .loop-test .taken)
+here c = Begin c .pre .1 .each (c .before .loop .k) (c .loop-test .taken)
 
 mul-c : tie.Need-mul-c Inv-loop μ-loop
 mul-c c = omega (arith, contact-room (here c))
@@ -48,12 +49,12 @@ add-c c = omega (arith, contact-room (here c))
 mass-requires : tie.Need-mass-requires Inv-loop μ-loop
 mass-requires c κs =
     let p = Begin c .pre in
-    (p .0, (here c, p .1 .1))
+    (p .0, (here c, p .2))
 
 velocity-requires : tie.Need-velocity-requires Inv-loop μ-loop
 velocity-requires c κs =
     let p = Begin (c .before) .pre in
-    (p .0, (here (c .before), p .1 .1))
+    (p .0, (here (c .before), p .2))
 
 add-double : tie.Need-add-double Inv-loop μ-loop
 add-double c = omega (arith, contact-room (here (c .before .before)))
@@ -79,9 +80,9 @@ loop-again c =
     let l = u .before .loop in
     let a = Begin u .args in (
       omega arith,
-      summed-next (now (a .scene)) (a .list) weighed (a .from .density) (l .k) (l .inv .1)
+      summed-next Boundary (now (a .scene)) (a .list) weighed (a .from .density) (l .k) (l .inv .1)
           (rw (← m .mass .ensures, ← d .double .ensures)),
-      summed-next (now (a .scene)) (a .list) (approached (coordinates (a .v))) (a .from .delta) (l .k) (l .inv .2)
+      summed-next Boundary (now (a .scene)) (a .list) (approached (coordinates (a .v))) (a .from .delta) (l .k) (l .inv .2)
           (rw (
             c .dot .ensures,
             c .before .before .sub .ensures,
@@ -96,8 +97,8 @@ returns c =
     let l = c .before .loop in
     rw (le-antisymm (c .loop-test .left) (l .inv .0)) (l .inv .1, l .inv .2)
 
-pub densities-spec : {M : Type 1} → statement M
-densities-spec =
+pub boundary-densities-spec : {M : Type 1} → statement M
+boundary-densities-spec =
     tie.close
     (tie.spec
     Inv-loop

@@ -1,4 +1,4 @@
--- `iisph_coefficients::coefficients::dii` meets its contract. The invariant: the sum is the rule's over the contacts
+-- `iisph_coefficients::coefficients::fluid_aii` meets its contract. The invariant: the sum is the rule's over the contacts
 -- passed; a turn takes in one more. The measure is the number of contacts left. Assumes nothing.
 use Prim.Native.Nat.{_+_, _*_, _-_, _≤_}
 use mathlib.Core.Path.{_≡_, refl}
@@ -7,22 +7,24 @@ use native.Mathlib.Omega.{arith}
 use borrow.Author.Needs.{needs}
 use denote.Ref.{now}
 use Rattle.lists.specs.Lists.{fold, table}
+use Rattle.math.specs.Real.{+0}
 use Rattle.math.specs.Vector.{coordinates}
 use Rattle.scene_format.specs.Format.{axes, contactWidth}
 use Rattle.scene_format.specs.SceneOf.{contactAt, contactList}
+use Rattle.scene_format.specs.declared.Kind.the-variants.{Fluid}
 use Rattle.scene_index.specs.Contacts.{ContactReady}
-use Rattle.iisph_coefficients.specs.Neighbours.{summed}
-use Rattle.iisph_coefficients.proofs.Sums.{pushed, summed-next}
+use Rattle.iisph_coefficients.specs.Neighbours.{returned, summed}
+use Rattle.iisph_coefficients.proofs.Sums.{summed-next}
 use Rattle.scene_index.proofs.ContactLists.{contact-room}
-use Rattle.iisph_coefficients.proofs.coefficients.dii.Statement.{statement}
-use Rattle.iisph_coefficients.proofs.coefficients.dii.Tie as tie
+use Rattle.iisph_coefficients.proofs.coefficients.fluid_aii.Statement.{statement}
+use Rattle.iisph_coefficients.proofs.coefficients.fluid_aii.Tie as tie
 
 abbrev Inv-loop : tie.InvT-loop
-Inv-loop scene index work n list factor kind count at sum₀ k₀ sum k =
-    (k ≤ count) × (coordinates sum ≡ summed scene list (pushed factor) (coordinates sum₀) k)
+Inv-loop scene index work n list factor d count at sum₀ k₀ sum k =
+    (k ≤ count) × (sum ≡ summed Fluid scene list (returned (coordinates d) factor) +0 k)
 
 abbrev μ-loop : tie.MeasureT-loop
-μ-loop scene index work n list factor kind count at sum₀ k₀ sum k = count - k
+μ-loop scene index work n list factor d count at sum₀ k₀ sum k = count - k
 
 loop-holds : tie.Need-loop-holds Inv-loop μ-loop
 unfolding contactList table fold
@@ -33,9 +35,9 @@ Begin c = c .before .before .before .before .before
 
 -- the contact of a turn
 here : (c : tie.In-loop Inv-loop μ-loop)
-    → ContactReady (Begin c .args .list .kind) (now (Begin c .args .scene))
+    → ContactReady Fluid (now (Begin c .args .scene))
     (Begin c .args .list .at + contactWidth axes * c .before .loop .k)
-here c = Begin c .pre .1 .0 .each (c .before .loop .k) (c .loop-test .taken)
+here c = Begin c .pre .1 .each (c .before .loop .k) (c .loop-test .taken)
 
 mul-c : tie.Need-mul-c Inv-loop μ-loop
 mul-c c = omega (arith, contact-room (here c))
@@ -46,7 +48,7 @@ add-c c = omega (arith, contact-room (here c))
 mass-requires : tie.Need-mass-requires Inv-loop μ-loop
 mass-requires c κs =
     let p = Begin c .pre in
-    (p .0, (here c, p .1 .1))
+    (p .0, (here c, p .2))
 
 add-vector : tie.Need-add-vector Inv-loop μ-loop
 add-vector c = omega (arith, contact-room (here (c .before)))
@@ -55,18 +57,26 @@ vector-requires : tie.Need-vector-requires Inv-loop μ-loop
 vector-requires c κs = here (c .before) .doubles .gradient
 
 add-k : tie.Need-add-k Inv-loop μ-loop
-add-k c = omega (arith, contact-room (here (c .before .before .before .before)))
+add-k c = omega (arith, contact-room (here (c .before .before .before .before .before)))
 
 loop-again : tie.Need-loop-again Inv-loop μ-loop
 unfolding contactAt
 loop-again c =
-    let m = c .before .before .before in
+    let s = c .before .before in
+    let m = s .before .before in
     let u = m .before in
     let l = u .before .loop in
     let a = Begin u .args in (
       omega arith,
-      summed-next (now (a .scene)) (a .list) (pushed (a .factor)) (coordinates (a .from)) (l .k) (l .inv .1)
-          (rw (c .add .ensures, c .before .scale .ensures, c .before .before .vector .ensures, ← m .mass .ensures)),
+      summed-next Fluid (now (a .scene)) (a .list) (returned (coordinates (a .d)) (a .factor)) +0 (l .k) (l .inv .1)
+          (rw (
+            c .dot .ensures,
+            c .before .sub .ensures,
+            s .scale .ensures,
+            s .before .vector .ensures,
+            ←
+                m .mass .ensures,
+          )),
     )
 
 returns : tie.Need-returns Inv-loop μ-loop
@@ -74,8 +84,8 @@ returns c =
     let l = c .before .loop in
     rw (le-antisymm (c .loop-test .left) (l .inv .0)) (l .inv .1)
 
-pub dii-spec : {M : Type 1} → statement M
-dii-spec =
+pub fluid-aii-spec : {M : Type 1} → statement M
+fluid-aii-spec =
     tie.close
     (tie.spec
     Inv-loop
@@ -86,6 +96,7 @@ dii-spec =
     mass-requires
     add-vector
     vector-requires
+    (λ c κs. search needs)
     (λ c κs. search needs)
     (λ c κs. search needs)
     add-k

@@ -1,4 +1,4 @@
--- `iisph_coefficients::coefficients::aii` meets its contract. The invariant: the sum is the rule's over the contacts
+-- `iisph_coefficients::coefficients::boundary_aii` meets its contract. The invariant: the sum is the rule's over the contacts
 -- passed; a turn takes in one more. The measure is the number of contacts left. Assumes nothing.
 use Prim.Native.Nat.{_+_, _*_, _-_, _≤_}
 use mathlib.Core.Path.{_≡_, refl}
@@ -10,19 +10,20 @@ use Rattle.lists.specs.Lists.{fold, table}
 use Rattle.math.specs.Vector.{coordinates}
 use Rattle.scene_format.specs.Format.{axes, contactWidth}
 use Rattle.scene_format.specs.SceneOf.{contactAt, contactList}
+use Rattle.scene_format.specs.declared.Kind.the-variants.{Boundary}
 use Rattle.scene_index.specs.Contacts.{ContactReady}
-use Rattle.iisph_coefficients.specs.Neighbours.{summed}
-use Rattle.iisph_coefficients.proofs.Sums.{returned, summed-next}
+use Rattle.iisph_coefficients.specs.Neighbours.{returned, summed}
+use Rattle.iisph_coefficients.proofs.Sums.{summed-next}
 use Rattle.scene_index.proofs.ContactLists.{contact-room}
-use Rattle.iisph_coefficients.proofs.coefficients.aii.Statement.{statement}
-use Rattle.iisph_coefficients.proofs.coefficients.aii.Tie as tie
+use Rattle.iisph_coefficients.proofs.coefficients.boundary_aii.Statement.{statement}
+use Rattle.iisph_coefficients.proofs.coefficients.boundary_aii.Tie as tie
 
 abbrev Inv-loop : tie.InvT-loop
-Inv-loop scene index work n list factor d from kind count at sum₀ k₀ sum k =
-    (k ≤ count) × (sum ≡ summed scene list (returned (coordinates d) factor) sum₀ k)
+Inv-loop scene index work n list factor d from count at sum₀ k₀ sum k =
+    (k ≤ count) × (sum ≡ summed Boundary scene list (returned (coordinates d) factor) sum₀ k)
 
 abbrev μ-loop : tie.MeasureT-loop
-μ-loop scene index work n list factor d from kind count at sum₀ k₀ sum k = count - k
+μ-loop scene index work n list factor d from count at sum₀ k₀ sum k = count - k
 
 loop-holds : tie.Need-loop-holds Inv-loop μ-loop
 unfolding contactList table fold
@@ -33,9 +34,9 @@ Begin c = c .before .before .before .before .before
 
 -- the contact of a turn
 here : (c : tie.In-loop Inv-loop μ-loop)
-    → ContactReady (Begin c .args .list .kind) (now (Begin c .args .scene))
+    → ContactReady Boundary (now (Begin c .args .scene))
     (Begin c .args .list .at + contactWidth axes * c .before .loop .k)
-here c = Begin c .pre .1 .0 .each (c .before .loop .k) (c .loop-test .taken)
+here c = Begin c .pre .1 .each (c .before .loop .k) (c .loop-test .taken)
 
 mul-c : tie.Need-mul-c Inv-loop μ-loop
 mul-c c = omega (arith, contact-room (here c))
@@ -46,7 +47,7 @@ add-c c = omega (arith, contact-room (here c))
 mass-requires : tie.Need-mass-requires Inv-loop μ-loop
 mass-requires c κs =
     let p = Begin c .pre in
-    (p .0, (here c, p .1 .1))
+    (p .0, (here c, p .2))
 
 add-vector : tie.Need-add-vector Inv-loop μ-loop
 add-vector c = omega (arith, contact-room (here (c .before)))
@@ -66,7 +67,7 @@ loop-again c =
     let l = u .before .loop in
     let a = Begin u .args in (
       omega arith,
-      summed-next (now (a .scene)) (a .list) (returned (coordinates (a .d)) (a .factor)) (a .from) (l .k) (l .inv .1)
+      summed-next Boundary (now (a .scene)) (a .list) (returned (coordinates (a .d)) (a .factor)) (a .from) (l .k) (l .inv .1)
           (rw (
             c .dot .ensures,
             c .before .sub .ensures,
@@ -82,8 +83,8 @@ returns c =
     let l = c .before .loop in
     rw (le-antisymm (c .loop-test .left) (l .inv .0)) (l .inv .1)
 
-pub aii-spec : {M : Type 1} → statement M
-aii-spec =
+pub boundary-aii-spec : {M : Type 1} → statement M
+boundary-aii-spec =
     tie.close
     (tie.spec
     Inv-loop
