@@ -42,6 +42,12 @@ unfolding contactListAt contactsOf fluidParticleAt
 contacts-of-particle b Fluid q = sym (ap (λ p. p .fluidContacts) (q .particle))
 contacts-of-particle b Boundary q = sym (ap (λ p. p .boundaryContacts) (q .particle))
 
+contacts-room : {b : List ℕ} {p : Location} {i : ℕ} (κ : Kind) → FluidParticleOk b p i
+    → contactListAt κ b p .at + contactWidth axes * contactListAt κ b p .count ≤ length b
+unfolding contactListAt
+contacts-room Fluid q = omega (arith, q .own .ends)
+contacts-room Boundary q = omega (arith, q .own .ends)
+
 contacts-at : {b : List ℕ} {p : Location} {i : ℕ} (κ : Kind) → FluidParticleOk b p i
     → ContactsAre b κ (particle (sceneOf b) i) (contactListAt κ b p)
 unfolding contactListAt fluidParticleAt
@@ -49,7 +55,11 @@ contacts-at {b} κ q =
     record {
       density0 = sym (ap (λ p. p .density0) (q .particle));
       contacts = contacts-of-particle b κ q;
-      ready = record { each = λ k l. record { doubles = q .own .contacts κ k l; target = q .targets κ k l } };
+      ready =
+          record {
+            room = contacts-room κ q;
+            each = λ k l. record { doubles = q .own .contacts κ k l; target = q .targets κ k l };
+          };
     }
 
 -- a sum over the list is one over the particle's contacts

@@ -1,7 +1,8 @@
 -- The contacts of a fluid particle, kind by kind, as the code hands them on; and when a contact may be read.
 -- Scaffolding: no promise rests on it. Definitions only.
-use Prim.Native.Nat.{ℕ, _+_, _*_, _<_}
+use Prim.Native.Nat.{ℕ, _+_, _*_, _<_, _≤_}
 use mathlib.Core.List.{List}
+use lib.ListN.{length}
 use Rattle.lists.specs.Lists.{fold}
 use Rattle.scene_check.specs.Accepted.{TargetOk}
 use Rattle.scene_format.specs.Bytes.{doubleAt}
@@ -18,8 +19,9 @@ pub record ContactReady (κ : Kind) (b : List ℕ) (at : ℕ) : Type 0 where
   pub doubles : ContactOk b at
   pub target : TargetOk κ b at
 
--- every contact of a list of that kind is such
+-- every contact of a list of that kind is such, and the list is within the bytes
 pub record ContactsReady (κ : Kind) (b : List ℕ) (list : ContactList) : Type 0 where
+  pub room : list .at + contactWidth axes * list .count ≤ length b
   pub each : (k : ℕ) → k < list .count → ContactReady κ b (list .at + contactWidth axes * k)
 
 -- the list of one kind of the fluid particle whose record stands at p
