@@ -1,5 +1,5 @@
--- `iisph_coefficients::coefficients::boundary_densities` meets its contract. The invariant: each sum is the rule's over the
--- contacts passed; a turn takes in one more. The measure is the number of contacts left. Assumes nothing.
+-- `iisph_coefficients::coefficients::boundary_densities` meets its contract. The invariant: each sum is the rule's
+-- over the contacts passed; a turn takes in one more. The measure is the number of contacts left. Assumes nothing.
 use Prim.Native.Nat.{_+_, _*_, _-_, _≤_}
 use mathlib.Core.Path.{_≡_, refl}
 use native.Mathlib.Nat.{le-antisymm}
@@ -9,11 +9,11 @@ use denote.Ref.{now}
 use Rattle.lists.specs.Lists.{fold, table}
 use Rattle.math.specs.Vector.{coordinates}
 use Rattle.scene_format.specs.Format.{axes, contactWidth}
-use Rattle.scene_format.specs.SceneOf.{contactAt, contactList}
+use Rattle.scene_format.specs.SceneOf.{contactList}
 use Rattle.scene_format.specs.declared.Kind.the-variants.{Boundary}
 use Rattle.scene_index.specs.Contacts.{ContactReady}
 use Rattle.iisph_coefficients.specs.Neighbours.{weighed, approached, summed}
-use Rattle.iisph_coefficients.proofs.Sums.{summed-next}
+use Rattle.iisph_coefficients.proofs.Sums.{weighed-next, approached-next}
 use Rattle.iisph_coefficients.proofs.coefficients.boundary_densities.Statement.{statement}
 use Rattle.iisph_coefficients.proofs.coefficients.boundary_densities.Tie as tie
 
@@ -56,24 +56,17 @@ vector-requires : tie.Need-vector-requires Inv-loop μ-loop
 vector-requires c κs = here (c .before .before .before .before) .doubles .gradient
 
 loop-again : tie.Need-loop-again Inv-loop μ-loop
-unfolding contactAt
 loop-again c =
     let d = c .before .before .before in
     let m = d .before .before in
-    let u = m .before in
-    let l = u .before .loop in
-    let a = Begin u .args in (
+    let l = m .before .before .loop in
+    let list = Begin (m .before) .args .list in (
       omega arith,
-      summed-next Boundary (now (a .scene)) (a .list) weighed (a .from .density) (l .k) (l .inv .1)
-          (rw (← m .mass .ensures, ← d .double .ensures)),
-      summed-next Boundary (now (a .scene)) (a .list) (approached (coordinates (a .v))) (a .from .delta) (l .k) (l .inv .2)
-          (rw (
-            c .dot .ensures,
-            c .before .before .sub .ensures,
-            c .before .vector .ensures,
-            d .before .velocity .ensures,
-            ← m .mass .ensures,
-          )),
+      weighed-next Boundary _ list _ (m .mass .ensures) _ (l .inv .1) (d .double .ensures),
+      approached-next Boundary _ list _ (m .mass .ensures) (c .before .vector .ensures) _ _ (l .inv .2)
+          (d .before .velocity .ensures)
+          (c .before .before .sub .ensures)
+          (c .dot .ensures),
     )
 
 returns : tie.Need-returns Inv-loop μ-loop
