@@ -83,17 +83,17 @@ rowTerm work j owner g =
     let other = vectorFrom work (rowAt j + dijSlot axes) ⊟ (g ⊡ owner .factor) ⊡ owner .pressure in
     elementAt work (rowAt j + massSlot axes) ⊗ ((own ⊟ other) · g)
 
--- what a contact of each kind adds to the pressure sum of its owner, whose fluid has the rest density `density0`
-unfoldable pub termOf : Kind → Scene → List Float → List Vector → Float → Owner → Contact → Float
-termOf Fluid s ps ds density0 owner c =
+-- what a contact of each kind adds to the pressure sum of its owner
+unfoldable pub termOf : Kind → Scene → List Float → List Vector → Owner → Contact → Float
+termOf Fluid s ps ds owner c =
     let j = c .target in
     let own = coordinates (owner .dij) ⊟ coefficient (coefficients s) j .dii ⊡ pressure ps j in
     let other = dij ds j ⊟ (c .gradient ⊡ owner .factor) ⊡ owner .pressure in
     fluidMass s c ⊗ ((own ⊟ other) · c .gradient)
-termOf Boundary s ps ds density0 owner c = boundaryMass s density0 c ⊗ (coordinates (owner .dij) · c .gradient)
+termOf Boundary s ps ds owner c = boundaryMass s (owner .density0) c ⊗ (coordinates (owner .dij) · c .gradient)
 
-abbrev pub withTerm : Kind → Scene → List Float → List Vector → Float → Owner → Float → Contact → Float
-withTerm κ s ps ds density0 owner sum c = sum ⊕ termOf κ s ps ds density0 owner c
+abbrev pub withTerm : Kind → Scene → List Float → List Vector → Owner → Float → Contact → Float
+withTerm κ s ps ds owner sum c = sum ⊕ termOf κ s ps ds owner c
 
 -- `nextPressure` from what it takes of the particle
 unfoldable pub nextFrom : Float → Float → Float → Float → Float → NextPressure

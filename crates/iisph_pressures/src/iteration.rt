@@ -26,17 +26,20 @@ ghost use Rattle.iisph_rows.specs.Passes.{PassOver, TimedPass};
 ghost use Rattle.iisph_rows.specs.Rows.{rowAt};
 ghost use Rattle.iisph_rules.specs.Coefficients.{coefficients};
 ghost use Rattle.iisph_rules.specs.Iteration.{dijPjl, nextPressure};
+ghost use Rattle.math.specs.Real.{+0};
 ghost use Rattle.math.specs.Vector.{coordinates, origin};
-ghost use Rattle.scene_format.specs.Format.{axes, startsOf};
+ghost use Rattle.scene_format.specs.Format.{axes};
 ghost use Rattle.scene_format.specs.Scene.{particle};
-ghost use Rattle.scene_format.specs.SceneOf.{contactAt, sceneOf};
-ghost use Rattle.scene_index.specs.Contacts.{ContactReady, ContactsReady, overList};
+ghost use Rattle.scene_format.specs.SceneOf.{sceneOf};
+ghost use Rattle.scene_index.specs.Contacts.{ContactsReady, overList};
 ghost use Rattle.scene_lengths.specs.Lengths.{workWidth};
-ghost use Rattle.iisph_pressures.specs.IterationRows.{pressuresIn, dijsIn, withDij, rowTerm, termOf, withTerm};
+ghost use Rattle.iisph_pressures.specs.IterationRows.{pressuresIn, dijsIn, withDij, rowTerm, withTerm};
 ghost use Rattle.iisph_pressures.specs.IterationRows.{nextFrom, DijReady, Iterating, NextIs};
 
-// What the terms of a pressure sum take of the particle itself: its dij_pjl, e of METHOD 5.6, and its pressure.
+// What the terms of a pressure sum take of the particle itself: the rest density of its fluid, its dij_pjl, e of METHOD
+// 5.6, and its pressure.
 pub struct Owner {
+    pub density0: f64,
     pub dij: Vec3,
     pub factor: f64,
     pub pressure: f64,
@@ -51,20 +54,19 @@ pub struct Next {
 // The sum of compute_dij_pjl over a list of fluid contacts: g × the quotient of the row that a contact names.
 fn dij_sum(scene: &[u8], index: &[usize], work: &[f64], n: usize, list: ContactList) -> Vec3
     requires { ⌜ PassOver (now scene) (now index) n × DijReady (sceneOf (now scene)) n (now work) ⌝ }
-    requires { ⌜ (list .kind ≡ Kind.Fluid) × ContactsReady (now scene) list ⌝ }
+    requires { ⌜ ContactsReady Kind.Fluid (now scene) list ⌝ }
     ensures { λ r. ⌜
         (let b = now (scene .entry) in
-        coordinates r ≡ overList b list (withDij (sceneOf b) (pressuresIn n (now (work .entry)))) (origin axes))
+        coordinates r ≡ overList Kind.Fluid b list (withDij (sceneOf b) (pressuresIn n (now (work .entry)))) (origin axes))
         ⌝ }
 {
-    let kind = list.kind;
     let count = list.count;
     let at = list.at;
     let mut sum = Vec3::zero();
     let mut k = 0usize;
     while k < count {
         let c = at + CONTACT_WIDTH * k;
-        let j = target_of(scene, index, kind, c);
+        let j = target_of(scene, index, Kind::Fluid, c);
         sum = sum.add(read::vector(scene, c + CONTACT_GRADIENT).scale(work[ROW * j + QUOTIENT]));
         k += 1;
     }
@@ -105,39 +107,39 @@ fn row_term(work: &[f64], j: usize, owner: Owner, g: Vec3) -> f64
     m * own.sub(other).dot(g)
 }
 
-// What the contact at an offset adds to the pressure sum of its owner.
-fn term(
+// The sum of compute_next_pressures over the fluid contacts.
+fn fluid_pressure_sum(
     scene: &[u8],
     index: &[usize],
     work: &[f64],
     n: usize,
-    kind: Kind,
-    density0: f64,
+    list: ContactList,
     owner: Owner,
-    at: usize,
 ) -> f64
     requires { ⌜ PassOver (now scene) (now index) n × Iterating (sceneOf (now scene)) n (now work) ⌝ }
-    requires { ⌜ ContactReady kind (now scene) at ⌝ }
+    requires { ⌜ ContactsReady Kind.Fluid (now scene) list ⌝ }
     ensures { λ r. ⌜
         (let b = now (scene .entry) in
         let l = now (work .entry) in
-        let c = contactAt (startsOf kind b) b at in
-        r ≡ termOf kind (sceneOf b) (pressuresIn n l) (dijsIn n l) density0 owner c)
+        r ≡ overList Kind.Fluid b list (withTerm Kind.Fluid (sceneOf b) (pressuresIn n l) (dijsIn n l) owner) +0)
         ⌝ }
 {
-    let j = target_of(scene, index, kind, at);
-    let g = read::vector(scene, at + CONTACT_GRADIENT);
-    match kind {
-        Kind::Fluid => row_term(work, j, owner, g),
-        Kind::Boundary => {
-            let d = owner.dij;
-            work[ROW * n + j] * density0 * d.dot(g)
-        }
+    let count = list.count;
+    let at = list.at;
+    let mut sum = 0.0;
+    let mut k = 0usize;
+    while k < count {
+        let c = at + CONTACT_WIDTH * k;
+        let j = target_of(scene, index, Kind::Fluid, c);
+        let g = read::vector(scene, c + CONTACT_GRADIENT);
+        sum = sum + row_term(work, j, owner, g);
+        k += 1;
     }
+    sum
 }
 
-// The sum of compute_next_pressures over one list, from a number on.
-fn pressure_sum(
+// The same sum over the boundary contacts, from that over the fluid contacts on.
+fn boundary_pressure_sum(
     scene: &[u8],
     index: &[usize],
     work: &[f64],
@@ -147,31 +149,23 @@ fn pressure_sum(
     from: f64,
 ) -> f64
     requires { ⌜ PassOver (now scene) (now index) n × Iterating (sceneOf (now scene)) n (now work) ⌝ }
-    requires { ⌜ ContactsReady (now scene) list ⌝ }
+    requires { ⌜ ContactsReady Kind.Boundary (now scene) list ⌝ }
     ensures { λ r. ⌜
         (let b = now (scene .entry) in
         let l = now (work .entry) in
-        r ≡ overList b list (withTerm (list .kind) (sceneOf b) (pressuresIn n l) (dijsIn n l) (list .density0) owner)
-        from)
+        r ≡ overList Kind.Boundary b list (withTerm Kind.Boundary (sceneOf b) (pressuresIn n l) (dijsIn n l) owner) from)
         ⌝ }
 {
-    let kind = list.kind;
     let count = list.count;
     let at = list.at;
+    let d = owner.dij;
     let mut sum = from;
     let mut k = 0usize;
     while k < count {
-        sum = sum
-            + term(
-                scene,
-                index,
-                work,
-                n,
-                kind,
-                list.density0,
-                owner,
-                at + CONTACT_WIDTH * k,
-            );
+        let c = at + CONTACT_WIDTH * k;
+        let j = target_of(scene, index, Kind::Boundary, c);
+        let g = read::vector(scene, c + CONTACT_GRADIENT);
+        sum = sum + work[ROW * n + j] * owner.density0 * d.dot(g);
         k += 1;
     }
     sum
@@ -223,12 +217,13 @@ pub fn next_pressure_of(
     let factor = dt * dt * work[row + MASS] / (rho * rho);
     let dij = vector_at(work, row + DIJ_PJL);
     let owner = Owner {
+        density0: fluid.density0,
         dij,
         factor,
         pressure,
     };
-    let part = pressure_sum(scene, index, work, n, fluid, owner, 0.0);
-    let sum = pressure_sum(scene, index, work, n, boundary, owner, part);
+    let part = fluid_pressure_sum(scene, index, work, n, fluid, owner);
+    let sum = boundary_pressure_sum(scene, index, work, n, boundary, owner, part);
     next_from(
         fluid.density0,
         work[row + AII],

@@ -29,7 +29,7 @@ contacts-of-requires c κs =
 dij-sum-requires : tie.Need-dij-sum-requires
 dij-sum-requires c κs =
     let p = Begin c .pre in
-    ((p .0 .0 .over, p .1), (fluid c .kind, fluid c .ready))
+    ((p .0 .0 .over, p .1), fluid c .ready)
 
 returns : tie.Need-returns
 returns c =

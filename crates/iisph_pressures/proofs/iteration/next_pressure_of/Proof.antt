@@ -93,14 +93,14 @@ vector-at-requires c κs =
     let p = Begin (c .before .before .before) .pre in
     omega (arith, p .1 .room, p .0 .1)
 
-pressure-sum-requires : tie.Need-pressure-sum-requires
-pressure-sum-requires c κs =
+fluid-pressure-sum-requires : tie.Need-fluid-pressure-sum-requires
+fluid-pressure-sum-requires c κs =
     let u = Row c in
     let p = Begin u .pre in
     ((p .0 .0 .over, p .1), fluid u .ready)
 
-pressure-sum-requires-2 : tie.Need-pressure-sum-requires-2
-pressure-sum-requires-2 c κs =
+boundary-pressure-sum-requires : tie.Need-boundary-pressure-sum-requires
+boundary-pressure-sum-requires c κs =
     let u = Row (c .before) in
     let p = Begin u .pre in
     ((p .0 .0 .over, p .1), boundary u .ready)
@@ -143,8 +143,8 @@ returns c =
     let p = Begin u .pre in
     next-made _ (p .0 .0 .over .size) (p .1) _ (p .0 .1) (fluid u) (boundary u) _ (dt-is _ (p .0 .0 .clockIs)) _
     (v .vector-at .ensures)
-    (y .before .pressure-sum .ensures)
-    (y .pressure-sum2 .ensures)
+    (y .before .fluid-pressure-sum .ensures)
+    (y .boundary-pressure-sum .ensures)
     (c .next-from .ensures)
 
 pub next-pressure-of-spec : {M : Type 1} → statement M
@@ -164,8 +164,8 @@ next-pressure-of-spec =
     shared-slice-read-factor
     add-vector-at
     vector-at-requires
-    pressure-sum-requires
-    pressure-sum-requires-2
+    fluid-pressure-sum-requires
+    boundary-pressure-sum-requires
     add-next-from
     mul-next-from
     shared-slice-read-next-from
