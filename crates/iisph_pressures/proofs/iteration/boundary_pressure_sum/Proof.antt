@@ -51,25 +51,14 @@ below c = boundary-named (here (c .before)) (c .target-of .ensures) refl
 vector-requires : tie.Need-vector-requires Inv-loop μ-loop
 vector-requires c κs = here (c .before) .doubles .gradient
 
-mul-sum : tie.Need-mul-sum Inv-loop μ-loop
-mul-sum c =
-    let p = Begin (c .before .before) .pre in
-    omega (arith, p .0 .0 .indexed .fewFluid, p .0 .0 .size)
-
 add-sum : tie.Need-add-sum Inv-loop μ-loop
-add-sum c =
-    let p = Begin (c .before .before) .pre in
-    omega (arith, below (c .before), p .0 .0 .indexed .fewFluid, p .0 .0 .indexed .fewBoundary, p .0 .0 .size)
+add-sum c = omega (arith, below (c .before))
 
 mul-sum-2 : tie.Need-mul-sum-2 Inv-loop μ-loop
-mul-sum-2 c =
-    let p = Begin (c .before .before) .pre in
-    omega (arith, below (c .before), p .0 .0 .indexed .fewFluid, p .0 .0 .indexed .fewBoundary, p .0 .0 .size)
+mul-sum-2 c = omega (arith, below (c .before))
 
 shared-slice-read-sum : tie.Need-shared-slice-read-sum Inv-loop μ-loop
-shared-slice-read-sum c =
-    let t = c .before .before in
-    omega (arith, below t, Begin (t .before) .pre .0 .1 .room)
+shared-slice-read-sum c = omega (arith, below (c .before .before))
 
 loop-again : tie.Need-loop-again Inv-loop μ-loop
 loop-again c =
@@ -102,7 +91,7 @@ boundary-pressure-sum-spec =
     target-of-requires
     (λ c. search needs)
     vector-requires
-    mul-sum
+    (λ c. search needs)
     add-sum
     mul-sum-2
     shared-slice-read-sum

@@ -48,8 +48,7 @@ vector-requires c κs = here (c .before) .doubles .gradient
 row-term-requires : tie.Need-row-term-requires Inv-loop μ-loop
 row-term-requires c κs =
     let t = c .before in
-    let p = Begin (t .before) .pre in
-    omega (arith, fluid-named (here (t .before)) (t .target-of .ensures) refl, p .0 .0 .size, p .0 .1 .room)
+    omega (arith, fluid-named (here (t .before)) (t .target-of .ensures) refl)
 
 loop-again : tie.Need-loop-again Inv-loop μ-loop
 loop-again c =
