@@ -39,7 +39,8 @@ summed-all {A} {b} {κ} {p} {list} h f a =
 -- of a particle p with these lists of contacts; x is what a sum is after the fluid contacts
 module _ {b : List ℕ} {p : FluidParticle} {fluid boundary : ContactList} (fs : ContactsAre b Fluid p fluid)
     (bs : ContactsAre b Boundary p boundary) where
-  over-both : {A : Type 0} (f : Neighbour → A → Contact → A) (a : A) {x y : A} → x ≡ summed Fluid b fluid f a (fluid .count)
+  over-both : {A : Type 0} (f : Neighbour → A → Contact → A) (a : A) {x y : A}
+      → x ≡ summed Fluid b fluid f a (fluid .count)
       → y ≡ summed Boundary b boundary f x (boundary .count)
       → y ≡ overNeighbours (sceneOf b) p f a
   unfolding overNeighbours overContacts fluidNeighbour boundaryNeighbour massOf velocityOf contactsOf

@@ -54,7 +54,8 @@ module _ (κ : Kind) (b : List ℕ) (list : ContactList) (k : ℕ) {m : Float}
     unfolding contactAt
     pushed-next factor a xe se ye = summed-next κ b list (pushed factor) a k xe (rw (ye, se, ge, me))
 
-    pub returned-next : (d : Vector) (factor a : Float) {s t : Vector} {x r : Float} → x ≡ summed κ b list (returned d factor) a k
+    pub returned-next : (d : Vector) (factor a : Float) {s t : Vector} {x r : Float}
+        → x ≡ summed κ b list (returned d factor) a k
         → s ≡ g ⊡ factor → t ≡ d ⊟ s → r ≡ t · g
         → x ⊕ m ⊗ r ≡ summed κ b list (returned d factor) a (k + 1)
     unfolding contactAt

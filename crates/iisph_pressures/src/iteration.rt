@@ -57,7 +57,8 @@ fn dij_sum(scene: &[u8], index: &[usize], work: &[f64], n: usize, list: ContactL
     requires { ⌜ ContactsReady Kind.Fluid (now scene) list ⌝ }
     ensures { λ r. ⌜
         (let b = now (scene .entry) in
-        coordinates r ≡ overList Kind.Fluid b list (withDij (sceneOf b) (pressuresIn n (now (work .entry)))) (origin axes))
+        let ps = pressuresIn n (now (work .entry)) in
+        coordinates r ≡ overList Kind.Fluid b list (withDij (sceneOf b) ps) (origin axes))
         ⌝ }
 {
     let count = list.count;
@@ -153,7 +154,8 @@ fn boundary_pressure_sum(
     ensures { λ r. ⌜
         (let b = now (scene .entry) in
         let l = now (work .entry) in
-        r ≡ overList Kind.Boundary b list (withTerm Kind.Boundary (sceneOf b) (pressuresIn n l) (dijsIn n l) owner) from)
+        r ≡ overList Kind.Boundary b list (withTerm Kind.Boundary (sceneOf b) (pressuresIn n l) (dijsIn n l) owner)
+        from)
         ⌝ }
 {
     let count = list.count;

@@ -23,7 +23,8 @@ abbrev Inv-loop : tie.InvT-loop
 Inv-loop scene index work n own dt count at change₀ k₀ change k =
     (k ≤ count)
     × (coordinates change
-    ≡ overFirst Fluid scene at (lessBy (fluidChange (sceneOf scene) (pressuresIn n work) dt own)) (coordinates change₀) k)
+    ≡ overFirst Fluid scene at (lessBy (fluidChange (sceneOf scene) (pressuresIn n work) dt own)) (coordinates change₀)
+    k)
 
 abbrev μ-loop : tie.MeasureT-loop
 μ-loop scene index work n own dt count at change₀ k₀ change k = count - k
