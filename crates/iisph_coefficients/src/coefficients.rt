@@ -15,7 +15,6 @@ use scene_format::format::CONTACT_WIDTH;
 use scene_format::read;
 use scene_index::contacts::ContactList;
 use scene_index::contacts::contacts_of;
-use timestep_manager::Clock;
 ghost use mathlib.Core.Path.{_≡_};
 ghost use Prim.Native.Nat.{_<_};
 ghost use Rattle.iisph_rows.specs.Passes.{TimedPass, CoefficientsReady};
@@ -229,10 +228,10 @@ pub fn coefficients_of(
     index: &[usize],
     work: &[f64],
     n: usize,
-    clock: Clock,
+    dt: f64,
     i: usize,
 ) -> CoefficientsOf
-    requires { ⌜ TimedPass (now scene) (now index) n clock × (i < n) ⌝ }
+    requires { ⌜ TimedPass (now scene) (now index) n dt × (i < n) ⌝ }
     requires { ⌜ CoefficientsReady (sceneOf (now scene)) n (now work) ⌝ }
     ensures { λ r. ⌜
         (let s = sceneOf (now (scene .entry)) in
@@ -241,7 +240,6 @@ pub fn coefficients_of(
 {
     let fluid = contacts_of(scene, index, Kind::Fluid, i);
     let boundary = contacts_of(scene, index, Kind::Boundary, i);
-    let dt = clock.dt;
     let v = vector_at(work, ROW * i + ADVECTED);
     let part = fluid_densities(scene, index, work, n, fluid, v);
     let sums = boundary_densities(scene, index, work, n, boundary, v, part);

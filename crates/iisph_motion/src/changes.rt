@@ -15,7 +15,6 @@ use scene_format::read;
 use scene_index::contacts::ContactList;
 use scene_index::contacts::contacts_of;
 use scene_index::contacts::target_of;
-use timestep_manager::Clock;
 ghost use mathlib.Core.Path.{_≡_};
 ghost use Prim.Native.Nat.{_<_};
 ghost use Rattle.iisph_pressures.specs.IterationRows.{pressuresIn, Iterating};
@@ -100,11 +99,11 @@ pub(crate) fn final_change_of(
     index: &[usize],
     work: &[f64],
     n: usize,
-    clock: Clock,
+    dt: f64,
     gravity: Vec3,
     i: usize,
 ) -> Vec3
-    requires { ⌜ DrivenPass (now scene) (now index) n clock gravity × (i < n) ⌝ }
+    requires { ⌜ DrivenPass (now scene) (now index) n dt gravity × (i < n) ⌝ }
     requires { ⌜ ChangesReady (sceneOf (now scene)) n (now work) ⌝ }
     ensures { λ r. ⌜
         (let s = sceneOf (now (scene .entry)) in
@@ -113,10 +112,9 @@ pub(crate) fn final_change_of(
 {
     let fluid = contacts_of(scene, index, Kind::Fluid, i);
     let boundary = contacts_of(scene, index, Kind::Boundary, i);
-    let dt = clock.dt;
     let state = pressure_state_of(scene, index, work, n, i);
     let share = work[ROW * i + SHARE];
-    let first = velocity_change_of(scene, index, n, clock, gravity, i);
+    let first = velocity_change_of(scene, index, n, dt, gravity, i);
     let part = fluid_changes(scene, index, work, n, fluid, share, dt, first);
     boundary_changes(scene, index, work, n, boundary, state, dt, part)
 }

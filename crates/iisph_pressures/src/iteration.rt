@@ -18,7 +18,6 @@ use scene_format::read;
 use scene_index::contacts::ContactList;
 use scene_index::contacts::contacts_of;
 use scene_index::contacts::target_of;
-use timestep_manager::Clock;
 ghost use mathlib.Core.Path.{_≡_};
 ghost use Prim.Native.Nat.{_+_, _<_, _≤_};
 ghost use lib.ListN.{length};
@@ -75,15 +74,8 @@ fn dij_sum(scene: &[u8], index: &[usize], work: &[f64], n: usize, list: ContactL
 }
 
 // The dij_pjl of fluid particle i, where the quotients stand in the rows.
-pub fn dij_pjl_of(
-    scene: &[u8],
-    index: &[usize],
-    work: &[f64],
-    n: usize,
-    clock: Clock,
-    i: usize,
-) -> Vec3
-    requires { ⌜ TimedPass (now scene) (now index) n clock × (i < n) ⌝ }
+pub fn dij_pjl_of(scene: &[u8], index: &[usize], work: &[f64], n: usize, dt: f64, i: usize) -> Vec3
+    requires { ⌜ TimedPass (now scene) (now index) n dt × (i < n) ⌝ }
     requires { ⌜ DijReady (sceneOf (now scene)) n (now work) ⌝ }
     ensures { λ r. ⌜
         (let s = sceneOf (now (scene .entry)) in
@@ -91,7 +83,6 @@ pub fn dij_pjl_of(
         ⌝ }
 {
     let list = contacts_of(scene, index, Kind::Fluid, i);
-    let dt = clock.dt;
     dij_sum(scene, index, work, n, list).scale(dt * dt)
 }
 
@@ -199,10 +190,10 @@ pub fn next_pressure_of(
     index: &[usize],
     work: &[f64],
     n: usize,
-    clock: Clock,
+    dt: f64,
     i: usize,
 ) -> Next
-    requires { ⌜ TimedPass (now scene) (now index) n clock × (i < n) ⌝ }
+    requires { ⌜ TimedPass (now scene) (now index) n dt × (i < n) ⌝ }
     requires { ⌜ Iterating (sceneOf (now scene)) n (now work) ⌝ }
     ensures { λ r. ⌜
         (let s = sceneOf (now (scene .entry)) in
@@ -212,7 +203,6 @@ pub fn next_pressure_of(
 {
     let fluid = contacts_of(scene, index, Kind::Fluid, i);
     let boundary = contacts_of(scene, index, Kind::Boundary, i);
-    let dt = clock.dt;
     let row = ROW * i;
     let rho = work[row];
     let pressure = work[row + PRESSURE];

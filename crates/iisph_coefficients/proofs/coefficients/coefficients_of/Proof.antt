@@ -11,7 +11,6 @@ use Rattle.scene_format.specs.declared.Kind.the-variants.{Fluid, Boundary}
 use Rattle.iisph_coefficients.proofs.BothKinds.{coefficients-made}
 use Rattle.scene_index.proofs.ContactLists.{ContactsAre, contacts-are}
 use Rattle.iisph_rules.proofs.Sizes.{length-advected}
-use Rattle.iisph_rows.proofs.Particles.{dt-is}
 use Rattle.iisph_rows.proofs.RowReads.{mass-at, advected-at}
 use Rattle.iisph_coefficients.proofs.coefficients.coefficients_of.Statement.{statement}
 use Rattle.iisph_coefficients.proofs.coefficients.coefficients_of.Tie as tie
@@ -123,7 +122,7 @@ returns c =
     let s = Begin u in
     let p = s .pre in
     coefficients-made (fluid u) (boundary u)
-    (dt-is _ (p .0 .0 .clockIs))
+    (p .0 .0 .dtIs)
     (v .vector-at .ensures ∙ advected-at (p .1) _ (p .0 .1) (length-advected _ _ (below s)))
     (r .before .fluid-densities .ensures .0)
     (r .before .fluid-densities .ensures .1)

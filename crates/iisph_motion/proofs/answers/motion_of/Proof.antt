@@ -4,7 +4,7 @@ use native.Mathlib.Omega.{arith}
 use borrow.Author.Needs.{needs}
 use denote.Ref.{now}
 use Rattle.scene_check.specs.Accepted.{FluidParticleOk}
-use Rattle.iisph_rows.proofs.Particles.{dt-is, over-here}
+use Rattle.iisph_rows.proofs.Particles.{over-here}
 use Rattle.scene_index.proofs.ContactLists.{indexedLocation}
 use Rattle.iisph_motion.proofs.Motions.{velocity-made, position-made}
 use Rattle.iisph_motion.proofs.answers.motion_of.Statement.{statement}
@@ -41,7 +41,7 @@ returns c =
     let d = k .before .final-change-of .ensures in
     record {
       position =
-          position-made (here s) _ d (v .vector .ensures) (x .add .ensures) (dt-is _ (s .pre .0 .0 .timed .clockIs))
+          position-made (here s) _ d (v .vector .ensures) (x .add .ensures) (s .pre .0 .0 .timed .dtIs)
           (y .vector2 .ensures)
           (w .scale .ensures)
           (c .add2 .ensures);

@@ -7,7 +7,6 @@ use Rattle.scene_format.specs.Scene.{fluidSize, particle}
 use Rattle.scene_format.specs.SceneOf.{sceneOf}
 use Rattle.scene_format.specs.declared.Kind.the-variants.{Fluid, Boundary}
 use Rattle.scene_index.proofs.ContactLists.{ContactsAre, contacts-are}
-use Rattle.iisph_rows.proofs.Particles.{dt-is}
 use Rattle.iisph_rows.proofs.RowReads.{row-value}
 use Rattle.iisph_rules.specs.Coefficients.{coefficients}
 use Rattle.iisph_rules.specs.Step.{pressureShare}
@@ -87,7 +86,7 @@ returns c =
     let o = v .before .before in
     let l = o .before in
     let p = Begin l .pre in
-    change-made _ (fluid l) (boundary l) _ _ (dt-is _ (p .0 .0 .timed .clockIs)) _
+    change-made _ (fluid l) (boundary l) _ _ (p .0 .0 .timed .dtIs) _
     (o .pressure-state-of .ensures)
     _
     (row-value (pressureShare (coefficients (sceneOf (now (Begin l .args .scene)))) _) (p .1 .share) _ (p .0 .1))

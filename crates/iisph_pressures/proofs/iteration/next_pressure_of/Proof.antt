@@ -7,7 +7,6 @@ use denote.Ref.{now}
 use Rattle.scene_format.specs.Scene.{fluidSize, particle}
 use Rattle.scene_format.specs.SceneOf.{sceneOf}
 use Rattle.scene_format.specs.declared.Kind.the-variants.{Fluid, Boundary}
-use Rattle.iisph_rows.proofs.Particles.{dt-is}
 use Rattle.scene_index.proofs.ContactLists.{ContactsAre, contacts-are}
 use Rattle.iisph_pressures.proofs.IterationTerms.{next-made}
 use Rattle.iisph_pressures.proofs.iteration.next_pressure_of.Statement.{statement}
@@ -141,7 +140,7 @@ returns c =
     let v = y .before .before in
     let u = Row v in
     let p = Begin u .pre in
-    next-made _ (p .0 .0 .over .size) (p .1) _ (p .0 .1) (fluid u) (boundary u) _ (dt-is _ (p .0 .0 .clockIs)) _
+    next-made _ (p .0 .0 .over .size) (p .1) _ (p .0 .1) (fluid u) (boundary u) _ (p .0 .0 .dtIs) _
     (v .vector-at .ensures)
     (y .before .fluid-pressure-sum .ensures)
     (y .boundary-pressure-sum .ensures)

@@ -7,7 +7,7 @@ use denote.Ref.{now}
 use Rattle.math.specs.Vector.{Vector, coordinates, _⊞_, _⊡_}
 use Rattle.scene_check.specs.Accepted.{FluidParticleOk}
 use Rattle.scene_index.proofs.ContactLists.{indexedLocation}
-use Rattle.iisph_rows.proofs.Particles.{over-here, dt-is, change-made}
+use Rattle.iisph_rows.proofs.Particles.{over-here, change-made}
 use Rattle.iisph_rows.proofs.records.velocity_change_of.Statement.{statement}
 use Rattle.iisph_rows.proofs.records.velocity_change_of.Tie as tie
 
@@ -30,8 +30,8 @@ returns c =
     let b = v .before .before .before .before in
     c .add2 .ensures
     ∙ ap (λ (x : Vector). coordinates (s .before .zero .result) ⊞ x)
-    (s .scale .ensures ∙ ap (λ (x : Vector). x ⊡ b .args .clock .dt) (a .add .ensures))
-    ∙ change-made (here b) (v .vector .ensures) (b .pre .0 .gravityIs) (dt-is _ (b .pre .0 .timed .clockIs))
+    (s .scale .ensures ∙ ap (λ (x : Vector). x ⊡ b .args .dt) (a .add .ensures))
+    ∙ change-made (here b) (v .vector .ensures) (b .pre .0 .gravityIs) (b .pre .0 .timed .dtIs)
     (s .before .zero .ensures)
 
 pub velocity-change-of-spec : {M : Type 1} → statement M
