@@ -23,7 +23,7 @@ use Rattle.iisph_rules.specs.Coefficients.{coefficientsOf, coefficients, coeffi
 use Rattle.iisph_rules.specs.Iteration.{pressure, dijSum, dijPjl, dij, pressureSum, relaxed, errorTerm, noPressure}
 use Rattle.iisph_rules.specs.Iteration.{clamped, aiiLimit, nextPressure}
 use Rattle.iisph_pressures.specs.IterationRows.{IterationReady, pressuresIn, dijsIn, quotient, withDij, rowTerm}
-use Rattle.iisph_pressures.specs.IterationRows.{termOf, withTerm, nextFrom, NextIs}
+use Rattle.iisph_pressures.specs.IterationRows.{fluidTerm, boundaryTerm, withTerm, nextFrom, NextIs}
 use Rattle.scene_index.specs.Contacts.{ContactReady, overFirst, overList}
 use Rattle.iisph_rows.specs.Rows.{rowAt, elementAt, vectorFrom, massSlot, pressureSlot, dijSlot, predictedSlot, aiiSlot}
 use Rattle.scene_format.specs.Format.{axes, contactWidth, gradientOffset, startsOf}
@@ -85,35 +85,32 @@ module _ (b : List ℕ) {n : ℕ} {work : List Float} (size : n ≡ fluidSize (s
       (dij-in work j h)
 
   -- the contact at an offset names j and has the gradient g
-  module _ {at j : ℕ} {g : Vector} (ge : g ≡ vectorAt axes b (at + gradientOffset)) (owner : Owner) where
-    pub fluid-term : ContactReady Fluid b at → j ≡ targetAt (startsOf Fluid b) b at
+  module _ {at j : ℕ} {g : Vector} (ge : g ≡ vectorAt axes b (at + gradientOffset)) where
+    pub fluid-term : ContactReady Fluid b at → j ≡ targetAt (startsOf Fluid b) b at → (owner : Owner)
         → rowTerm work j owner g
-        ≡ termOf Fluid (sceneOf b) (pressuresIn n work) (dijsIn n work) owner (contactAt (startsOf Fluid b) b at)
-    unfolding termOf fluidMass contactAt
-    fluid-term ready named =
+        ≡ fluidTerm (sceneOf b) (pressuresIn n work) (dijsIn n work) owner (contactAt (startsOf Fluid b) b at)
+    unfolding fluidTerm fluidMass contactAt
+    fluid-term ready named owner =
         let h = fluid-named ready named refl in
         row-term-is j (omega arith) owner g ∙ rw (ge, named)
 
     pub boundary-term : ContactReady Boundary b at → j ≡ targetAt (startsOf Boundary b) b at
-        → {r : Float} → r ≡ coordinates (owner .dij) · g
-        → elementAt work (rowAt n + j) ⊗ owner .density0 ⊗ r
-        ≡ termOf Boundary (sceneOf b) (pressuresIn n work) (dijsIn n work) owner (contactAt (startsOf Boundary b) b at)
-    unfolding termOf boundaryMass contactAt
-    boundary-term ready named {r} re =
-        ap (λ v. v ⊗ owner .density0 ⊗ r)
-        (volume-behind (sceneOf b) n (q .volume) j (boundary-named ready named refl))
+        → (density0 : Float) (d : Vector) {r : Float} → r ≡ d · g
+        → elementAt work (rowAt n + j) ⊗ density0 ⊗ r
+        ≡ boundaryTerm (sceneOf b) density0 d (contactAt (startsOf Boundary b) b at)
+    unfolding boundaryTerm boundaryMass contactAt
+    boundary-term ready named density0 d {r} re =
+        ap (λ v. v ⊗ density0 ⊗ r) (volume-behind (sceneOf b) n (q .volume) j (boundary-named ready named refl))
         ∙ rw (re, ge, named)
 
 -- ---- the pressure sum
 
 -- a turn of a loop: k contacts were passed, t is the term of the next
-pub term-next : (κ : Kind) (b : List ℕ) (ps : List Float) (ds : List Vector) (owner : Owner) (at k : ℕ) (a : Float)
-    {x t : Float}
-    → x ≡ overFirst κ b at (withTerm κ (sceneOf b) ps ds owner) a k
-    → t ≡ termOf κ (sceneOf b) ps ds owner (contactAt (startsOf κ b) b (at + contactWidth axes * k))
-    → x ⊕ t ≡ overFirst κ b at (withTerm κ (sceneOf b) ps ds owner) a (k + 1)
-term-next κ b ps ds owner at k a {x} xe te =
-    fold-next (withTerm κ (sceneOf b) ps ds owner) a κ b at k xe (ap (λ t. x ⊕ t) te)
+pub term-next : (κ : Kind) (b : List ℕ) (term : Contact → Float) (at k : ℕ) (a : Float) {x t : Float}
+    → x ≡ overFirst κ b at (withTerm term) a k
+    → t ≡ term (contactAt (startsOf κ b) b (at + contactWidth axes * k))
+    → x ⊕ t ≡ overFirst κ b at (withTerm term) a (k + 1)
+term-next κ b term at k a {x} xe te = fold-next (withTerm term) a κ b at k xe (ap (λ t. x ⊕ t) te)
 
 -- the rule's sum, of what it takes of particle i itself
 abbrev sumWith : Scene → List Float → List Vector → FluidParticle → Float → Vector → Float → Float → Float
@@ -128,7 +125,8 @@ sumWith s ps ds p r d e q =
     +0
     p
 
-sum-same : (s : Scene) (ps : List Float) (ds : List Vector) (p : FluidParticle) {r r′ e e′ q q′ : Float} {d d′ : Vector}
+sum-same : (s : Scene) (ps : List Float) (ds : List Vector) (p : FluidParticle) {r r′ e e′ q q′ : Float}
+    {d d′ : Vector}
     → r ≡ r′ → d ≡ d′ → e ≡ e′ → q ≡ q′ → sumWith s ps ds p r d e q ≡ sumWith s ps ds p r′ d′ e′ q′
 sum-same s ps ds p re de ee qe = cc
 
@@ -136,26 +134,29 @@ module _ {b : List ℕ} (i : ℕ) {fluid boundary : ContactList}
     (fs : ContactsAre b Fluid (particle (sceneOf b) i) fluid)
     (bs : ContactsAre b Boundary (particle (sceneOf b) i) boundary)
     (ps : List Float) (ds : List Vector) (owner : Owner) {x y : Float}
-    (xe : x ≡ overList Fluid b fluid (withTerm Fluid (sceneOf b) ps ds owner) +0)
-    (ye : y ≡ overList Boundary b boundary (withTerm Boundary (sceneOf b) ps ds owner) x) where
-  sum-both : y ≡ sumWith (sceneOf b) ps ds (particle (sceneOf b) i) (owner .density0) (coordinates (owner .dij))
+    (xe : x ≡ overList Fluid b fluid (withTerm (fluidTerm (sceneOf b) ps ds owner)) +0)
+    (ye : y
+    ≡ overList Boundary b boundary
+    (withTerm (boundaryTerm (sceneOf b) (boundary .density0) (coordinates (owner .dij)))) x) where
+  sum-both : y ≡ sumWith (sceneOf b) ps ds (particle (sceneOf b) i) (boundary .density0) (coordinates (owner .dij))
       (owner .factor)
       (owner .pressure)
-  unfolding overContacts termOf contactsOf
+  unfolding overContacts fluidTerm boundaryTerm contactsOf
   sum-both =
       let p = particle (sceneOf b) i in
+      let term : Contact → Float = boundaryTerm (sceneOf b) (boundary .density0) (coordinates (owner .dij)) in
       ye
-      ∙ over-list bs (withTerm Boundary (sceneOf b) ps ds owner) x
-      ∙ ap (λ (x : Float). fold (withTerm Boundary (sceneOf b) ps ds owner) x (p .boundaryContacts))
-      (xe ∙ over-list fs (withTerm Fluid (sceneOf b) ps ds owner) +0)
+      ∙ over-list bs (withTerm term) x
+      ∙ ap (λ (x : Float). fold (withTerm term) x (p .boundaryContacts))
+      (xe ∙ over-list fs (withTerm (fluidTerm (sceneOf b) ps ds owner)) +0)
 
-  sum-made : owner .density0 ≡ particle (sceneOf b) i .density0 → coordinates (owner .dij) ≡ dij ds i
+  sum-made : coordinates (owner .dij) ≡ dij ds i
       → owner .factor
       ≡ djiFactor (sceneOf b) (particle (sceneOf b) i) (coefficient (coefficients (sceneOf b)) i .density)
       → owner .pressure ≡ pressure ps i
       → y ≡ pressureSum (sceneOf b) (coefficients (sceneOf b)) ps ds i
   unfolding pressureSum
-  sum-made re de ee qe = sum-both ∙ sum-same (sceneOf b) ps ds (particle (sceneOf b) i) re de ee qe
+  sum-made de ee qe = sum-both ∙ sum-same (sceneOf b) ps ds (particle (sceneOf b) i) (bs .density0) de ee qe
 
 -- ---- the next pressure
 
@@ -214,10 +215,9 @@ unfolding djiFactor
 factor-made b p te me re = factor-same te me re
 
 -- the owner as the code makes it, from row i
-abbrev ownerOf : List Float → ℕ → Float → Float → Vec3 → Owner
-ownerOf work i density0 t d =
+abbrev ownerOf : List Float → ℕ → Float → Vec3 → Owner
+ownerOf work i t d =
     record {
-      density0 = density0;
       dij = d;
       factor = t ⊗ t ⊗ elementAt work (rowAt i + massSlot axes) ⊘ (elementAt work (rowAt i) ⊗ elementAt work (rowAt i));
       pressure = elementAt work (rowAt i + pressureSlot axes);
@@ -232,17 +232,15 @@ pub next-made : (b : List ℕ) {n : ℕ} {work : List Float} → n ≡ fluidSize
     → {x y : Float} {r : Next}
     → let ps = pressuresIn n work in
     let ds = dijsIn n work in
-    let owner = ownerOf work i (fluid .density0) t d in
-    x ≡ overList Fluid b fluid (withTerm Fluid (sceneOf b) ps ds owner) +0
-    → y ≡ overList Boundary b boundary (withTerm Boundary (sceneOf b) ps ds owner) x
+    x ≡ overList Fluid b fluid (withTerm (fluidTerm (sceneOf b) ps ds (ownerOf work i t d))) +0
+    → y ≡ overList Boundary b boundary (withTerm (boundaryTerm (sceneOf b) (boundary .density0) (coordinates d))) x
     → NextIs r
     (nextFrom (fluid .density0) (elementAt work (rowAt i + aiiSlot)) (elementAt work (rowAt i + predictedSlot)) y
     (elementAt work (rowAt i + pressureSlot axes)))
     → NextIs r (nextPressure (sceneOf b) (coefficients (sceneOf b)) ps ds i)
-next-made b {n} {work} size q i h {fluid} fs bs t te d de {r = r} xe ye re =
+next-made b {n} {work} size q i h fs bs t te d de {r = r} xe ye re =
     let sum =
-    sum-made i fs bs (pressuresIn n work) (dijsIn n work) (ownerOf work i (fluid .density0) t d) xe ye (fs .density0)
-    (de ∙ dij-in work i h)
+    sum-made i fs bs (pressuresIn n work) (dijsIn n work) (ownerOf work i t d) xe ye (de ∙ dij-in work i h)
     (factor-made b (particle (sceneOf b) i) te (mass-in q size i h) (density-in q size i h))
     (pressure-in work i h) in
     subst (NextIs r)

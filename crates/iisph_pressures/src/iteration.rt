@@ -32,13 +32,11 @@ ghost use Rattle.scene_format.specs.Scene.{particle};
 ghost use Rattle.scene_format.specs.SceneOf.{sceneOf};
 ghost use Rattle.scene_index.specs.Contacts.{ContactsReady, overList};
 ghost use Rattle.scene_lengths.specs.Lengths.{workWidth};
-ghost use Rattle.iisph_pressures.specs.IterationRows.{pressuresIn, dijsIn, withDij, rowTerm, withTerm};
-ghost use Rattle.iisph_pressures.specs.IterationRows.{nextFrom, DijReady, Iterating, NextIs};
+ghost use Rattle.iisph_pressures.specs.IterationRows.{pressuresIn, dijsIn, withDij, rowTerm, fluidTerm};
+ghost use Rattle.iisph_pressures.specs.IterationRows.{boundaryTerm, withTerm, nextFrom, DijReady, Iterating, NextIs};
 
-// What the terms of a pressure sum take of the particle itself: the rest density of its fluid, its dij_pjl, e of METHOD
-// 5.6, and its pressure.
+// What the fluid terms of a pressure sum take of the particle itself: its dij_pjl, e of METHOD 5.6, and its pressure.
 pub struct Owner {
-    pub density0: f64,
     pub dij: Vec3,
     pub factor: f64,
     pub pressure: f64,
@@ -113,7 +111,7 @@ fn fluid_pressure_sum(
     ensures { λ r. ⌜
         (let b = now (scene .entry) in
         let l = now (work .entry) in
-        r ≡ overList Kind.Fluid b list (withTerm Kind.Fluid (sceneOf b) (pressuresIn n l) (dijsIn n l) owner) +0)
+        r ≡ overList Kind.Fluid b list (withTerm (fluidTerm (sceneOf b) (pressuresIn n l) (dijsIn n l) owner)) +0)
         ⌝ }
 {
     let count = list.count;
@@ -130,35 +128,33 @@ fn fluid_pressure_sum(
     sum
 }
 
-// The same sum over the boundary contacts, from that over the fluid contacts on.
+// The same sum over the boundary contacts, from that over the fluid contacts on; d is the particle's dij_pjl.
 fn boundary_pressure_sum(
     scene: &[u8],
     index: &[usize],
     work: &[f64],
     n: usize,
     list: ContactList,
-    owner: Owner,
+    d: Vec3,
     from: f64,
 ) -> f64
     requires { ⌜ PassOver (now scene) (now index) n × Iterating (sceneOf (now scene)) n (now work) ⌝ }
     requires { ⌜ ContactsReady Kind.Boundary (now scene) list ⌝ }
     ensures { λ r. ⌜
         (let b = now (scene .entry) in
-        let l = now (work .entry) in
-        r ≡ overList Kind.Boundary b list (withTerm Kind.Boundary (sceneOf b) (pressuresIn n l) (dijsIn n l) owner)
-        from)
+        r ≡ overList Kind.Boundary b list (withTerm (boundaryTerm (sceneOf b) (list .density0) (coordinates d))) from)
         ⌝ }
 {
     let count = list.count;
     let at = list.at;
-    let d = owner.dij;
+    let density0 = list.density0;
     let mut sum = from;
     let mut k = 0usize;
     while k < count {
         let c = at + CONTACT_WIDTH * k;
         let j = target_of(scene, index, Kind::Boundary, c);
         let g = read::vector(scene, c + CONTACT_GRADIENT);
-        sum = sum + work[ROW * n + j] * owner.density0 * d.dot(g);
+        sum = sum + work[ROW * n + j] * density0 * d.dot(g);
         k += 1;
     }
     sum
@@ -209,13 +205,12 @@ pub fn next_pressure_of(
     let factor = dt * dt * work[row + MASS] / (rho * rho);
     let dij = vector_at(work, row + DIJ_PJL);
     let owner = Owner {
-        density0: fluid.density0,
         dij,
         factor,
         pressure,
     };
     let part = fluid_pressure_sum(scene, index, work, n, fluid, owner);
-    let sum = boundary_pressure_sum(scene, index, work, n, boundary, owner, part);
+    let sum = boundary_pressure_sum(scene, index, work, n, boundary, dij, part);
     next_from(
         fluid.density0,
         work[row + AII],

@@ -7,32 +7,32 @@ use native.Mathlib.Omega.{arith}
 use borrow.Author.Needs.{needs}
 use denote.Ref.{now}
 use Rattle.lists.specs.Lists.{fold, table}
+use Rattle.math.specs.Vector.{coordinates}
 use Rattle.scene_format.specs.Format.{axes, contactWidth}
 use Rattle.scene_format.specs.Scene.{boundarySize}
 use Rattle.scene_format.specs.SceneOf.{contactList, sceneOf}
 use Rattle.scene_format.specs.declared.Kind.the-variants.{Boundary}
 use Rattle.scene_index.specs.Contacts.{ContactReady, overFirst}
 use Rattle.scene_index.proofs.Targets.{boundary-named}
-use Rattle.iisph_pressures.specs.IterationRows.{pressuresIn, dijsIn, withTerm}
+use Rattle.iisph_pressures.specs.IterationRows.{boundaryTerm, withTerm}
 use Rattle.iisph_pressures.proofs.IterationTerms.{boundary-term, term-next}
 use Rattle.iisph_pressures.proofs.iteration.boundary_pressure_sum.Statement.{statement}
 use Rattle.iisph_pressures.proofs.iteration.boundary_pressure_sum.Tie as tie
 
 abbrev Inv-loop : tie.InvT-loop
-Inv-loop scene index work n owner from count at d sum₀ k₀ sum k =
+Inv-loop scene index work n d from count at density0 sum₀ k₀ sum k =
     (k ≤ count)
-    × (sum
-    ≡ overFirst Boundary scene at (withTerm Boundary (sceneOf scene) (pressuresIn n work) (dijsIn n work) owner) sum₀ k)
+    × (sum ≡ overFirst Boundary scene at (withTerm (boundaryTerm (sceneOf scene) density0 (coordinates d))) sum₀ k)
 
 abbrev μ-loop : tie.MeasureT-loop
-μ-loop scene index work n owner from count at d sum₀ k₀ sum k = count - k
+μ-loop scene index work n d from count at density0 sum₀ k₀ sum k = count - k
 
 loop-holds : tie.Need-loop-holds Inv-loop μ-loop
 unfolding contactList table fold
 loop-holds c = (omega arith, refl)
 
 abbrev Begin : tie.In-loop Inv-loop μ-loop → tie.Start Inv-loop μ-loop
-Begin c = c .before .before .before .before .before .before
+Begin c = c .before .before .before .before .before
 
 -- the contact of a turn
 here : (c : tie.In-loop Inv-loop μ-loop)
@@ -62,16 +62,18 @@ shared-slice-read-sum c = omega (arith, below (c .before .before))
 
 loop-again : tie.Need-loop-again Inv-loop μ-loop
 loop-again c =
-    let v = c .before .before .before in
+    let v = c .before .before in
     let t = v .before in
     let l = t .before .before .loop in
     let s = Begin (t .before) in
+    let a = s .args in
+    let d = coordinates (a .d) in
     let p = s .pre in (
       omega arith,
-      term-next Boundary _ _ _ (s .args .owner) (s .args .list .at) (l .k) _ (l .inv .1)
-          (boundary-term _ (p .0 .0 .size) (p .0 .1) (v .vector .ensures) (s .args .owner) (here (t .before))
-          (t .target-of .ensures)
-          (c .dot .ensures)),
+      term-next Boundary _ (boundaryTerm (sceneOf (now (a .scene))) (a .list .density0) d) (a .list .at) (l .k) _
+          (l .inv .1)
+          (boundary-term _ (p .0 .0 .size) (p .0 .1) (v .vector .ensures) (here (t .before)) (t .target-of .ensures)
+          (a .list .density0) d (c .dot .ensures)),
     )
 
 returns : tie.Need-returns Inv-loop μ-loop

@@ -13,7 +13,7 @@ use Rattle.scene_format.specs.SceneOf.{contactList, sceneOf}
 use Rattle.scene_format.specs.declared.Kind.the-variants.{Fluid}
 use Rattle.scene_index.specs.Contacts.{ContactReady, overFirst}
 use Rattle.scene_index.proofs.Targets.{fluid-named}
-use Rattle.iisph_pressures.specs.IterationRows.{pressuresIn, dijsIn, withTerm}
+use Rattle.iisph_pressures.specs.IterationRows.{pressuresIn, dijsIn, fluidTerm, withTerm}
 use Rattle.iisph_pressures.proofs.IterationTerms.{fluid-term, term-next}
 use Rattle.iisph_pressures.proofs.iteration.fluid_pressure_sum.Statement.{statement}
 use Rattle.iisph_pressures.proofs.iteration.fluid_pressure_sum.Tie as tie
@@ -21,7 +21,8 @@ use Rattle.iisph_pressures.proofs.iteration.fluid_pressure_sum.Tie as t
 abbrev Inv-loop : tie.InvT-loop
 Inv-loop scene index work n owner count at sum₀ k₀ sum k =
     (k ≤ count)
-    × (sum ≡ overFirst Fluid scene at (withTerm Fluid (sceneOf scene) (pressuresIn n work) (dijsIn n work) owner) +0 k)
+    × (sum
+    ≡ overFirst Fluid scene at (withTerm (fluidTerm (sceneOf scene) (pressuresIn n work) (dijsIn n work) owner)) +0 k)
 
 abbrev μ-loop : tie.MeasureT-loop
 μ-loop scene index work n owner count at sum₀ k₀ sum k = count - k
@@ -56,12 +57,15 @@ loop-again c =
     let t = v .before in
     let l = t .before .before .loop in
     let s = Begin (t .before) in
-    let p = s .pre in (
+    let a = s .args in
+    let p = s .pre in
+    let w = now (a .work) in (
       omega arith,
-      term-next Fluid _ _ _ (s .args .owner) (s .args .list .at) (l .k) +0 (l .inv .1)
+      term-next Fluid _ (fluidTerm (sceneOf (now (a .scene))) (pressuresIn (a .n) w) (dijsIn (a .n) w) (a .owner))
+          (a .list .at) (l .k) +0 (l .inv .1)
           (c .row-term .ensures
-          ∙ fluid-term _ (p .0 .0 .size) (p .0 .1) (v .vector .ensures) (s .args .owner) (here (t .before))
-          (t .target-of .ensures)),
+          ∙ fluid-term _ (p .0 .0 .size) (p .0 .1) (v .vector .ensures) (here (t .before)) (t .target-of .ensures)
+          (a .owner)),
     )
 
 returns : tie.Need-returns Inv-loop μ-loop
