@@ -22,9 +22,10 @@ ARCHIVE = ROOT / "target" / "staticlib" / "libiisph_c.a"
 
 # function, with the sums over contacts that are inlined in it: doubles read, single bytes loaded at most
 EXPECTED = {
-    "iisph_passes::traverse::traverse": (2 + 6 + 25 + 3 + 7,    # masses, advected, coefficients, dij_pjl, next pressures
-                                         9 * 2 + 5),            # names in nine sums; numbers of contacts
-    "iisph_c::iisph_step": (16 + 4 + 3, 14),                    # motion, gathered forces, given forces
+    # masses, advected, coefficients, dij_pjl, next pressures; names in nine sums, numbers of contacts
+    "iisph_passes::traverse::traverse": (2 + 6 + 25 + 3 + 7, 9 * 2 + 5),
+    # motion, gathered forces, given forces
+    "iisph_c::iisph_step": (16 + 4 + 3, 14),
 }
 
 
