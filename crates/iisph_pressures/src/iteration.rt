@@ -33,7 +33,8 @@ ghost use Rattle.scene_format.specs.SceneOf.{sceneOf};
 ghost use Rattle.scene_index.specs.Contacts.{ContactsReady, overList};
 ghost use Rattle.scene_lengths.specs.Lengths.{workWidth};
 ghost use Rattle.iisph_pressures.specs.IterationRows.{pressuresIn, dijsIn, withDij, rowTerm, fluidTerm};
-ghost use Rattle.iisph_pressures.specs.IterationRows.{boundaryTerm, withTerm, nextFrom, DijReady, Iterating, NextIs};
+ghost use Rattle.iisph_pressures.specs.IterationRows.{boundaryTerm, withTerm, nextFrom, DijReady, Iterating};
+ghost use Rattle.iisph_pressures.specs.IterationRows.{NextIs};
 
 // What the fluid terms of a pressure sum take of the particle itself: its dij_pjl, e of METHOD 5.6, and its pressure.
 pub struct Owner {
