@@ -6,8 +6,9 @@ be one 8-byte load and one byte swap.
                            and compares
 
 Per function: how many byte swaps there are, one for each double that is read from the packed scene,
-and how many single bytes are loaded at most (a contact's name is two; the kind of contact is one).
-A change that breaks a read up shows as fewer swaps or more bytes.
+and how many single bytes are loaded at most (a contact's name is two; a number of contacts is one).
+A change that breaks a read up shows as fewer swaps or more bytes, and so does a sum that is no
+longer inlined where it is called.
 """
 import argparse
 import collections
@@ -19,13 +20,12 @@ import sys
 ROOT = pathlib.Path(__file__).resolve().parent.parent
 ARCHIVE = ROOT / "target" / "staticlib" / "libiisph_c.a"
 
-# function: doubles read, single bytes loaded at most
+# function, with the sums over contacts that are inlined in it: doubles read, single bytes loaded at most
 EXPECTED = {
-    "iisph_coefficients::coefficients::densities": (7, 3),      # weight, gradient, a boundary particle's velocity
-    "iisph_coefficients::coefficients::dii": (3, 3),            # gradient
-    "iisph_coefficients::coefficients::aii": (3, 3),            # gradient
-    "iisph_pressures::iteration::pressure_sum": (3, 3),      # gradient
-    "iisph_motion::changes::pressure_changes": (6, 4),        # gradient, in the branch of each kind
+    # masses, advected, coefficients, dij_pjl, next pressures; names in nine sums, numbers of contacts
+    "iisph_passes::traverse::traverse": (2 + 6 + 25 + 3 + 7, 9 * 2 + 5),
+    # motion, gathered forces, given forces
+    "iisph_c::iisph_step": (16 + 4 + 3, 14),
 }
 
 

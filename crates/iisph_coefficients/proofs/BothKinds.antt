@@ -9,40 +9,39 @@ use Rattle.lists.specs.Lists.{fold}
 use Rattle.math.specs.Real.{_⊕_, _⊗_, _⊘_, ⊝, +0}
 use Rattle.math.specs.Vector.{Vector, coordinates, origin}
 use Rattle.math.specs.declared.Vec3.{Vec3}
-use Rattle.scene_format.specs.Format.{axes, startsOf}
+use Rattle.scene_format.specs.Format.{axes}
 use Rattle.iisph_rows.proofs.Particles.{zero-is}
 use Rattle.scene_format.specs.Scene.{FluidParticle, Contact}
-use Rattle.scene_format.specs.SceneOf.{contactList, sceneOf}
+use Rattle.scene_format.specs.SceneOf.{sceneOf}
 use Rattle.scene_format.specs.declared.Kind.{Kind}
 use Rattle.scene_format.specs.declared.Kind.the-variants.{Fluid, Boundary}
 use Rattle.iisph_rules.specs.Coefficients as rules
 use Rattle.iisph_rules.specs.Coefficients.{dt, zeroVector, overContacts, particleMass, advectedVelocity, Neighbour}
 use Rattle.iisph_rules.specs.Coefficients.{fluidNeighbour, boundaryNeighbour, overNeighbours, predictedDensity}
 use Rattle.iisph_rules.specs.Coefficients.{diiFactor, djiFactor, coefficientsOf}
-use Rattle.iisph_coefficients.specs.Neighbours.{massOf, velocityOf, neighbourOf, summed, CoefficientsAre}
+use Rattle.iisph_coefficients.specs.Neighbours.{massOf, velocityOf, neighbourOf, weighed, approached, pushed}
+use Rattle.iisph_coefficients.specs.Neighbours.{returned, summed, CoefficientsAre}
+use Rattle.scene_index.specs.Contacts.{overList}
 use Rattle.scene_index.specs.declared.contacts.ContactList.{ContactList}
-use Rattle.scene_index.proofs.ContactLists.{contactsOf, ContactsAre}
-use Rattle.iisph_coefficients.proofs.Sums.{weighed, approached, pushed, returned}
+use Rattle.scene_index.proofs.ContactLists.{contactsOf, ContactsAre, over-list}
 
 -- ---- both kinds of contacts
 
 -- the whole sum over a list is one over the particle's contacts
 summed-all : {A : Type 0} {b : List ℕ} {κ : Kind} {p : FluidParticle} {list : ContactList} → ContactsAre b κ p list
     → (f : Neighbour → A → Contact → A) (a : A)
-    → summed b list f a (list .count)
+    → summed κ b list f a (list .count)
     ≡ fold (λ sum c. f (neighbourOf κ (sceneOf b) (p .density0) c) sum c) a (contactsOf κ p)
 summed-all {A} {b} {κ} {p} {list} h f a =
-    let over : Kind → Float → List Contact
-    → A = λ k d cs. fold (λ sum c. f (neighbourOf k (sceneOf b) d c) sum c) a cs in
-    ap (λ k. over k (list .density0) (contactList (startsOf k b) b (list .count) (list .at))) (h .kind)
-    ∙ ap (λ d. over κ d (contactList (startsOf κ b) b (list .count) (list .at))) (h .density0)
-    ∙ ap (over κ (p .density0)) (h .contacts)
+    let over : Float → A = λ d. overList κ b list (λ sum c. f (neighbourOf κ (sceneOf b) d c) sum c) a in
+    ap over (h .density0) ∙ over-list h (λ sum c. f (neighbourOf κ (sceneOf b) (p .density0) c) sum c) a
 
 -- of a particle p with these lists of contacts; x is what a sum is after the fluid contacts
 module _ {b : List ℕ} {p : FluidParticle} {fluid boundary : ContactList} (fs : ContactsAre b Fluid p fluid)
     (bs : ContactsAre b Boundary p boundary) where
-  over-both : {A : Type 0} (f : Neighbour → A → Contact → A) (a : A) {x y : A} → x ≡ summed b fluid f a (fluid .count)
-      → y ≡ summed b boundary f x (boundary .count)
+  over-both : {A : Type 0} (f : Neighbour → A → Contact → A) (a : A) {x y : A}
+      → x ≡ summed Fluid b fluid f a (fluid .count)
+      → y ≡ summed Boundary b boundary f x (boundary .count)
       → y ≡ overNeighbours (sceneOf b) p f a
   unfolding overNeighbours overContacts fluidNeighbour boundaryNeighbour massOf velocityOf contactsOf
   over-both {A} f a q r =
@@ -50,8 +49,8 @@ module _ {b : List ℕ} {p : FluidParticle} {fluid boundary : ContactList} (fs :
       ∙ ap (λ (x : A). fold (λ sum c. f (neighbourOf Boundary (sceneOf b) (p .density0) c) sum c) x
       (contactsOf Boundary p)) (q ∙ summed-all fs f a)
 
-  density-made : {x rho : Float} → x ≡ summed b fluid weighed +0 (fluid .count)
-      → rho ≡ summed b boundary weighed x (boundary .count)
+  density-made : {x rho : Float} → x ≡ summed Fluid b fluid weighed +0 (fluid .count)
+      → rho ≡ summed Boundary b boundary weighed x (boundary .count)
       → rho ≡ rules.density (sceneOf b) p
   unfolding rules.density
   density-made q r = over-both weighed +0 q r
@@ -59,8 +58,8 @@ module _ {b : List ℕ} {p : FluidParticle} {fluid boundary : ContactList} (fs :
   -- t is the step length
   module _ {t : Float} (te : t ≡ dt (sceneOf b)) (rho : Float) where
     predicted-made : (v : Vector) {x delta : Float} → v ≡ advectedVelocity (sceneOf b) p
-        → x ≡ summed b fluid (approached v) +0 (fluid .count)
-        → delta ≡ summed b boundary (approached v) x (boundary .count)
+        → x ≡ summed Fluid b fluid (approached v) +0 (fluid .count)
+        → delta ≡ summed Boundary b boundary (approached v) x (boundary .count)
         → rho ⊕ delta ⊗ t ≡ predictedDensity (sceneOf b) p rho
     unfolding predictedDensity rules.delta
     predicted-made v ve q r =
@@ -68,19 +67,19 @@ module _ {b : List ℕ} {p : FluidParticle} {fluid boundary : ContactList} (fs :
         (over-both (approached v) +0 q r ∙ ap (λ v. overNeighbours (sceneOf b) p (approached v) +0) ve)
         ∙ ap (λ t. rho ⊕ rules.delta (sceneOf b) p ⊗ t) te
 
-    dii-made : {z x d : Vector} → z ≡ origin axes
-        → x ≡ summed b fluid (pushed (⊝ t ⊗ t ⊘ (rho ⊗ rho))) z (fluid .count)
-        → d ≡ summed b boundary (pushed (⊝ t ⊗ t ⊘ (rho ⊗ rho))) x (boundary .count)
+    dii-made : {x d : Vector}
+        → x ≡ summed Fluid b fluid (pushed (⊝ t ⊗ t ⊘ (rho ⊗ rho))) (origin axes) (fluid .count)
+        → d ≡ summed Boundary b boundary (pushed (⊝ t ⊗ t ⊘ (rho ⊗ rho))) x (boundary .count)
         → d ≡ rules.dii (sceneOf b) p rho
     unfolding rules.dii diiFactor
-    dii-made ze q r =
+    dii-made q r =
         over-both (pushed (⊝ t ⊗ t ⊘ (rho ⊗ rho))) _ q r
-        ∙ ap (λ z. overNeighbours (sceneOf b) p (pushed (⊝ t ⊗ t ⊘ (rho ⊗ rho))) z) (ze ∙ zero-is b)
+        ∙ ap (λ z. overNeighbours (sceneOf b) p (pushed (⊝ t ⊗ t ⊘ (rho ⊗ rho))) z) (zero-is b)
         ∙ ap (λ t. overNeighbours (sceneOf b) p (pushed (⊝ t ⊗ t ⊘ (rho ⊗ rho))) (zeroVector (sceneOf b))) te
 
     aii-made : (d : Vector) (m : Float) {x a : Float} → m ≡ particleMass p
-        → x ≡ summed b fluid (returned d (t ⊗ t ⊗ m ⊘ (rho ⊗ rho))) +0 (fluid .count)
-        → a ≡ summed b boundary (returned d (t ⊗ t ⊗ m ⊘ (rho ⊗ rho))) x (boundary .count)
+        → x ≡ summed Fluid b fluid (returned d (t ⊗ t ⊗ m ⊘ (rho ⊗ rho))) +0 (fluid .count)
+        → a ≡ summed Boundary b boundary (returned d (t ⊗ t ⊗ m ⊘ (rho ⊗ rho))) x (boundary .count)
         → a ≡ rules.aii (sceneOf b) p rho d
     unfolding rules.aii djiFactor
     aii-made d m me q r =
@@ -89,25 +88,24 @@ module _ {b : List ℕ} {p : FluidParticle} {fluid boundary : ContactList} (fs :
         ∙ ap (λ t. overNeighbours (sceneOf b) p (returned d (t ⊗ t ⊗ particleMass p ⊘ (rho ⊗ rho))) +0) te
 
   -- from the results of the code's calls, in their order
-  pub coefficients-made : {t x y rho delta u a m : Float} {v z pd d : Vec3}
+  pub coefficients-made : {t x y rho delta u a m : Float} {v pd d : Vec3}
       → t ≡ dt (sceneOf b)
       → coordinates v ≡ advectedVelocity (sceneOf b) p
-      → x ≡ summed b fluid weighed +0 (fluid .count)
-      → y ≡ summed b fluid (approached (coordinates v)) +0 (fluid .count)
-      → rho ≡ summed b boundary weighed x (boundary .count)
-      → delta ≡ summed b boundary (approached (coordinates v)) y (boundary .count)
-      → coordinates z ≡ origin axes
-      → coordinates pd ≡ summed b fluid (pushed (⊝ t ⊗ t ⊘ (rho ⊗ rho))) (coordinates z) (fluid .count)
-      → coordinates d ≡ summed b boundary (pushed (⊝ t ⊗ t ⊘ (rho ⊗ rho))) (coordinates pd) (boundary .count)
+      → x ≡ summed Fluid b fluid weighed +0 (fluid .count)
+      → y ≡ summed Fluid b fluid (approached (coordinates v)) +0 (fluid .count)
+      → rho ≡ summed Boundary b boundary weighed x (boundary .count)
+      → delta ≡ summed Boundary b boundary (approached (coordinates v)) y (boundary .count)
+      → coordinates pd ≡ summed Fluid b fluid (pushed (⊝ t ⊗ t ⊘ (rho ⊗ rho))) (origin axes) (fluid .count)
+      → coordinates d ≡ summed Boundary b boundary (pushed (⊝ t ⊗ t ⊘ (rho ⊗ rho))) (coordinates pd) (boundary .count)
       → m ≡ particleMass p
-      → u ≡ summed b fluid (returned (coordinates d) (t ⊗ t ⊗ m ⊘ (rho ⊗ rho))) +0 (fluid .count)
-      → a ≡ summed b boundary (returned (coordinates d) (t ⊗ t ⊗ m ⊘ (rho ⊗ rho))) u (boundary .count)
+      → u ≡ summed Fluid b fluid (returned (coordinates d) (t ⊗ t ⊗ m ⊘ (rho ⊗ rho))) +0 (fluid .count)
+      → a ≡ summed Boundary b boundary (returned (coordinates d) (t ⊗ t ⊗ m ⊘ (rho ⊗ rho))) u (boundary .count)
       → CoefficientsAre (record { density = rho; «predicted_density» = rho ⊕ delta ⊗ t; aii = a; dii = d })
       (coefficientsOf (sceneOf b) p)
   unfolding coefficientsOf
-  coefficients-made {rho = rho} {m = m} {v = v} {d = d} te ve xe ye re le ze pe de me ue ae =
+  coefficients-made {rho = rho} {m = m} {v = v} {d = d} te ve xe ye re le pe de me ue ae =
       let density = density-made xe re in
-      let dii = dii-made te rho ze pe de ∙ ap (rules.dii (sceneOf b) p) density in
+      let dii = dii-made te rho pe de ∙ ap (rules.dii (sceneOf b) p) density in
       record {
         density = density;
         predictedDensity = predicted-made te rho (coordinates v) ve ye le ∙ ap (predictedDensity (sceneOf b) p) density;

@@ -1,20 +1,20 @@
--- What a contact names, as the code reads it: its mass and its velocity, by the kind of particle; a sum over a list of
--- contacts; and a particle's coefficients as the code has them and as a row holds them. Scaffolding: no promise rests
--- on it. Definitions only.
+-- What a contact names, as the code reads it: its mass and its velocity, by the kind of particle; the sums over a list
+-- of contacts; and a particle's coefficients as the code has them and as a row holds them. Scaffolding: no promise
+-- rests on it. Definitions only.
 use Prim.Native.Nat.{ℕ}
 use mathlib.Core.Path.{_≡_}
 use mathlib.Core.List.{List, [], _∷_, _++_}
 use lib.Ieee.{Float}
-use Rattle.iisph_rows.specs.Passes.{firstPressure}
+use Rattle.iisph_rows.specs.Passes.{PassOver, CoefficientsReady, firstPressure}
 use Rattle.iisph_rules.specs.Coefficients.{advectedVelocity, fluidMass, boundaryMass, Neighbour, Coefficients}
 use Rattle.iisph_rules.specs.Coefficients.{coefficientsOf}
-use Rattle.lists.specs.Lists.{fold}
-use Rattle.math.specs.Vector.{Vector, coordinates}
-use Rattle.scene_format.specs.Format.{startsOf}
+use Rattle.math.specs.Real.{_⊕_, _⊗_}
+use Rattle.math.specs.Vector.{Vector, coordinates, _⊞_, _⊟_, _⊡_, _·_}
 use Rattle.scene_format.specs.Scene.{Scene, Contact, particle, boundary}
-use Rattle.scene_format.specs.SceneOf.{contactList, sceneOf}
+use Rattle.scene_format.specs.SceneOf.{sceneOf}
 use Rattle.scene_format.specs.declared.Kind.{Kind}
 use Rattle.scene_format.specs.declared.Kind.the-variants.{Fluid, Boundary}
+use Rattle.scene_index.specs.Contacts.{ContactsReady, overFirst}
 use Rattle.scene_index.specs.declared.contacts.ContactList.{ContactList}
 use Rattle.iisph_coefficients.specs.declared.coefficients.CoefficientsOf.{CoefficientsOf}
 
@@ -32,11 +32,33 @@ velocityOf Boundary s c = boundary s (c .target) .velocity
 abbrev pub neighbourOf : Kind → Scene → Float → Contact → Neighbour
 neighbourOf κ s density0 c = record { mass = massOf κ s density0 c; velocity = velocityOf κ s c }
 
--- a sum over the first n contacts of a list, from a on
-abbrev pub summed : {A : Type 0} → List ℕ → ContactList → (Neighbour → A → Contact → A) → A → ℕ → A
-summed b list f a n =
-    fold (λ sum c. f (neighbourOf (list .kind) (sceneOf b) (list .density0) c) sum c) a
-    (contactList (startsOf (list .kind) b) b n (list .at))
+-- ---- what each sum makes of a contact that names j
+
+abbrev pub weighed : Neighbour → Float → Contact → Float
+weighed j sum c = sum ⊕ j .mass ⊗ c .weight
+
+-- v is v_i
+abbrev pub approached : Vector → Neighbour → Float → Contact → Float
+approached v j sum c = sum ⊕ j .mass ⊗ ((v ⊟ j .velocity) · c .gradient)
+
+-- factor is f of METHOD 5.5
+abbrev pub pushed : Float → Neighbour → Vector → Contact → Vector
+pushed factor j sum c = sum ⊞ c .gradient ⊡ (j .mass ⊗ factor)
+
+-- d is dii_i, factor e of METHOD 5.6
+abbrev pub returned : Vector → Float → Neighbour → Float → Contact → Float
+returned d factor j sum c = sum ⊕ j .mass ⊗ ((d ⊟ c .gradient ⊡ factor) · c .gradient)
+
+-- ---- a sum over the first n contacts of a list of one kind, from a on
+
+abbrev pub summed : {A : Type 0} → Kind → List ℕ → ContactList → (Neighbour → A → Contact → A) → A → ℕ → A
+summed κ b list f a n =
+    overFirst κ b (list .at) (λ sum c. f (neighbourOf κ (sceneOf b) (list .density0) c) sum c) a n
+
+-- what it finds
+abbrev pub SumReady : Kind → List ℕ → List ℕ → List Float → ℕ → ContactList → Type 0
+SumReady κ b index work n list =
+    PassOver b index n × ContactsReady κ b list × CoefficientsReady (sceneOf b) n work
 
 -- ---- a particle's coefficients
 

@@ -29,7 +29,7 @@ use Rattle.scene_format.specs.SceneOf.{targetAt, contactAt, sceneOf}
 use Rattle.scene_format.specs.Within.{NameIs}
 use Rattle.scene_format.specs.declared.ContactName.{ContactName}
 use Rattle.scene_format.specs.declared.Kind.the-variants.{Fluid, Boundary}
-use Rattle.scene_index.specs.Contacts.{ContactReady, contactListAt, overList}
+use Rattle.scene_index.specs.Contacts.{contactListAt, overList}
 use Rattle.scene_index.specs.Index.{Indexed}
 use Rattle.scene_index.specs.declared.contacts.ContactList.{ContactList}
 use Rattle.scene_index.proofs.ContactLists.{contactsOf, contacts-are, over-list}
@@ -195,11 +195,9 @@ module _ {b index : List ℕ} (ix : Indexed b index) (i : ℕ) (h : i < fluidSiz
     force-contacts =
         let are = contacts-are ix i h e in
         record {
-          kind = are .kind;
           each = λ k l.
               record {
-                ready =
-                    subst (λ κ. ContactReady κ b (list .at + contactWidth axes * k)) (are .kind) (are .ready .each k l);
+                ready = are .ready .each k l;
                 number = subst NumbersIn (sym e) (λ k l. names-ok Boundary k l .number) k l;
               };
         }
@@ -207,7 +205,7 @@ module _ {b index : List ℕ} (ix : Indexed b index) (i : ℕ) (h : i < fluidSiz
     -- gathering with the particle's pressure state is the rules' gathering
     pub from-made : {ps : List Float} {state : PressureState} → PressureStateIs (sceneOf b) ps i state
         → (l : List Float) {x : List Float}
-        → x ≡ overList b list (gathered (sceneOf b) (stateGain (sceneOf b) state)) l
+        → x ≡ overList Boundary b list (gathered (sceneOf b) (stateGain (sceneOf b) state)) l
         → x ≡ gatheredFrom (sceneOf b) ps l i
     unfolding gatheredFrom contactsOf
     from-made {ps} {state} is l xe =

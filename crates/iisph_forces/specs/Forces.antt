@@ -67,7 +67,6 @@ pub record ForceContact (b : List ℕ) (at : ℕ) : Type 0 where
 
 -- every contact of a list is such
 pub record ForceContacts (b : List ℕ) (list : ContactList) : Type 0 where
-  pub kind : list .kind ≡ Boundary
   pub each : (k : ℕ) → k < list .count → ForceContact b (list .at + contactWidth axes * k)
 
 -- ---- gathering in the answer list l

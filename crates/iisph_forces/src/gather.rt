@@ -80,7 +80,7 @@ fn gather_list(
     ensures { λ _. ⌜
         (let b = now (scene .entry) in
         let s = sceneOf b in
-        now (answers .exit) ≡ overList b list (gathered s (stateGain s state)) (now (answers .entry)))
+        now (answers .exit) ≡ overList Kind.Boundary b list (gathered s (stateGain s state)) (now (answers .entry)))
         ⌝ }
 {
     let count = list.count;

@@ -7,7 +7,6 @@ use iisph_passes::traverse::traverse;
 use iisph_rules::Ending;
 use math::Vec3;
 use scene_layout::Layout;
-use timestep_manager::Clock;
 ghost use mathlib.Core.Path.{_≡_};
 ghost use Rattle.iisph_header.specs.Header.{StoppingIs};
 ghost use Rattle.iisph_pressures.specs.IterationRows.{pressuresIn, Iterating};
@@ -29,20 +28,20 @@ fn iterate(
     layout: Layout,
     index: &[usize],
     n: usize,
-    clock: Clock,
+    dt: f64,
     gravity: Vec3,
     work: &mut [f64],
 ) -> f64
-    requires { ⌜ DrivenPass (now scene) (now index) n clock gravity ⌝ }
+    requires { ⌜ DrivenPass (now scene) (now index) n dt gravity ⌝ }
     requires { ⌜ Passed (now scene) layout × Iterating (sceneOf (now scene)) n (now work) ⌝ }
     ensures { λ r. ⌜ Iterates (sceneOf (now (scene .entry))) (now (work .entry)) r (now (work .exit)) ⌝ }
 {
     let fluids = layout.fluids;
     let counts = fluids.counts;
-    traverse(Pass::Quotients, scene, index, n, clock, gravity, work);
-    traverse(Pass::DijPjl, scene, index, n, clock, gravity, work);
-    traverse(Pass::NextPressures, scene, index, n, clock, gravity, work);
-    traverse(Pass::Exchange, scene, index, n, clock, gravity, work);
+    traverse(Pass::Quotients, scene, index, n, dt, gravity, work);
+    traverse(Pass::DijPjl, scene, index, n, dt, gravity, work);
+    traverse(Pass::NextPressures, scene, index, n, dt, gravity, work);
+    traverse(Pass::Exchange, scene, index, n, dt, gravity, work);
     max_error(counts, fluids.number, work, n)
 }
 
@@ -63,12 +62,12 @@ pub fn pressure_solve(
     layout: Layout,
     index: &[usize],
     n: usize,
-    clock: Clock,
+    dt: f64,
     gravity: Vec3,
     stopping: Stopping,
     work: &mut [f64],
 ) -> Solved
-    requires { ⌜ DrivenPass (now scene) (now index) n clock gravity × StoppingIs (sceneOf (now scene)) stopping ⌝ }
+    requires { ⌜ DrivenPass (now scene) (now index) n dt gravity × StoppingIs (sceneOf (now scene)) stopping ⌝ }
     requires { ⌜ Passed (now scene) layout × Iterating (sceneOf (now scene)) n (now work) ⌝ }
     requires { ⌜ pressuresIn n (now work) ≡ firstPressures (sceneOf (now scene)) ⌝ }
     ensures { λ r. ⌜ Solves (sceneOf (now (scene .entry))) (now (work .entry)) r (now (work .exit)) ⌝ }
@@ -80,7 +79,7 @@ pub fn pressure_solve(
     let mut i = 0usize;
     while i < most {
         let number = i;
-        error = iterate(scene, layout, index, n, clock, gravity, work);
+        error = iterate(scene, layout, index, n, dt, gravity, work);
         i += 1;
         if error <= limit {
             if number >= least {

@@ -14,8 +14,6 @@ use Rattle.math.specs.Real.{_⊕_, _⊗_, _⊘_}
 use Rattle.math.specs.Vector.{Vector, _⊟_, _⊡_}
 use Rattle.scene_format.specs.Format.{axes}
 use Rattle.scene_format.specs.Scene.{Scene, Contact, particle}
-use Rattle.scene_format.specs.declared.Kind.{Kind}
-use Rattle.scene_format.specs.declared.Kind.the-variants.{Fluid, Boundary}
 use Rattle.iisph_motion.specs.declared.acceleration.PressureState.{PressureState}
 
 -- ---- the share p / (rho × rho) of a particle, as it stands in a row
@@ -38,15 +36,18 @@ pub record PressureStateIs (s : Scene) (ps : List Float) (i : ℕ) (state : Pres
 unfoldable pub accelerationOf : Scene → PressureState → Contact → Vector
 accelerationOf s state c = c .gradient ⊡ (boundaryMass s (state .density0) c ⊗ state .pressure ⊘ state .square)
 
--- ---- what a contact takes off the velocity change of its owner, whose share is x; t is the step length
+-- ---- what a contact of each kind takes off the velocity change of its owner; t is the step length
 
-unfoldable pub changeBy : Kind → Scene → List Float → Float → PressureState → Float → Contact → Vector
-changeBy Fluid s ps t state x c =
-    c .gradient ⊡ (t ⊗ fluidMass s c ⊗ (x ⊕ pressureShare (coefficients s) ps (c .target)))
-changeBy Boundary s ps t state x c = accelerationOf s state c ⊡ t
+-- x is the owner's share
+unfoldable pub fluidChange : Scene → List Float → Float → Float → Contact → Vector
+fluidChange s ps t x c = c .gradient ⊡ (t ⊗ fluidMass s c ⊗ (x ⊕ pressureShare (coefficients s) ps (c .target)))
 
-abbrev pub withChange : Kind → Scene → List Float → Float → PressureState → Float → Vector → Contact → Vector
-withChange κ s ps t state x change c = change ⊟ changeBy κ s ps t state x c
+unfoldable pub boundaryChange : Scene → Float → PressureState → Contact → Vector
+boundaryChange s t state c = accelerationOf s state c ⊡ t
+
+-- a velocity change less what a contact takes off it
+abbrev pub lessBy : (Contact → Vector) → Vector → Contact → Vector
+lessBy taken change c = change ⊟ taken c
 
 -- ---- what the pass finds: the iterations' rows with the last pressures, and the share of each
 

@@ -12,7 +12,6 @@ use scene_index::records::record_of;
 use scene_lengths::ANSWER_PRESSURE;
 use scene_lengths::ANSWER_VELOCITY;
 use scene_lengths::ANSWER_WIDTH;
-use timestep_manager::Clock;
 ghost use mathlib.Core.Path.{_≡_};
 ghost use Prim.Native.Nat.{_+_, _*_, _<_, _≤_};
 ghost use lib.ListN.{length};
@@ -41,19 +40,19 @@ fn motion_of(
     index: &[usize],
     work: &[f64],
     n: usize,
-    clock: Clock,
+    dt: f64,
     gravity: Vec3,
     i: usize,
 ) -> Motion
-    requires { ⌜ DrivenPass (now scene) (now index) n clock gravity × (i < n) ⌝ }
+    requires { ⌜ DrivenPass (now scene) (now index) n dt gravity × (i < n) ⌝ }
     requires { ⌜ ChangesReady (sceneOf (now scene)) n (now work) ⌝ }
     ensures { λ r. ⌜ MotionIs (sceneOf (now (scene .entry))) (pressuresIn n (now (work .entry))) i r ⌝ }
 {
-    let change = final_change_of(scene, index, work, n, clock, gravity, i);
+    let change = final_change_of(scene, index, work, n, dt, gravity, i);
     let at = record_of(scene, index, Kind::Fluid, i);
     let before = read::vector(scene, at + VELOCITY);
     let velocity = before.add(change);
-    let position = read::vector(scene, at).add(velocity.scale(clock.dt));
+    let position = read::vector(scene, at).add(velocity.scale(dt));
     Motion { position, velocity }
 }
 
@@ -63,13 +62,13 @@ fn put_answer(
     index: &[usize],
     work: &[f64],
     n: usize,
-    clock: Clock,
+    dt: f64,
     gravity: Vec3,
     answers: &mut [f64],
     i: usize,
 )
     requires { ⌜
-        DrivenPass (now scene) (now index) n clock gravity × ChangesReady (sceneOf (now scene)) n (now work)
+        DrivenPass (now scene) (now index) n dt gravity × ChangesReady (sceneOf (now scene)) n (now work)
         ⌝ }
     requires { ⌜ (i < n) × (fluidAnswerWidth axes * i + fluidAnswerWidth axes ≤ length (now answers)) ⌝ }
     ensures { λ _. ⌜
@@ -79,7 +78,7 @@ fn put_answer(
         ≡ sets (now (answers .entry)) (fluidAnswerWidth axes * i) (fluidAnswer s (coefficients s) ps i))
         ⌝ }
 {
-    let motion = motion_of(scene, index, work, n, clock, gravity, i);
+    let motion = motion_of(scene, index, work, n, dt, gravity, i);
     let position = motion.position;
     let velocity = motion.velocity;
     let pressure = work[ROW * i + PRESSURE];
@@ -94,12 +93,12 @@ pub fn update_velocities_and_positions(
     index: &[usize],
     work: &[f64],
     n: usize,
-    clock: Clock,
+    dt: f64,
     gravity: Vec3,
     answers: &mut [f64],
 )
     requires { ⌜
-        DrivenPass (now scene) (now index) n clock gravity × ChangesReady (sceneOf (now scene)) n (now work)
+        DrivenPass (now scene) (now index) n dt gravity × ChangesReady (sceneOf (now scene)) n (now work)
         ⌝ }
     requires { ⌜ fluidAnswerWidth axes * n ≤ length (now answers) ⌝ }
     ensures { λ _. ⌜
@@ -111,7 +110,7 @@ pub fn update_velocities_and_positions(
 {
     let mut i = 0usize;
     while i < n {
-        put_answer(scene, index, work, n, clock, gravity, answers, i);
+        put_answer(scene, index, work, n, dt, gravity, answers, i);
         i += 1;
     }
 }

@@ -23,7 +23,6 @@ use iisph_rows::rows::ROW;
 use iisph_rows::rows::SHARE;
 use iisph_rows::rows::put_vector;
 use math::Vec3;
-use timestep_manager::Clock;
 ghost use mathlib.Core.Path.{_≡_};
 ghost use Prim.Native.Nat.{_+_, _<_, _≤_};
 ghost use lib.ListN.{length};
@@ -73,12 +72,12 @@ fn update_row(
     scene: &[u8],
     index: &[usize],
     n: usize,
-    clock: Clock,
+    dt: f64,
     gravity: Vec3,
     work: &mut [f64],
     i: usize,
 )
-    requires { ⌜ DrivenPass (now scene) (now index) n clock gravity × (i < n) ⌝ }
+    requires { ⌜ DrivenPass (now scene) (now index) n dt gravity × (i < n) ⌝ }
     requires { ⌜ Room (sceneOf (now scene)) n (now work) × Ready (sceneOf (now scene)) n (now work) pass ⌝ }
     ensures { λ _. ⌜
         (let l = now (work .entry) in
@@ -91,11 +90,11 @@ fn update_row(
             work[ROW * i + MASS] = m;
         }
         Pass::Advected => {
-            let v = advected_of(scene, index, n, clock, gravity, i);
+            let v = advected_of(scene, index, n, dt, gravity, i);
             put_vector(work, ROW * i + ADVECTED, v);
         }
         Pass::Coefficients => {
-            let c = coefficients_of(scene, index, work, n, clock, i);
+            let c = coefficients_of(scene, index, work, n, dt, i);
             let pressure = first_pressure(scene, index, n, i);
             put_coefficients(work, ROW * i, c, pressure);
         }
@@ -104,11 +103,11 @@ fn update_row(
             work[ROW * i + QUOTIENT] = q;
         }
         Pass::DijPjl => {
-            let d = dij_pjl_of(scene, index, work, n, clock, i);
+            let d = dij_pjl_of(scene, index, work, n, dt, i);
             put_vector(work, ROW * i + DIJ_PJL, d);
         }
         Pass::NextPressures => {
-            let next = next_pressure_of(scene, index, work, n, clock, i);
+            let next = next_pressure_of(scene, index, work, n, dt, i);
             work[ROW * i + ERROR_TERM] = next.term;
             work[ROW * i + NEXT_PRESSURE] = next.pressure;
         }
@@ -129,11 +128,11 @@ pub fn traverse(
     scene: &[u8],
     index: &[usize],
     n: usize,
-    clock: Clock,
+    dt: f64,
     gravity: Vec3,
     work: &mut [f64],
 )
-    requires { ⌜ DrivenPass (now scene) (now index) n clock gravity ⌝ }
+    requires { ⌜ DrivenPass (now scene) (now index) n dt gravity ⌝ }
     requires { ⌜ Room (sceneOf (now scene)) n (now work) × Ready (sceneOf (now scene)) n (now work) pass ⌝ }
     ensures { λ _. ⌜
         (let l = now (work .entry) in
@@ -142,7 +141,7 @@ pub fn traverse(
 {
     let mut i = 0usize;
     while i < n {
-        update_row(pass, scene, index, n, clock, gravity, work, i);
+        update_row(pass, scene, index, n, dt, gravity, work, i);
         i += 1;
     }
 }

@@ -1,7 +1,7 @@
 -- What a step goes on with once its rows are prepared: a pass's premises from the step's header and index, what the
 -- iterations find, and what stands behind the needed part. From the definitions. Assumes nothing.
 use Prim.Native.Nat.{ℕ, _≤_}
-use mathlib.Core.Path.{_≡_}
+use mathlib.Core.Path.{_≡_, ap}
 use mathlib.Core.List.{List}
 use native.Mathlib.Omega.{arith}
 use lib.Ieee.{Float}
@@ -32,10 +32,10 @@ pub indexed-over : {b : List ℕ} {layout : Layout} → Passed b layout → (l :
     → indexNeeded b ≤ length l → index ≡ sets l 0 (indexOf b) → PassOver b index (layout .fluids .total)
 indexed-over passed l room e = record { indexed = rw e (indexed passed l room); size = fluids-total passed }
 
--- what a pass may rely on, with the header's clock and gravity
+-- what a pass may rely on, with the header's dt and gravity
 pub driven : {b index : List ℕ} {n : ℕ} {header : StepHeader} → PassOver b index n → StepHeaderIs (sceneOf b) header
-    → DrivenPass b index n (header .clock) (header .gravity)
-driven over h = record { timed = record { over = over; clockIs = h .clockIs }; gravityIs = h .gravityIs }
+    → DrivenPass b index n (header .clock .dt) (header .gravity)
+driven over h = record { timed = record { over = over; dtIs = ap (λ c. c .dt) (h .clockIs) }; gravityIs = h .gravityIs }
 
 -- behind the needed part the passes leave the list as it was
 pub beyond : (b : List ℕ) (work : List Float) (r : Readiness) → drop (workNeeded (sceneOf b)) (workPrepared b r work)

@@ -17,7 +17,6 @@ use scene_index::index::fill;
 use scene_index::records::record_of;
 use scene_layout::Layout;
 use scene_lengths::lengths_of;
-use timestep_manager::Clock;
 ghost use mathlib.Core.Path.{_≡_};
 ghost use Prim.Native.Nat.{ℕ, _+_, _≤_};
 ghost use lib.ListN.{length};
@@ -41,14 +40,14 @@ pub enum Readiness {
 }
 
 // The masses, advected velocities, coefficients and first pressures of every row. The boundary volumes are there.
-fn fill_rows(scene: &[u8], index: &[usize], n: usize, clock: Clock, gravity: Vec3, work: &mut [f64])
-    requires { ⌜ DrivenPass (now scene) (now index) n clock gravity ⌝ }
+fn fill_rows(scene: &[u8], index: &[usize], n: usize, dt: f64, gravity: Vec3, work: &mut [f64])
+    requires { ⌜ DrivenPass (now scene) (now index) n dt gravity ⌝ }
     requires { ⌜ Room (sceneOf (now scene)) n (now work) × Behind n (volumes (sceneOf (now scene))) (now work) ⌝ }
     ensures { λ _. ⌜ now (work .exit) ≡ rowsFilled (sceneOf (now (scene .entry))) (now (work .entry)) ⌝ }
 {
-    traverse(Pass::Masses, scene, index, n, clock, gravity, work);
-    traverse(Pass::Advected, scene, index, n, clock, gravity, work);
-    traverse(Pass::Coefficients, scene, index, n, clock, gravity, work);
+    traverse(Pass::Masses, scene, index, n, dt, gravity, work);
+    traverse(Pass::Advected, scene, index, n, dt, gravity, work);
+    traverse(Pass::Coefficients, scene, index, n, dt, gravity, work);
 }
 
 // Two searches, one after the other: refusal 9 in the densities, 10 in the predicted ones. Each gives the offset of the
@@ -91,11 +90,11 @@ fn prepare_rows(
     layout: Layout,
     index: &[usize],
     n: usize,
-    clock: Clock,
+    dt: f64,
     gravity: Vec3,
     work: &mut [f64],
 ) -> Readiness
-    requires { ⌜ DrivenPass (now scene) (now index) n clock gravity ⌝ }
+    requires { ⌜ DrivenPass (now scene) (now index) n dt gravity ⌝ }
     requires { ⌜ Passed (now scene) layout × Room (sceneOf (now scene)) n (now work) ⌝ }
     ensures { λ r. ⌜
         (let b = now (scene .entry) in
@@ -104,7 +103,7 @@ fn prepare_rows(
         ⌝ }
 {
     compute_boundary_volumes(scene, layout, index, n, work);
-    fill_rows(scene, index, n, clock, gravity, work);
+    fill_rows(scene, index, n, dt, gravity, work);
     let answer = zero_refusal(scene, index, n, work);
     match answer {
         Readiness::Ready => Readiness::Ready,
@@ -129,8 +128,9 @@ pub fn prepare(
     ensures { λ r. ⌜ Prepares (now (scene .entry)) (now (work .entry)) r (now (index .exit)) (now (work .exit)) ⌝ }
 {
     let clock = header.clock;
+    let dt = clock.dt;
     let gravity = header.gravity;
     let n = layout.fluids.total;
     fill(scene, layout, index);
-    prepare_rows(scene, layout, index, n, clock, gravity, work)
+    prepare_rows(scene, layout, index, n, dt, gravity, work)
 }

@@ -1,7 +1,7 @@
 -- What an iteration computes of a particle is the rules': a term is that of the row which the contact names, and a sum
 -- over a list of contacts is one over the particle's. Each law is over variables for the results of the code's calls.
 -- Assumes nothing.
-use Prim.Native.Nat.{ℕ, _+_, _<_}
+use Prim.Native.Nat.{ℕ, _+_, _*_, _<_}
 use mathlib.Core.Path.{_≡_, refl, sym, ap, _∙_, subst}
 use mathlib.Core.Bool.{Bool, true, false, cond}
 use mathlib.Core.List.{List}
@@ -23,15 +23,15 @@ use Rattle.iisph_rules.specs.Coefficients.{coefficientsOf, coefficients, coeffi
 use Rattle.iisph_rules.specs.Iteration.{pressure, dijSum, dijPjl, dij, pressureSum, relaxed, errorTerm, noPressure}
 use Rattle.iisph_rules.specs.Iteration.{clamped, aiiLimit, nextPressure}
 use Rattle.iisph_pressures.specs.IterationRows.{IterationReady, pressuresIn, dijsIn, quotient, withDij, rowTerm}
-use Rattle.iisph_pressures.specs.IterationRows.{termOf, withTerm, nextFrom, NextIs}
-use Rattle.scene_index.specs.Contacts.{ContactReady, overList}
+use Rattle.iisph_pressures.specs.IterationRows.{fluidTerm, boundaryTerm, withTerm, nextFrom, NextIs}
+use Rattle.scene_index.specs.Contacts.{ContactReady, overFirst, overList}
 use Rattle.iisph_rows.specs.Rows.{rowAt, elementAt, vectorFrom, massSlot, pressureSlot, dijSlot, predictedSlot, aiiSlot}
-use Rattle.scene_format.specs.Format.{axes, gradientOffset, startsOf}
+use Rattle.scene_format.specs.Format.{axes, contactWidth, gradientOffset, startsOf}
 use Rattle.scene_index.specs.declared.contacts.ContactList.{ContactList}
 use Rattle.iisph_pressures.specs.declared.iteration.Next.{Next}
 use Rattle.iisph_pressures.specs.declared.iteration.Owner.{Owner}
 use Rattle.iisph_rows.proofs.Particles.{zero-is}
-use Rattle.scene_index.proofs.ContactLists.{contactsOf, ContactsAre, over-list}
+use Rattle.scene_index.proofs.ContactLists.{contactsOf, ContactsAre, over-list, fold-next}
 use Rattle.iisph_pressures.proofs.IterationReads.{coefficient-at, pressure-in, dij-in, density-in, predicted-in}
 use Rattle.iisph_pressures.proofs.IterationReads.{aii-in, mass-in}
 use Rattle.iisph_rules.proofs.Sizes.{length-dii}
@@ -46,7 +46,7 @@ dij-step s ps c x ye ve ge we = rw (ye, ve, ge, we)
 
 pub dij-made : {b : List ℕ} {p : FluidParticle} {list : ContactList} → ContactsAre b Fluid p list
     → (ps : List Float) {t : Float} {x y : Vector}
-    → t ≡ dt (sceneOf b) → x ≡ overList b list (withDij (sceneOf b) ps) (origin axes) → y ≡ x ⊡ (t ⊗ t)
+    → t ≡ dt (sceneOf b) → x ≡ overList Fluid b list (withDij (sceneOf b) ps) (origin axes) → y ≡ x ⊡ (t ⊗ t)
     → y ≡ dijPjl (sceneOf b) (coefficients (sceneOf b)) ps p
 unfolding dijPjl dijSum quotient fluidMass contactsOf
 dij-made {b} {p} h ps {t} te xe ye =
@@ -84,82 +84,79 @@ module _ (b : List ℕ) {n : ℕ} {work : List Float} (size : n ≡ fluidSize (s
       ∙ sym (ap (λ k. k .dii) (coefficient-at (sceneOf b) j (omega arith))))
       (dij-in work j h)
 
-  module _ {κ : Kind} {at j : ℕ} (ready : ContactReady κ b at) (named : j ≡ targetAt (startsOf κ b) b at) {g : Vector}
-      (ge : g ≡ vectorAt axes b (at + gradientOffset))
-      (density0 : Float) (owner : Owner) where
-    pub fluid-term : κ ≡ Fluid
+  -- the contact at an offset names j and has the gradient g
+  module _ {at j : ℕ} {g : Vector} (ge : g ≡ vectorAt axes b (at + gradientOffset)) where
+    pub fluid-term : ContactReady Fluid b at → j ≡ targetAt (startsOf Fluid b) b at → (owner : Owner)
         → rowTerm work j owner g
-        ≡ termOf κ (sceneOf b) (pressuresIn n work) (dijsIn n work) density0 owner (contactAt (startsOf κ b) b at)
-    unfolding termOf fluidMass contactAt
-    fluid-term e =
-        let h = fluid-named ready named e in
-        row-term-is j (omega arith) owner g ∙ rw (ge, named, e)
+        ≡ fluidTerm (sceneOf b) (pressuresIn n work) (dijsIn n work) owner (contactAt (startsOf Fluid b) b at)
+    unfolding fluidTerm fluidMass contactAt
+    fluid-term ready named owner =
+        let h = fluid-named ready named refl in
+        row-term-is j (omega arith) owner g ∙ rw (ge, named)
 
-    pub boundary-term : {r : Float} → r ≡ coordinates (owner .dij) · g → κ ≡ Boundary
+    pub boundary-term : ContactReady Boundary b at → j ≡ targetAt (startsOf Boundary b) b at
+        → (density0 : Float) (d : Vector) {r : Float} → r ≡ d · g
         → elementAt work (rowAt n + j) ⊗ density0 ⊗ r
-        ≡ termOf κ (sceneOf b) (pressuresIn n work) (dijsIn n work) density0 owner (contactAt (startsOf κ b) b at)
-    unfolding termOf boundaryMass contactAt
-    boundary-term {r} re e =
-        ap (λ v. v ⊗ density0 ⊗ r) (volume-behind (sceneOf b) n (q .volume) j (boundary-named ready named e))
-        ∙ rw (re, ge, named, e)
+        ≡ boundaryTerm (sceneOf b) density0 d (contactAt (startsOf Boundary b) b at)
+    unfolding boundaryTerm boundaryMass contactAt
+    boundary-term ready named density0 d {r} re =
+        ap (λ v. v ⊗ density0 ⊗ r) (volume-behind (sceneOf b) n (q .volume) j (boundary-named ready named refl))
+        ∙ rw (re, ge, named)
 
 -- ---- the pressure sum
 
-over-terms : {b : List ℕ} {κ : Kind} {p : FluidParticle} {list : ContactList} → ContactsAre b κ p list
-    → (s : Scene) (ps : List Float) (ds : List Vector) (owner : Owner) (a : Float)
-    → overList b list (withTerm (list .kind) s ps ds (list .density0) owner) a
-    ≡ fold (withTerm κ s ps ds (p .density0) owner) a (contactsOf κ p)
-over-terms {b} {κ} {p} {list} h s ps ds owner a =
-    over-list h (withTerm (list .kind) s ps ds (list .density0) owner) a
-    ∙ ap (λ k. fold (withTerm k s ps ds (list .density0) owner) a (contactsOf κ p)) (h .kind)
-    ∙ ap (λ d. fold (withTerm κ s ps ds d owner) a (contactsOf κ p)) (h .density0)
+-- a turn of a loop: k contacts were passed, t is the term of the next
+pub term-next : (κ : Kind) (b : List ℕ) (term : Contact → Float) (at k : ℕ) (a : Float) {x t : Float}
+    → x ≡ overFirst κ b at (withTerm term) a k
+    → t ≡ term (contactAt (startsOf κ b) b (at + contactWidth axes * k))
+    → x ⊕ t ≡ overFirst κ b at (withTerm term) a (k + 1)
+term-next κ b term at k a {x} xe te = fold-next (withTerm term) a κ b at k xe (ap (λ t. x ⊕ t) te)
 
 -- the rule's sum, of what it takes of particle i itself
-abbrev sumWith : Scene → List Float → List Vector → FluidParticle → Vector → Float → Float → Float
-sumWith s ps ds p d e q =
+abbrev sumWith : Scene → List Float → List Vector → FluidParticle → Float → Vector → Float → Float → Float
+sumWith s ps ds p r d e q =
     overContacts
     (λ sum c.
     let j = c .target in
     sum ⊕ fluidMass s c
     ⊗ (((d ⊟ coefficient (coefficients s) j .dii ⊡ pressure ps j)
     ⊟ (dij ds j ⊟ (c .gradient ⊡ e) ⊡ q)) · c .gradient))
-    (λ sum c. sum ⊕ boundaryMass s (p .density0) c ⊗ (d · c .gradient))
+    (λ sum c. sum ⊕ boundaryMass s r c ⊗ (d · c .gradient))
     +0
     p
+
+sum-same : (s : Scene) (ps : List Float) (ds : List Vector) (p : FluidParticle) {r r′ e e′ q q′ : Float}
+    {d d′ : Vector}
+    → r ≡ r′ → d ≡ d′ → e ≡ e′ → q ≡ q′ → sumWith s ps ds p r d e q ≡ sumWith s ps ds p r′ d′ e′ q′
+sum-same s ps ds p re de ee qe = cc
 
 module _ {b : List ℕ} (i : ℕ) {fluid boundary : ContactList}
     (fs : ContactsAre b Fluid (particle (sceneOf b) i) fluid)
     (bs : ContactsAre b Boundary (particle (sceneOf b) i) boundary)
-    (ps : List Float) (ds : List Vector) (owner : Owner) where
-  sum-both : {x y : Float}
-      → x ≡ overList b fluid (withTerm (fluid .kind) (sceneOf b) ps ds (fluid .density0) owner) +0
-      → y ≡ overList b boundary (withTerm (boundary .kind) (sceneOf b) ps ds (boundary .density0) owner) x
-      → y ≡ sumWith (sceneOf b) ps ds (particle (sceneOf b) i) (coordinates (owner .dij)) (owner .factor)
+    (ps : List Float) (ds : List Vector) (owner : Owner) {x y : Float}
+    (xe : x ≡ overList Fluid b fluid (withTerm (fluidTerm (sceneOf b) ps ds owner)) +0)
+    (ye : y
+    ≡ overList Boundary b boundary
+    (withTerm (boundaryTerm (sceneOf b) (boundary .density0) (coordinates (owner .dij)))) x) where
+  sum-both : y ≡ sumWith (sceneOf b) ps ds (particle (sceneOf b) i) (boundary .density0) (coordinates (owner .dij))
+      (owner .factor)
       (owner .pressure)
-  unfolding overContacts termOf contactsOf
-  sum-both {x} xe ye =
+  unfolding overContacts fluidTerm boundaryTerm contactsOf
+  sum-both =
       let p = particle (sceneOf b) i in
+      let term : Contact → Float = boundaryTerm (sceneOf b) (boundary .density0) (coordinates (owner .dij)) in
       ye
-      ∙ over-terms bs (sceneOf b) ps ds owner x
-      ∙ ap (λ (x : Float). fold (withTerm Boundary (sceneOf b) ps ds (p .density0) owner) x (p .boundaryContacts))
-      (xe ∙ over-terms fs (sceneOf b) ps ds owner +0)
+      ∙ over-list bs (withTerm term) x
+      ∙ ap (λ (x : Float). fold (withTerm term) x (p .boundaryContacts))
+      (xe ∙ over-list fs (withTerm (fluidTerm (sceneOf b) ps ds owner)) +0)
 
-  sum-made : {x y : Float}
-      → coordinates (owner .dij) ≡ dij ds i
+  sum-made : coordinates (owner .dij) ≡ dij ds i
       → owner .factor
       ≡ djiFactor (sceneOf b) (particle (sceneOf b) i) (coefficient (coefficients (sceneOf b)) i .density)
       → owner .pressure ≡ pressure ps i
-      → x ≡ overList b fluid (withTerm (fluid .kind) (sceneOf b) ps ds (fluid .density0) owner) +0
-      → y ≡ overList b boundary (withTerm (boundary .kind) (sceneOf b) ps ds (boundary .density0) owner) x
       → y ≡ pressureSum (sceneOf b) (coefficients (sceneOf b)) ps ds i
   unfolding pressureSum
-  sum-made de ee qe xe ye =
-      let p = particle (sceneOf b) i in
-      sum-both xe ye
-      ∙ ap (λ (d : Vector). sumWith (sceneOf b) ps ds p d (owner .factor) (owner .pressure)) de
-      ∙ ap (λ (e : Float). sumWith (sceneOf b) ps ds p (dij ds i) e (owner .pressure)) ee
-      ∙ ap (λ (q : Float). sumWith (sceneOf b) ps ds p (dij ds i)
-      (djiFactor (sceneOf b) p (coefficient (coefficients (sceneOf b)) i .density)) q) qe
+  sum-made de ee qe = sum-both ∙ sum-same (sceneOf b) ps ds (particle (sceneOf b) i) (bs .density0) de ee qe
 
 -- ---- the next pressure
 
@@ -233,22 +230,19 @@ pub next-made : (b : List ℕ) {n : ℕ} {work : List Float} → n ≡ fluidSize
     → ContactsAre b Fluid (particle (sceneOf b) i) fluid → ContactsAre b Boundary (particle (sceneOf b) i) boundary
     → (t : Float) → t ≡ dt (sceneOf b) → (d : Vec3) → coordinates d ≡ vectorFrom work (rowAt i + dijSlot axes)
     → {x y : Float} {r : Next}
-    → x ≡ overList b fluid
-    (withTerm (fluid .kind) (sceneOf b) (pressuresIn n work) (dijsIn n work) (fluid .density0) (ownerOf work i t d)) +0
-    → y ≡ overList b boundary
-    (withTerm (boundary .kind) (sceneOf b) (pressuresIn n work) (dijsIn n work) (boundary .density0)
-    (ownerOf work i t d)) x
+    → let ps = pressuresIn n work in
+    let ds = dijsIn n work in
+    x ≡ overList Fluid b fluid (withTerm (fluidTerm (sceneOf b) ps ds (ownerOf work i t d))) +0
+    → y ≡ overList Boundary b boundary (withTerm (boundaryTerm (sceneOf b) (boundary .density0) (coordinates d))) x
     → NextIs r
     (nextFrom (fluid .density0) (elementAt work (rowAt i + aiiSlot)) (elementAt work (rowAt i + predictedSlot)) y
     (elementAt work (rowAt i + pressureSlot axes)))
-    → NextIs r (nextPressure (sceneOf b) (coefficients (sceneOf b)) (pressuresIn n work) (dijsIn n work) i)
+    → NextIs r (nextPressure (sceneOf b) (coefficients (sceneOf b)) ps ds i)
 next-made b {n} {work} size q i h fs bs t te d de {r = r} xe ye re =
     let sum =
-    sum-made i fs bs (pressuresIn n work) (dijsIn n work) (ownerOf work i t d) (de ∙ dij-in work i h)
+    sum-made i fs bs (pressuresIn n work) (dijsIn n work) (ownerOf work i t d) xe ye (de ∙ dij-in work i h)
     (factor-made b (particle (sceneOf b) i) te (mass-in q size i h) (density-in q size i h))
-    (pressure-in work i h)
-    xe
-    ye in
+    (pressure-in work i h) in
     subst (NextIs r)
     (next-same (fs .density0) (aii-in q size i h) (predicted-in q size i h) sum (pressure-in work i h)
     ∙ next-whole (sceneOf b) (pressuresIn n work) (dijsIn n work) i)

@@ -18,8 +18,6 @@ use Rattle.math.specs.Real.{_⊕_, _⊖_, _⊗_, _⊘_, ⊝, magnitude}
 use Rattle.math.specs.Vector.{Vector, coordinates, _⊞_, _⊟_, _⊡_, _·_}
 use Rattle.scene_format.specs.Format.{axes}
 use Rattle.scene_format.specs.Scene.{Scene, Contact, particle}
-use Rattle.scene_format.specs.declared.Kind.{Kind}
-use Rattle.scene_format.specs.declared.Kind.the-variants.{Fluid, Boundary}
 use Rattle.iisph_pressures.specs.declared.iteration.Next.{Next}
 use Rattle.iisph_pressures.specs.declared.iteration.Owner.{Owner}
 
@@ -83,17 +81,21 @@ rowTerm work j owner g =
     let other = vectorFrom work (rowAt j + dijSlot axes) ⊟ (g ⊡ owner .factor) ⊡ owner .pressure in
     elementAt work (rowAt j + massSlot axes) ⊗ ((own ⊟ other) · g)
 
--- what a contact of each kind adds to the pressure sum of its owner, whose fluid has the rest density `density0`
-unfoldable pub termOf : Kind → Scene → List Float → List Vector → Float → Owner → Contact → Float
-termOf Fluid s ps ds density0 owner c =
+-- what a contact of each kind adds to the pressure sum of its owner
+
+unfoldable pub fluidTerm : Scene → List Float → List Vector → Owner → Contact → Float
+fluidTerm s ps ds owner c =
     let j = c .target in
     let own = coordinates (owner .dij) ⊟ coefficient (coefficients s) j .dii ⊡ pressure ps j in
     let other = dij ds j ⊟ (c .gradient ⊡ owner .factor) ⊡ owner .pressure in
     fluidMass s c ⊗ ((own ⊟ other) · c .gradient)
-termOf Boundary s ps ds density0 owner c = boundaryMass s density0 c ⊗ (coordinates (owner .dij) · c .gradient)
 
-abbrev pub withTerm : Kind → Scene → List Float → List Vector → Float → Owner → Float → Contact → Float
-withTerm κ s ps ds density0 owner sum c = sum ⊕ termOf κ s ps ds density0 owner c
+-- d is the owner's dij_pjl, density0 the rest density of its fluid
+unfoldable pub boundaryTerm : Scene → Float → Vector → Contact → Float
+boundaryTerm s density0 d c = boundaryMass s density0 c ⊗ (d · c .gradient)
+
+abbrev pub withTerm : (Contact → Float) → Float → Contact → Float
+withTerm term sum c = sum ⊕ term c
 
 -- `nextPressure` from what it takes of the particle
 unfoldable pub nextFrom : Float → Float → Float → Float → Float → NextPressure

@@ -18,7 +18,6 @@ use scene_format::read;
 use scene_index::contacts::ContactList;
 use scene_index::contacts::contacts_of;
 use scene_index::contacts::target_of;
-use timestep_manager::Clock;
 ghost use mathlib.Core.Path.{_≡_};
 ghost use Prim.Native.Nat.{_+_, _<_, _≤_};
 ghost use lib.ListN.{length};
@@ -26,16 +25,18 @@ ghost use Rattle.iisph_rows.specs.Passes.{PassOver, TimedPass};
 ghost use Rattle.iisph_rows.specs.Rows.{rowAt};
 ghost use Rattle.iisph_rules.specs.Coefficients.{coefficients};
 ghost use Rattle.iisph_rules.specs.Iteration.{dijPjl, nextPressure};
+ghost use Rattle.math.specs.Real.{+0};
 ghost use Rattle.math.specs.Vector.{coordinates, origin};
-ghost use Rattle.scene_format.specs.Format.{axes, startsOf};
+ghost use Rattle.scene_format.specs.Format.{axes};
 ghost use Rattle.scene_format.specs.Scene.{particle};
-ghost use Rattle.scene_format.specs.SceneOf.{contactAt, sceneOf};
-ghost use Rattle.scene_index.specs.Contacts.{ContactReady, ContactsReady, overList};
+ghost use Rattle.scene_format.specs.SceneOf.{sceneOf};
+ghost use Rattle.scene_index.specs.Contacts.{ContactsReady, overList};
 ghost use Rattle.scene_lengths.specs.Lengths.{workWidth};
-ghost use Rattle.iisph_pressures.specs.IterationRows.{pressuresIn, dijsIn, withDij, rowTerm, termOf, withTerm};
-ghost use Rattle.iisph_pressures.specs.IterationRows.{nextFrom, DijReady, Iterating, NextIs};
+ghost use Rattle.iisph_pressures.specs.IterationRows.{pressuresIn, dijsIn, withDij, rowTerm, fluidTerm};
+ghost use Rattle.iisph_pressures.specs.IterationRows.{boundaryTerm, withTerm, nextFrom, DijReady, Iterating};
+ghost use Rattle.iisph_pressures.specs.IterationRows.{NextIs};
 
-// What the terms of a pressure sum take of the particle itself: its dij_pjl, e of METHOD 5.6, and its pressure.
+// What the fluid terms of a pressure sum take of the particle itself: its dij_pjl, e of METHOD 5.6, and its pressure.
 pub struct Owner {
     pub dij: Vec3,
     pub factor: f64,
@@ -51,20 +52,20 @@ pub struct Next {
 // The sum of compute_dij_pjl over a list of fluid contacts: g × the quotient of the row that a contact names.
 fn dij_sum(scene: &[u8], index: &[usize], work: &[f64], n: usize, list: ContactList) -> Vec3
     requires { ⌜ PassOver (now scene) (now index) n × DijReady (sceneOf (now scene)) n (now work) ⌝ }
-    requires { ⌜ (list .kind ≡ Kind.Fluid) × ContactsReady (now scene) list ⌝ }
+    requires { ⌜ ContactsReady Kind.Fluid (now scene) list ⌝ }
     ensures { λ r. ⌜
         (let b = now (scene .entry) in
-        coordinates r ≡ overList b list (withDij (sceneOf b) (pressuresIn n (now (work .entry)))) (origin axes))
+        let ps = pressuresIn n (now (work .entry)) in
+        coordinates r ≡ overList Kind.Fluid b list (withDij (sceneOf b) ps) (origin axes))
         ⌝ }
 {
-    let kind = list.kind;
     let count = list.count;
     let at = list.at;
     let mut sum = Vec3::zero();
     let mut k = 0usize;
     while k < count {
         let c = at + CONTACT_WIDTH * k;
-        let j = target_of(scene, index, kind, c);
+        let j = target_of(scene, index, Kind::Fluid, c);
         sum = sum.add(read::vector(scene, c + CONTACT_GRADIENT).scale(work[ROW * j + QUOTIENT]));
         k += 1;
     }
@@ -72,15 +73,8 @@ fn dij_sum(scene: &[u8], index: &[usize], work: &[f64], n: usize, list: ContactL
 }
 
 // The dij_pjl of fluid particle i, where the quotients stand in the rows.
-pub fn dij_pjl_of(
-    scene: &[u8],
-    index: &[usize],
-    work: &[f64],
-    n: usize,
-    clock: Clock,
-    i: usize,
-) -> Vec3
-    requires { ⌜ TimedPass (now scene) (now index) n clock × (i < n) ⌝ }
+pub fn dij_pjl_of(scene: &[u8], index: &[usize], work: &[f64], n: usize, dt: f64, i: usize) -> Vec3
+    requires { ⌜ TimedPass (now scene) (now index) n dt × (i < n) ⌝ }
     requires { ⌜ DijReady (sceneOf (now scene)) n (now work) ⌝ }
     ensures { λ r. ⌜
         (let s = sceneOf (now (scene .entry)) in
@@ -88,7 +82,6 @@ pub fn dij_pjl_of(
         ⌝ }
 {
     let list = contacts_of(scene, index, Kind::Fluid, i);
-    let dt = clock.dt;
     dij_sum(scene, index, work, n, list).scale(dt * dt)
 }
 
@@ -105,73 +98,64 @@ fn row_term(work: &[f64], j: usize, owner: Owner, g: Vec3) -> f64
     m * own.sub(other).dot(g)
 }
 
-// What the contact at an offset adds to the pressure sum of its owner.
-fn term(
-    scene: &[u8],
-    index: &[usize],
-    work: &[f64],
-    n: usize,
-    kind: Kind,
-    density0: f64,
-    owner: Owner,
-    at: usize,
-) -> f64
-    requires { ⌜ PassOver (now scene) (now index) n × Iterating (sceneOf (now scene)) n (now work) ⌝ }
-    requires { ⌜ ContactReady kind (now scene) at ⌝ }
-    ensures { λ r. ⌜
-        (let b = now (scene .entry) in
-        let l = now (work .entry) in
-        let c = contactAt (startsOf kind b) b at in
-        r ≡ termOf kind (sceneOf b) (pressuresIn n l) (dijsIn n l) density0 owner c)
-        ⌝ }
-{
-    let j = target_of(scene, index, kind, at);
-    let g = read::vector(scene, at + CONTACT_GRADIENT);
-    match kind {
-        Kind::Fluid => row_term(work, j, owner, g),
-        Kind::Boundary => {
-            let d = owner.dij;
-            work[ROW * n + j] * density0 * d.dot(g)
-        }
-    }
-}
-
-// The sum of compute_next_pressures over one list, from a number on.
-fn pressure_sum(
+// The sum of compute_next_pressures over the fluid contacts.
+fn fluid_pressure_sum(
     scene: &[u8],
     index: &[usize],
     work: &[f64],
     n: usize,
     list: ContactList,
     owner: Owner,
-    from: f64,
 ) -> f64
     requires { ⌜ PassOver (now scene) (now index) n × Iterating (sceneOf (now scene)) n (now work) ⌝ }
-    requires { ⌜ ContactsReady (now scene) list ⌝ }
+    requires { ⌜ ContactsReady Kind.Fluid (now scene) list ⌝ }
     ensures { λ r. ⌜
         (let b = now (scene .entry) in
         let l = now (work .entry) in
-        r ≡ overList b list (withTerm (list .kind) (sceneOf b) (pressuresIn n l) (dijsIn n l) (list .density0) owner)
-        from)
+        r ≡ overList Kind.Fluid b list (withTerm (fluidTerm (sceneOf b) (pressuresIn n l) (dijsIn n l) owner)) +0)
         ⌝ }
 {
-    let kind = list.kind;
     let count = list.count;
     let at = list.at;
+    let mut sum = 0.0;
+    let mut k = 0usize;
+    while k < count {
+        let c = at + CONTACT_WIDTH * k;
+        let j = target_of(scene, index, Kind::Fluid, c);
+        let g = read::vector(scene, c + CONTACT_GRADIENT);
+        sum = sum + row_term(work, j, owner, g);
+        k += 1;
+    }
+    sum
+}
+
+// The same sum over the boundary contacts, from that over the fluid contacts on; d is the particle's dij_pjl.
+fn boundary_pressure_sum(
+    scene: &[u8],
+    index: &[usize],
+    work: &[f64],
+    n: usize,
+    list: ContactList,
+    d: Vec3,
+    from: f64,
+) -> f64
+    requires { ⌜ PassOver (now scene) (now index) n × Iterating (sceneOf (now scene)) n (now work) ⌝ }
+    requires { ⌜ ContactsReady Kind.Boundary (now scene) list ⌝ }
+    ensures { λ r. ⌜
+        (let b = now (scene .entry) in
+        r ≡ overList Kind.Boundary b list (withTerm (boundaryTerm (sceneOf b) (list .density0) (coordinates d))) from)
+        ⌝ }
+{
+    let count = list.count;
+    let at = list.at;
+    let density0 = list.density0;
     let mut sum = from;
     let mut k = 0usize;
     while k < count {
-        sum = sum
-            + term(
-                scene,
-                index,
-                work,
-                n,
-                kind,
-                list.density0,
-                owner,
-                at + CONTACT_WIDTH * k,
-            );
+        let c = at + CONTACT_WIDTH * k;
+        let j = target_of(scene, index, Kind::Boundary, c);
+        let g = read::vector(scene, c + CONTACT_GRADIENT);
+        sum = sum + work[ROW * n + j] * density0 * d.dot(g);
         k += 1;
     }
     sum
@@ -203,10 +187,10 @@ pub fn next_pressure_of(
     index: &[usize],
     work: &[f64],
     n: usize,
-    clock: Clock,
+    dt: f64,
     i: usize,
 ) -> Next
-    requires { ⌜ TimedPass (now scene) (now index) n clock × (i < n) ⌝ }
+    requires { ⌜ TimedPass (now scene) (now index) n dt × (i < n) ⌝ }
     requires { ⌜ Iterating (sceneOf (now scene)) n (now work) ⌝ }
     ensures { λ r. ⌜
         (let s = sceneOf (now (scene .entry)) in
@@ -216,7 +200,6 @@ pub fn next_pressure_of(
 {
     let fluid = contacts_of(scene, index, Kind::Fluid, i);
     let boundary = contacts_of(scene, index, Kind::Boundary, i);
-    let dt = clock.dt;
     let row = ROW * i;
     let rho = work[row];
     let pressure = work[row + PRESSURE];
@@ -227,8 +210,8 @@ pub fn next_pressure_of(
         factor,
         pressure,
     };
-    let part = pressure_sum(scene, index, work, n, fluid, owner, 0.0);
-    let sum = pressure_sum(scene, index, work, n, boundary, owner, part);
+    let part = fluid_pressure_sum(scene, index, work, n, fluid, owner);
+    let sum = boundary_pressure_sum(scene, index, work, n, boundary, dij, part);
     next_from(
         fluid.density0,
         work[row + AII],

@@ -1,11 +1,11 @@
 -- A fluid particle through the index of an accepted scene: what the rules say of it follows from the doubles read in
--- its record, from the clock and from gravity. By what an accepted scene gives. Assumes nothing.
+-- its record, from dt and from gravity. By what an accepted scene gives. Assumes nothing.
 use Prim.Native.Nat.{ℕ, _+_, _<_}
-use mathlib.Core.Path.{_≡_, refl, ap, _∙_}
+use mathlib.Core.Path.{_≡_, refl, _∙_}
 use mathlib.Core.List.{List}
 use native.Mathlib.Omega.{arith}
 use lib.Ieee.{Float}
-use Rattle.iisph_rules.specs.Coefficients.{clockOf, dt, zeroVector, particleMass, velocityChange, advectedVelocity}
+use Rattle.iisph_rules.specs.Coefficients.{dt, zeroVector, particleMass, velocityChange, advectedVelocity}
 use Rattle.math.specs.Real.{_⊗_, half}
 use Rattle.math.specs.Vector.{Vector, origin, _⊞_, _⊡_}
 use Rattle.scene_check.specs.Accepted.{FluidParticleOk}
@@ -13,18 +13,14 @@ use Rattle.scene_format.specs.Bytes.{doubleAt, vectorAt}
 use Rattle.scene_format.specs.Format.{axes, density0Offset, velocityOffset, accelerationOffset, volumeOffset}
 use Rattle.scene_format.specs.Format.{warmPressureOffset}
 use Rattle.scene_format.specs.Format.{Location, locationOf}
-use Rattle.scene_format.specs.Scene.{Scene, fluidSize, sizeOf, particle}
+use Rattle.scene_format.specs.Scene.{fluidSize, sizeOf, particle}
 use Rattle.scene_format.specs.SceneOf.{headerOf, fluidParticleAt, sceneOf}
 use Rattle.scene_index.specs.Index.{Indexed}
 use Rattle.scene_index.proofs.ContactLists.{particle-here}
 use Rattle.scene_format.specs.declared.Kind.the-variants.{Fluid}
-use Rattle.timestep_manager.specs.declared.Clock.{Clock}
 use Rattle.iisph_rows.specs.Passes.{PassOver, firstPressure}
 
--- ---- the clock and the number of axes
-
-pub dt-is : (s : Scene) {clock : Clock} → clock ≡ clockOf s → clock .dt ≡ dt s
-dt-is s e = ap (λ (c : Clock). c .dt) e
+-- ---- the number of axes
 
 pub zero-is : (b : List ℕ) → origin axes ≡ zeroVector (sceneOf b)
 unfolding sceneOf headerOf

@@ -6,7 +6,7 @@ use mathlib.Core.List.{List, [], _∷_}
 use lib.Dec.{ltb}
 use lib.Ieee.{Float}
 use lib.ListN.{length}
-use Rattle.iisph_rules.specs.Coefficients.{clockOf, volumeFrom, boundaryVolume, particleMass, advectedVelocity}
+use Rattle.iisph_rules.specs.Coefficients.{dt, volumeFrom, boundaryVolume, particleMass, advectedVelocity}
 use Rattle.lists.specs.Lists.{choose, table}
 use Rattle.math.specs.Real.{_⊗_, half}
 use Rattle.math.specs.Vector.{coordinates}
@@ -15,7 +15,6 @@ use Rattle.scene_format.specs.Format.{axes, boundaryRecordWidth, boundaryContac
 use Rattle.scene_format.specs.Scene.{Scene, fluidSize, boundarySize, particle, boundary}
 use Rattle.scene_format.specs.SceneOf.{boundaryWeights, sceneOf}
 use Rattle.scene_index.specs.Index.{Indexed}
-use Rattle.timestep_manager.specs.declared.Clock.{Clock}
 use Rattle.iisph_rows.specs.Rows.{rowAt, dijSlot, massSlot, Rows, Behind}
 use Rattle.iisph_rows.specs.declared.zeros.Found.{Found}
 use Rattle.iisph_rows.specs.declared.zeros.Found.the-variants.{At, Nothing}
@@ -27,14 +26,14 @@ pub record PassOver (b index : List ℕ) (n : ℕ) : Type 0 where
   pub indexed : Indexed b index
   pub size : n ≡ fluidSize (sceneOf b)
 
--- what a pass that needs dt may rely on besides: the clock that the step has advanced
-pub record TimedPass (b index : List ℕ) (n : ℕ) (clock : Clock) : Type 0 where
+-- what a pass that needs dt may rely on besides: t is that of the clock which the step has advanced
+pub record TimedPass (b index : List ℕ) (n : ℕ) (t : Float) : Type 0 where
   pub over : PassOver b index n
-  pub clockIs : clock ≡ clockOf (sceneOf b)
+  pub dtIs : t ≡ dt (sceneOf b)
 
 -- what a pass that needs gravity too may rely on besides
-pub record DrivenPass (b index : List ℕ) (n : ℕ) (clock : Clock) (gravity : Vec3) : Type 0 where
-  pub timed : TimedPass b index n clock
+pub record DrivenPass (b index : List ℕ) (n : ℕ) (t : Float) (gravity : Vec3) : Type 0 where
+  pub timed : TimedPass b index n t
   pub gravityIs : coordinates gravity ≡ sceneOf b .header .gravity
 
 -- room for n rows and the volumes

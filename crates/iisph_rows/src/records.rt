@@ -10,7 +10,6 @@ use scene_format::format::WARM_PRESSURE;
 use scene_format::read;
 use scene_index::records::head_of;
 use scene_index::records::record_of;
-use timestep_manager::Clock;
 ghost use mathlib.Core.Path.{_≡_};
 ghost use Prim.Native.Nat.{_<_};
 ghost use Rattle.iisph_rules.specs.Coefficients.{particleMass, velocityChange, advectedVelocity};
@@ -34,11 +33,11 @@ pub fn velocity_change_of(
     scene: &[u8],
     index: &[usize],
     n: usize,
-    clock: Clock,
+    dt: f64,
     gravity: Vec3,
     i: usize,
 ) -> Vec3
-    requires { ⌜ DrivenPass (now scene) (now index) n clock gravity × (i < n) ⌝ }
+    requires { ⌜ DrivenPass (now scene) (now index) n dt gravity × (i < n) ⌝ }
     ensures { λ r. ⌜
         (let s = sceneOf (now (scene .entry)) in
         coordinates r ≡ velocityChange s (particle s i))
@@ -47,7 +46,7 @@ pub fn velocity_change_of(
     let at = record_of(scene, index, Kind::Fluid, i);
     let acceleration = read::vector(scene, at + ACCELERATION).add(gravity);
     let none = Vec3::zero();
-    none.add(acceleration.scale(clock.dt))
+    none.add(acceleration.scale(dt))
 }
 
 // Velocity plus its change before the pressures.
@@ -55,18 +54,18 @@ pub fn advected_of(
     scene: &[u8],
     index: &[usize],
     n: usize,
-    clock: Clock,
+    dt: f64,
     gravity: Vec3,
     i: usize,
 ) -> Vec3
-    requires { ⌜ DrivenPass (now scene) (now index) n clock gravity × (i < n) ⌝ }
+    requires { ⌜ DrivenPass (now scene) (now index) n dt gravity × (i < n) ⌝ }
     ensures { λ r. ⌜
         (let s = sceneOf (now (scene .entry)) in
         coordinates r ≡ advectedVelocity s (particle s i))
         ⌝ }
 {
     let at = record_of(scene, index, Kind::Fluid, i);
-    let change = velocity_change_of(scene, index, n, clock, gravity, i);
+    let change = velocity_change_of(scene, index, n, dt, gravity, i);
     read::vector(scene, at + VELOCITY).add(change)
 }
 

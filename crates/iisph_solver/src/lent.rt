@@ -59,11 +59,12 @@ fn finish(
         ⌝ }
 {
     let clock = header.clock;
+    let dt = clock.dt;
     let gravity = header.gravity;
     let stopping = header.stopping;
-    let solved = pressure_solve(scene, layout, index, n, clock, gravity, stopping, work);
-    traverse(Pass::Shares, scene, index, n, clock, gravity, work);
-    update_velocities_and_positions(scene, index, work, n, clock, gravity, answers);
+    let solved = pressure_solve(scene, layout, index, n, dt, gravity, stopping, work);
+    traverse(Pass::Shares, scene, index, n, dt, gravity, work);
+    update_velocities_and_positions(scene, index, work, n, dt, gravity, answers);
     boundary_answers(scene, layout, index, work, n, answers);
     let needed = lengths_of(layout).work;
     clear(work, needed);

@@ -18,7 +18,7 @@ use Rattle.scene_format.specs.Scene.{FluidParticle, Contact, fluidSize, particl
 use Rattle.scene_format.specs.SceneOf.{contactAt, contactList, fluidParticleAt, sceneOf}
 use Rattle.scene_format.specs.declared.Kind.{Kind}
 use Rattle.scene_format.specs.declared.Kind.the-variants.{Fluid, Boundary}
-use Rattle.scene_index.specs.Contacts.{ContactReady, ContactsReady, contactListAt, overList}
+use Rattle.scene_index.specs.Contacts.{ContactReady, ContactsReady, contactListAt, overFirst, overList}
 use Rattle.scene_index.specs.Index.{Indexed}
 use Rattle.scene_index.specs.declared.contacts.ContactList.{ContactList}
 
@@ -30,10 +30,9 @@ contactsOf Boundary p = p .boundaryContacts
 
 -- the list is that of p's contacts of the kind κ
 pub record ContactsAre (b : List ℕ) (κ : Kind) (p : FluidParticle) (list : ContactList) : Type 0 where
-  pub kind : list .kind ≡ κ
   pub density0 : list .density0 ≡ p .density0
   pub contacts : contactList (startsOf κ b) b (list .count) (list .at) ≡ contactsOf κ p
-  pub ready : ContactsReady b list
+  pub ready : ContactsReady κ b list
 
 contacts-of-particle : (b : List ℕ) {p : Location} {i : ℕ} (κ : Kind) → FluidParticleOk b p i
     → contactList (startsOf κ b) b (contactListAt κ b p .count) (contactListAt κ b p .at)
@@ -42,22 +41,30 @@ unfolding contactListAt contactsOf fluidParticleAt
 contacts-of-particle b Fluid q = sym (ap (λ p. p .fluidContacts) (q .particle))
 contacts-of-particle b Boundary q = sym (ap (λ p. p .boundaryContacts) (q .particle))
 
+contacts-room : {b : List ℕ} {p : Location} {i : ℕ} (κ : Kind) → FluidParticleOk b p i
+    → contactListAt κ b p .at + contactWidth axes * contactListAt κ b p .count ≤ length b
+unfolding contactListAt
+contacts-room Fluid q = omega (arith, q .own .ends)
+contacts-room Boundary q = omega (arith, q .own .ends)
+
 contacts-at : {b : List ℕ} {p : Location} {i : ℕ} (κ : Kind) → FluidParticleOk b p i
     → ContactsAre b κ (particle (sceneOf b) i) (contactListAt κ b p)
 unfolding contactListAt fluidParticleAt
 contacts-at {b} κ q =
     record {
-      kind = refl;
       density0 = sym (ap (λ p. p .density0) (q .particle));
       contacts = contacts-of-particle b κ q;
-      ready = record { each = λ k l. record { doubles = q .own .contacts κ k l; target = q .targets κ k l } };
+      ready =
+          record {
+            room = contacts-room κ q;
+            each = λ k l. record { doubles = q .own .contacts κ k l; target = q .targets κ k l };
+          };
     }
 
 -- a sum over the list is one over the particle's contacts
 pub over-list : {A : Type 0} {b : List ℕ} {κ : Kind} {p : FluidParticle} {list : ContactList} → ContactsAre b κ p list
-    → (f : A → Contact → A) (a : A) → overList b list f a ≡ fold f a (contactsOf κ p)
-over-list {b = b} {list = list} h f a =
-    ap (λ k. fold f a (contactList (startsOf k b) b (list .count) (list .at))) (h .kind) ∙ ap (fold f a) (h .contacts)
+    → (f : A → Contact → A) (a : A) → overList κ b list f a ≡ fold f a (contactsOf κ p)
+over-list h f a = ap (fold f a) (h .contacts)
 
 -- ---- through the index
 
@@ -84,14 +91,14 @@ module _ {b index : List ℕ} (ix : Indexed b index) (i : ℕ) (h : i < fluidSiz
         (fe : f ≡ byteAt b (at + contactCountOffset Fluid axes)) where
       pub fluid-contacts : κ ≡ Fluid
           → _≡_ {A = ContactList}
-          (record { kind = κ; density0 = d; count = f; at = at + recordWidth axes })
+          (record { density0 = d; count = f; at = at + recordWidth axes })
           (contactListAt κ b (locationOf Fluid b i))
       unfolding contactListAt
       fluid-contacts e = rw (← location-here, e, de, fe)
 
       pub boundary-contacts : {c : ℕ} → c ≡ byteAt b (at + contactCountOffset Boundary axes) → κ ≡ Boundary
           → _≡_ {A = ContactList}
-          (record { kind = κ; density0 = d; count = c; at = at + recordWidth axes + contactWidth axes * f })
+          (record { density0 = d; count = c; at = at + recordWidth axes + contactWidth axes * f })
           (contactListAt κ b (locationOf Fluid b i))
       unfolding contactListAt
       boundary-contacts ce e = rw (← location-here, e, de, ce, fe)
@@ -100,16 +107,16 @@ module _ {b index : List ℕ} (ix : Indexed b index) (i : ℕ) (h : i < fluidSiz
 
 -- f is what the sum makes of a contact, x what it is after k of them and y what the turn makes of x
 pub fold-next : {A : Type 0} (f : A → Contact → A) (a : A) (κ : Kind) (b : List ℕ) (at k : ℕ) {x y : A}
-    → x ≡ fold f a (contactList (startsOf κ b) b k at)
+    → x ≡ overFirst κ b at f a k
     → y ≡ f x (contactAt (startsOf κ b) b (at + contactWidth axes * k))
-    → y ≡ fold f a (contactList (startsOf κ b) b (k + 1) at)
+    → y ≡ overFirst κ b at f a (k + 1)
 unfolding contactList
 fold-next f a κ b at k e q =
     let c : ℕ → Contact = λ i. contactAt (startsOf κ b) b (at + contactWidth axes * i) in
     q
     ∙ ap (λ x. f x (c k)) e
     ∙ sym (fold-table f a k c)
-    ∙ ap (λ (n : ℕ). fold f a (contactList (startsOf κ b) b n at)) (sym (add-one k))
+    ∙ ap (overFirst κ b at f a) (sym (add-one k))
 
 -- a contact that may be read is within the bytes
 pub contact-room : {κ : Kind} {b : List ℕ} {at : ℕ} → ContactReady κ b at → at + contactWidth axes ≤ length b

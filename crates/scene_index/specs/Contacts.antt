@@ -1,7 +1,8 @@
 -- The contacts of a fluid particle, kind by kind, as the code hands them on; and when a contact may be read.
 -- Scaffolding: no promise rests on it. Definitions only.
-use Prim.Native.Nat.{ℕ, _+_, _*_, _<_}
+use Prim.Native.Nat.{ℕ, _+_, _*_, _<_, _≤_}
 use mathlib.Core.List.{List}
+use lib.ListN.{length}
 use Rattle.lists.specs.Lists.{fold}
 use Rattle.scene_check.specs.Accepted.{TargetOk}
 use Rattle.scene_format.specs.Bytes.{doubleAt}
@@ -18,20 +19,24 @@ pub record ContactReady (κ : Kind) (b : List ℕ) (at : ℕ) : Type 0 where
   pub doubles : ContactOk b at
   pub target : TargetOk κ b at
 
--- every contact of a list is such
-pub record ContactsReady (b : List ℕ) (list : ContactList) : Type 0 where
-  pub each : (k : ℕ) → k < list .count → ContactReady (list .kind) b (list .at + contactWidth axes * k)
+-- every contact of a list of that kind is such, and the list is within the bytes
+pub record ContactsReady (κ : Kind) (b : List ℕ) (list : ContactList) : Type 0 where
+  pub room : list .at + contactWidth axes * list .count ≤ length b
+  pub each : (k : ℕ) → k < list .count → ContactReady κ b (list .at + contactWidth axes * k)
 
 -- the list of one kind of the fluid particle whose record stands at p
 unfoldable pub contactListAt : Kind → List ℕ → Location → ContactList
 contactListAt κ b p =
     record {
-      kind = κ;
       density0 = doubleAt b (p .head + density0Offset);
       count = contactCount κ b (p .at);
       at = contactsStart κ b (p .at);
     }
 
--- from a on over the contacts of a list
-abbrev pub overList : {A : Type 0} → List ℕ → ContactList → (A → Contact → A) → A → A
-overList b list f a = fold f a (contactList (startsOf (list .kind) b) b (list .count) (list .at))
+-- from a on over the first n contacts of one kind, where the first stands at an offset
+abbrev pub overFirst : {A : Type 0} → Kind → List ℕ → ℕ → (A → Contact → A) → A → ℕ → A
+overFirst κ b at f a n = fold f a (contactList (startsOf κ b) b n at)
+
+-- from a on over the contacts of a list of that kind
+abbrev pub overList : {A : Type 0} → Kind → List ℕ → ContactList → (A → Contact → A) → A → A
+overList κ b list f a = overFirst κ b (list .at) f a (list .count)

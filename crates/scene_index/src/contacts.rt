@@ -24,7 +24,6 @@ ghost use Rattle.scene_index.specs.Index.{Indexed};
 // The contacts of one kind that a fluid particle has: how many there are and where the first stands, with the rest
 // density of the particle's fluid.
 pub struct ContactList {
-    pub kind: Kind,
     pub density0: f64,
     pub count: usize,
     pub at: usize,
@@ -42,7 +41,6 @@ pub fn contacts_of(scene: &[u8], index: &[usize], kind: Kind, i: usize) -> Conta
     let fluids = read::byte(scene, at + FLUID_CONTACTS);
     match kind {
         Kind::Fluid => ContactList {
-            kind,
             density0,
             count: fluids,
             at: at + RECORD_WIDTH,
@@ -50,7 +48,6 @@ pub fn contacts_of(scene: &[u8], index: &[usize], kind: Kind, i: usize) -> Conta
         Kind::Boundary => {
             let count = read::byte(scene, at + BOUNDARY_CONTACTS);
             ContactList {
-                kind,
                 density0,
                 count,
                 at: at + RECORD_WIDTH + CONTACT_WIDTH * fluids,

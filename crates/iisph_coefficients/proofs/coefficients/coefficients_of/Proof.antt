@@ -11,7 +11,6 @@ use Rattle.scene_format.specs.declared.Kind.the-variants.{Fluid, Boundary}
 use Rattle.iisph_coefficients.proofs.BothKinds.{coefficients-made}
 use Rattle.scene_index.proofs.ContactLists.{ContactsAre, contacts-are}
 use Rattle.iisph_rules.proofs.Sizes.{length-advected}
-use Rattle.iisph_rows.proofs.Particles.{dt-is}
 use Rattle.iisph_rows.proofs.RowReads.{mass-at, advected-at}
 use Rattle.iisph_coefficients.proofs.coefficients.coefficients_of.Statement.{statement}
 use Rattle.iisph_coefficients.proofs.coefficients.coefficients_of.Tie as tie
@@ -57,84 +56,83 @@ vector-at-requires c κs =
     let p = Begin c .pre in
     omega (arith, p .1 .room, p .0 .1)
 
-densities-requires : tie.Need-densities-requires
-densities-requires c κs =
+fluid-densities-requires : tie.Need-fluid-densities-requires
+fluid-densities-requires c κs =
     let u = c .before in
     let p = Begin u .pre in
-    (p .0 .0 .over, (fluid u .ready, p .1))
+    (p .0 .0 .over, fluid u .ready, p .1)
 
-densities-requires-2 : tie.Need-densities-requires-2
-densities-requires-2 c κs =
+boundary-densities-requires : tie.Need-boundary-densities-requires
+boundary-densities-requires c κs =
     let u = c .before .before in
     let p = Begin u .pre in
-    (p .0 .0 .over, (boundary u .ready, p .1))
+    (p .0 .0 .over, boundary u .ready, p .1)
 
-dii-requires : tie.Need-dii-requires
-dii-requires c κs =
+fluid-dii-requires : tie.Need-fluid-dii-requires
+fluid-dii-requires c κs =
+    let u = c .before .before .before in
+    let p = Begin u .pre in
+    (p .0 .0 .over, fluid u .ready, p .1)
+
+boundary-dii-requires : tie.Need-boundary-dii-requires
+boundary-dii-requires c κs =
     let u = c .before .before .before .before in
     let p = Begin u .pre in
-    (p .0 .0 .over, (fluid u .ready, p .1))
-
-dii-requires-2 : tie.Need-dii-requires-2
-dii-requires-2 c κs =
-    let u = c .before .before .before .before .before in
-    let p = Begin u .pre in
-    (p .0 .0 .over, (boundary u .ready, p .1))
+    (p .0 .0 .over, boundary u .ready, p .1)
 
 mul-e : tie.Need-mul-e
 mul-e c =
-    let p = Begin (c .before .before .before .before .before .before) .pre in
+    let p = Begin (c .before .before .before .before .before) .pre in
     omega (arith, p .0 .0 .over .indexed .fewFluid, p .0 .0 .over .size, p .0 .1)
 
 add-e : tie.Need-add-e
 add-e c =
-    let p = Begin (c .before .before .before .before .before .before) .pre in
+    let p = Begin (c .before .before .before .before .before) .pre in
     omega (arith, p .0 .0 .over .indexed .fewFluid, p .0 .0 .over .size, p .0 .1)
 
 mul-e-2 : tie.Need-mul-e-2
 mul-e-2 c =
-    let p = Begin (c .before .before .before .before .before .before) .pre in
+    let p = Begin (c .before .before .before .before .before) .pre in
     omega (arith, p .0 .0 .over .indexed .fewFluid, p .0 .0 .over .size, p .0 .1)
 
 shared-slice-read-e : tie.Need-shared-slice-read-e
 shared-slice-read-e c =
-    let p = Begin (c .before .before .before .before .before .before .before) .pre in
+    let p = Begin (c .before .before .before .before .before .before) .pre in
     omega (arith, p .1 .room, p .0 .1)
 
-aii-requires : tie.Need-aii-requires
-aii-requires c κs =
+fluid-aii-requires : tie.Need-fluid-aii-requires
+fluid-aii-requires c κs =
+    let u = c .before .before .before .before .before .before in
+    let p = Begin u .pre in
+    (p .0 .0 .over, fluid u .ready, p .1)
+
+boundary-aii-requires : tie.Need-boundary-aii-requires
+boundary-aii-requires c κs =
     let u = c .before .before .before .before .before .before .before in
     let p = Begin u .pre in
-    (p .0 .0 .over, (fluid u .ready, p .1))
-
-aii-requires-2 : tie.Need-aii-requires-2
-aii-requires-2 c κs =
-    let u = c .before .before .before .before .before .before .before .before in
-    let p = Begin u .pre in
-    (p .0 .0 .over, (boundary u .ready, p .1))
+    (p .0 .0 .over, boundary u .ready, p .1)
 
 returns : tie.Need-returns
 returns c =
     let a = c .before in
     let d = a .before .before .before in
-    let r = d .before .before .before in
+    let r = d .before .before in
     let v = r .before .before in
     let u = v .before in
     let s = Begin u in
     let p = s .pre in
     coefficients-made (fluid u) (boundary u)
-    (dt-is _ (p .0 .0 .clockIs))
+    (p .0 .0 .dtIs)
     (v .vector-at .ensures ∙ advected-at (p .1) _ (p .0 .1) (length-advected _ _ (below s)))
-    (r .before .densities .ensures .0)
-    (r .before .densities .ensures .1)
-    (r .densities2 .ensures .0)
-    (r .densities2 .ensures .1)
-    (d .before .before .zero .ensures)
-    (d .before .dii .ensures)
-    (d .dii2 .ensures)
+    (r .before .fluid-densities .ensures .0)
+    (r .before .fluid-densities .ensures .1)
+    (r .boundary-densities .ensures .0)
+    (r .boundary-densities .ensures .1)
+    (d .before .fluid-dii .ensures)
+    (d .boundary-dii .ensures)
     (mass-at (p .1) _ (p .0 .1))
-    (a .before .aii .ensures)
-    (a .aii2 .ensures)
+    (a .before .fluid-aii .ensures)
+    (a .boundary-aii .ensures)
 
 pub coefficients-of-spec : {M : Type 1} → statement M
 coefficients-of-spec =
@@ -145,15 +143,14 @@ coefficients-of-spec =
     mul-vector-at
     add-vector-at
     vector-at-requires
-    densities-requires
-    densities-requires-2
-    (λ c κs. search needs)
-    dii-requires
-    dii-requires-2
+    fluid-densities-requires
+    boundary-densities-requires
+    fluid-dii-requires
+    boundary-dii-requires
     mul-e
     add-e
     mul-e-2
     shared-slice-read-e
-    aii-requires
-    aii-requires-2
+    fluid-aii-requires
+    boundary-aii-requires
     returns)

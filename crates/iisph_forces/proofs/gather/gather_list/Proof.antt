@@ -11,6 +11,7 @@ use Rattle.lists.specs.Lists.{fold, table}
 use Rattle.scene_format.specs.SceneOf.{contactAt, contactList, sceneOf}
 use Rattle.scene_format.specs.declared.Kind.the-variants.{Boundary}
 use Rattle.scene_format.specs.Format.{axes, contactWidth, startsOf}
+use Rattle.scene_index.specs.Contacts.{overFirst}
 use Rattle.scene_index.proofs.ContactLists.{fold-next, contact-room}
 use Rattle.iisph_forces.specs.Forces.{ForceContact, gathered, stateGain}
 use Rattle.iisph_forces.proofs.Contacts.{length-gathered}
@@ -22,8 +23,7 @@ Inv-loop scene index work n state forces answers₀ count at k₀ answers k =
     (k ≤ count)
     × (length answers ≡ length answers₀)
     × (answers
-    ≡ fold (gathered (sceneOf scene) (stateGain (sceneOf scene) state)) answers₀
-    (contactList (startsOf Boundary scene) scene k at))
+    ≡ overFirst Boundary scene at (gathered (sceneOf scene) (stateGain (sceneOf scene) state)) answers₀ k)
 
 abbrev μ-loop : tie.MeasureT-loop
 μ-loop scene index work n state forces answers₀ count at k₀ answers k = count - k
@@ -78,8 +78,7 @@ same-length c = c .before .loop .inv .1
 returns : tie.Need-returns Inv-loop μ-loop
 returns c =
     let l = c .before .loop in
-    let p = c .before .before .before .before .before .before .before .pre in
-    rw (p .1 .0 .kind, le-antisymm (c .loop-test .left) (l .inv .0)) (l .inv .2)
+    rw (le-antisymm (c .loop-test .left) (l .inv .0)) (l .inv .2)
 
 pub gather-list-spec : {M : Type 1} → statement M
 gather-list-spec =

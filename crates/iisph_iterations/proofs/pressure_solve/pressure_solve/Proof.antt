@@ -13,11 +13,11 @@ use Rattle.iisph_iterations.proofs.«pressure_solve».pressure_solve.St
 use Rattle.iisph_iterations.proofs.«pressure_solve».pressure_solve.Tie as tie
 
 abbrev Inv-loop : tie.InvT-loop
-Inv-loop scene layout index n clock gravity work₀ least most limit error₀ i₀ work error i =
+Inv-loop scene layout index n dt gravity work₀ least most limit error₀ i₀ work error i =
     Solving scene n work₀ i error work
 
 abbrev μ-loop : tie.MeasureT-loop
-μ-loop scene layout index n clock gravity work₀ least most limit error₀ i₀ work error i = most - i
+μ-loop scene layout index n dt gravity work₀ least most limit error₀ i₀ work error i = most - i
 
 abbrev Begin : tie.At-loop Inv-loop μ-loop → tie.Start Inv-loop μ-loop
 Begin c = c .before .before .before .before

@@ -4,7 +4,7 @@ use native.Mathlib.Omega.{arith}
 use borrow.Author.Needs.{needs}
 use denote.Ref.{now}
 use Rattle.scene_check.specs.Accepted.{FluidParticleOk}
-use Rattle.iisph_rows.proofs.Particles.{dt-is, record-asked, record-here}
+use Rattle.iisph_rows.proofs.Particles.{record-asked, record-here}
 use Rattle.scene_format.specs.Format.{locationOf}
 use Rattle.scene_format.specs.declared.Kind.the-variants.{Fluid}
 use Rattle.iisph_motion.proofs.Motions.{velocity-made, position-made}
@@ -49,7 +49,7 @@ returns c =
     let d = k .before .final-change-of .ensures in
     record {
       position =
-          position-made (here k) _ d (v .vector .ensures) (x .add .ensures) (dt-is _ (s .pre .0 .0 .timed .clockIs))
+          position-made (here k) _ d (v .vector .ensures) (x .add .ensures) (s .pre .0 .0 .timed .dtIs)
           (y .vector2 .ensures)
           (w .scale .ensures)
           (c .add2 .ensures);

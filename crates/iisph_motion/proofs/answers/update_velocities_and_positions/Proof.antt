@@ -22,7 +22,7 @@ use Rattle.iisph_motion.proofs.answers.update_velocities_and_positions.
 use Rattle.iisph_motion.proofs.answers.update_velocities_and_positions.Tie as tie
 
 abbrev Inv-loop : tie.InvT-loop
-Inv-loop scene index work n clock gravity answers₀ i₀ answers i =
+Inv-loop scene index work n dt gravity answers₀ i₀ answers i =
     (i ≤ n)
     × (length answers ≡ length answers₀)
     × (answers
@@ -30,7 +30,7 @@ Inv-loop scene index work n clock gravity answers₀ i₀ answers i =
     (fluidAnswer (sceneOf scene) (coefficients (sceneOf scene)) (pressuresIn n work)) answers₀)
 
 abbrev μ-loop : tie.MeasureT-loop
-μ-loop scene index work n clock gravity answers₀ i₀ answers i = n - i
+μ-loop scene index work n dt gravity answers₀ i₀ answers i = n - i
 
 abbrev Begin : tie.At-loop Inv-loop μ-loop → tie.Start Inv-loop μ-loop
 Begin c = c .before .before .before .before .before

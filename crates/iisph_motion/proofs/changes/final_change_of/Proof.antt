@@ -7,7 +7,6 @@ use Rattle.scene_format.specs.Scene.{fluidSize, particle}
 use Rattle.scene_format.specs.SceneOf.{sceneOf}
 use Rattle.scene_format.specs.declared.Kind.the-variants.{Fluid, Boundary}
 use Rattle.scene_index.proofs.ContactLists.{ContactsAre, contacts-are}
-use Rattle.iisph_rows.proofs.Particles.{dt-is}
 use Rattle.iisph_rows.proofs.RowReads.{row-value}
 use Rattle.iisph_rules.specs.Coefficients.{coefficients}
 use Rattle.iisph_rules.specs.Step.{pressureShare}
@@ -69,17 +68,17 @@ shared-slice-read-share c =
 velocity-change-of-requires : tie.Need-velocity-change-of-requires
 velocity-change-of-requires c κs = Begin (c .before .before) .pre .0
 
-pressure-changes-requires : tie.Need-pressure-changes-requires
-pressure-changes-requires c κs =
+fluid-changes-requires : tie.Need-fluid-changes-requires
+fluid-changes-requires c κs =
     let l = c .before .before .before in
     let p = Begin l .pre in
     ((p .0 .0 .timed .over, p .1), fluid l .ready)
 
-pressure-changes-requires-2 : tie.Need-pressure-changes-requires-2
-pressure-changes-requires-2 c κs =
+boundary-changes-requires : tie.Need-boundary-changes-requires
+boundary-changes-requires c κs =
     let l = c .before .before .before .before in
     let p = Begin l .pre in
-    ((p .0 .0 .timed .over, p .1), boundary l .ready)
+    ((p .0 .0 .timed .over, p .1 .iteration), boundary l .ready)
 
 returns : tie.Need-returns
 returns c =
@@ -87,13 +86,13 @@ returns c =
     let o = v .before .before in
     let l = o .before in
     let p = Begin l .pre in
-    change-made _ (fluid l) (boundary l) _ _ (dt-is _ (p .0 .0 .timed .clockIs)) _
+    change-made _ (fluid l) (boundary l) _ _ (p .0 .0 .timed .dtIs) _
     (o .pressure-state-of .ensures)
     _
     (row-value (pressureShare (coefficients (sceneOf (now (Begin l .args .scene)))) _) (p .1 .share) _ (p .0 .1))
     (v .velocity-change-of .ensures)
-    (c .before .pressure-changes .ensures)
-    (c .pressure-changes2 .ensures)
+    (c .before .fluid-changes .ensures)
+    (c .boundary-changes .ensures)
 
 pub final-change-of-spec : {M : Type 1} → statement M
 final-change-of-spec =
@@ -107,6 +106,6 @@ final-change-of-spec =
     mul-share-2
     shared-slice-read-share
     velocity-change-of-requires
-    pressure-changes-requires
-    pressure-changes-requires-2
+    fluid-changes-requires
+    boundary-changes-requires
     returns)

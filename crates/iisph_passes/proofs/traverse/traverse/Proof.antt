@@ -20,11 +20,11 @@ use Rattle.iisph_passes.proofs.traverse.traverse.Statement.{statement}
 use Rattle.iisph_passes.proofs.traverse.traverse.Tie as tie
 
 abbrev Inv-loop : tie.InvT-loop
-Inv-loop pass scene index n clock gravity work₀ i₀ work i = (i ≤ n) × (length work ≡ length work₀)
+Inv-loop pass scene index n dt gravity work₀ i₀ work i = (i ≤ n) × (length work ≡ length work₀)
     × (work ≡ stored i (slotOf pass) (rowOf (sceneOf scene) work₀ pass) work₀)
 
 abbrev μ-loop : tie.MeasureT-loop
-μ-loop pass scene index n clock gravity work₀ i₀ work i = n - i
+μ-loop pass scene index n dt gravity work₀ i₀ work i = n - i
 
 abbrev Begin : tie.After-slice-known Inv-loop μ-loop → tie.Start Inv-loop μ-loop
 Begin c = c .before .before .before

@@ -5,7 +5,6 @@ use denote.Ref.{now}
 use Rattle.scene_format.specs.Scene.{particle}
 use Rattle.scene_format.specs.SceneOf.{sceneOf}
 use Rattle.scene_format.specs.declared.Kind.the-variants.{Fluid}
-use Rattle.iisph_rows.proofs.Particles.{dt-is}
 use Rattle.scene_index.proofs.ContactLists.{ContactsAre, contacts-are}
 use Rattle.iisph_pressures.proofs.IterationTerms.{dij-made}
 use Rattle.iisph_pressures.proofs.iteration.dij_pjl_of.Statement.{statement}
@@ -29,12 +28,12 @@ contacts-of-requires c κs =
 dij-sum-requires : tie.Need-dij-sum-requires
 dij-sum-requires c κs =
     let p = Begin c .pre in
-    ((p .0 .0 .over, p .1), (fluid c .kind, fluid c .ready))
+    ((p .0 .0 .over, p .1), fluid c .ready)
 
 returns : tie.Need-returns
 returns c =
     let l = c .before .before in
-    dij-made (fluid l) _ (dt-is _ (Begin l .pre .0 .0 .clockIs)) (c .before .dij-sum .ensures) (c .scale .ensures)
+    dij-made (fluid l) _ (Begin l .pre .0 .0 .dtIs) (c .before .dij-sum .ensures) (c .scale .ensures)
 
 pub dij-pjl-of-spec : {M : Type 1} → statement M
 dij-pjl-of-spec = tie.close (tie.spec contacts-of-requires dij-sum-requires (λ c κs. search needs) returns)

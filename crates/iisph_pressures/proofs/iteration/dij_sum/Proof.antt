@@ -1,7 +1,7 @@
 -- `iisph_pressures::iteration::dij_sum` meets its contract. The invariant: the sum is the rule's over the contacts
 -- passed; a turn takes in one more. The measure is the number of contacts left. Assumes nothing.
 use Prim.Native.Nat.{_+_, _*_, _-_, _<_, _≤_}
-use mathlib.Core.Path.{_≡_, ap, _∙_}
+use mathlib.Core.Path.{_≡_, refl, ap, _∙_}
 use native.Mathlib.Nat.{le-antisymm}
 use native.Mathlib.Omega.{arith}
 use borrow.Author.Needs.{needs}
@@ -11,22 +11,23 @@ use Rattle.math.specs.Vector.{coordinates, origin}
 use Rattle.scene_format.specs.SceneOf.{contactAt, contactList, sceneOf}
 use Rattle.iisph_pressures.specs.IterationRows.{pressuresIn, quotient, withDij}
 use Rattle.scene_format.specs.Format.{axes, contactWidth, startsOf}
-use Rattle.scene_index.specs.Contacts.{ContactReady}
+use Rattle.scene_format.specs.declared.Kind.the-variants.{Fluid}
+use Rattle.scene_index.specs.Contacts.{ContactReady, overFirst}
 use Rattle.iisph_pressures.proofs.IterationTerms.{dij-step}
-use Rattle.scene_index.proofs.ContactLists.{fold-next, contact-room}
+use Rattle.scene_index.proofs.ContactLists.{fold-next}
 use Rattle.scene_index.proofs.Targets.{fluid-named}
 use Rattle.iisph_rows.proofs.RowReads.{row-value}
 use Rattle.iisph_pressures.proofs.iteration.dij_sum.Statement.{statement}
 use Rattle.iisph_pressures.proofs.iteration.dij_sum.Tie as tie
 
 abbrev Inv-loop : tie.InvT-loop
-Inv-loop scene index work n kind count at sum₀ k₀ sum k =
+Inv-loop scene index work n count at sum₀ k₀ sum k =
     (k ≤ count)
     × (coordinates sum
-    ≡ fold (withDij (sceneOf scene) (pressuresIn n work)) (origin axes) (contactList (startsOf kind scene) scene k at))
+    ≡ overFirst Fluid scene at (withDij (sceneOf scene) (pressuresIn n work)) (origin axes) k)
 
 abbrev μ-loop : tie.MeasureT-loop
-μ-loop scene index work n kind count at sum₀ k₀ sum k = count - k
+μ-loop scene index work n count at sum₀ k₀ sum k = count - k
 
 loop-holds : tie.Need-loop-holds Inv-loop μ-loop
 unfolding contactList table fold
@@ -37,15 +38,9 @@ Begin c = c .before .before .before .before .before .before
 
 -- the contact of a turn
 here : (c : tie.In-loop Inv-loop μ-loop)
-    → ContactReady (Begin c .args .list .kind) (now (Begin c .args .scene))
+    → ContactReady Fluid (now (Begin c .args .scene))
     (Begin c .args .list .at + contactWidth axes * c .before .loop .k)
-here c = Begin c .pre .1 .1 .each (c .before .loop .k) (c .loop-test .taken)
-
-mul-c : tie.Need-mul-c Inv-loop μ-loop
-mul-c c = omega (arith, contact-room (here c))
-
-add-c : tie.Need-add-c Inv-loop μ-loop
-add-c c = omega (arith, contact-room (here c))
+here c = Begin c .pre .1 .each (c .before .loop .k) (c .loop-test .taken)
 
 target-of-requires : tie.Need-target-of-requires Inv-loop μ-loop
 target-of-requires c κs = (Begin c .pre .0 .0 .indexed, here c)
@@ -54,10 +49,7 @@ target-of-requires c κs = (Begin c .pre .0 .0 .indexed, here c)
 below : (c : tie.After-target-of Inv-loop μ-loop) → c .target-of .result < Begin (c .before) .args .n
 below c =
     let p = Begin (c .before) .pre in
-    omega (arith, p .0 .0 .size, fluid-named (here (c .before)) (c .target-of .ensures) (p .1 .0))
-
-add-vector : tie.Need-add-vector Inv-loop μ-loop
-add-vector c = omega (arith, contact-room (here (c .before)))
+    omega (arith, p .0 .0 .size, fluid-named (here (c .before)) (c .target-of .ensures) refl)
 
 vector-requires : tie.Need-vector-requires Inv-loop μ-loop
 vector-requires c κs = here (c .before) .doubles .gradient
@@ -82,9 +74,6 @@ shared-slice-read-scale c =
     let t = c .before .before in
     omega (arith, below t, Begin (t .before) .pre .0 .1 .room)
 
-add-k : tie.Need-add-k Inv-loop μ-loop
-add-k c = omega (arith, contact-room (here (c .before .before .before .before .before)))
-
 loop-again : tie.Need-loop-again Inv-loop μ-loop
 unfolding contactAt
 loop-again c =
@@ -96,9 +85,9 @@ loop-again c =
     let scene = sceneOf (now (a .scene)) in
     let ps = pressuresIn (a .n) (now (a .work)) in (
       omega arith,
-      fold-next (withDij scene ps) (origin axes) (a .list .kind) (now (a .scene)) (a .list .at) (l .k) (l .inv .1)
+      fold-next (withDij scene ps) (origin axes) Fluid (now (a .scene)) (a .list .at) (l .k) (l .inv .1)
           (dij-step scene ps
-          (contactAt (startsOf (a .list .kind) (now (a .scene))) (now (a .scene))
+          (contactAt (startsOf Fluid (now (a .scene))) (now (a .scene))
           (a .list .at + contactWidth axes * l .k)) (coordinates (l .sum)) (c .add .ensures) (c .before .scale .ensures)
           (v .vector .ensures)
           (row-value (quotient scene ps) (s .pre .0 .1 .quotients) (t .target-of .result) (below t)
@@ -118,10 +107,10 @@ dij-sum-spec =
     μ-loop
     (λ c κs. search needs)
     loop-holds
-    mul-c
-    add-c
+    (λ c. search needs)
+    (λ c. search needs)
     target-of-requires
-    add-vector
+    (λ c. search needs)
     vector-requires
     mul-scale
     add-scale
@@ -129,7 +118,7 @@ dij-sum-spec =
     shared-slice-read-scale
     (λ c κs. search needs)
     (λ c κs. search needs)
-    add-k
+    (λ c. search needs)
     (λ c. search needs)
     loop-again
     returns)

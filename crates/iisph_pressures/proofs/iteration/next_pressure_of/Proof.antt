@@ -7,7 +7,6 @@ use denote.Ref.{now}
 use Rattle.scene_format.specs.Scene.{fluidSize, particle}
 use Rattle.scene_format.specs.SceneOf.{sceneOf}
 use Rattle.scene_format.specs.declared.Kind.the-variants.{Fluid, Boundary}
-use Rattle.iisph_rows.proofs.Particles.{dt-is}
 use Rattle.scene_index.proofs.ContactLists.{ContactsAre, contacts-are}
 use Rattle.iisph_pressures.proofs.IterationTerms.{next-made}
 use Rattle.iisph_pressures.proofs.iteration.next_pressure_of.Statement.{statement}
@@ -93,14 +92,14 @@ vector-at-requires c κs =
     let p = Begin (c .before .before .before) .pre in
     omega (arith, p .1 .room, p .0 .1)
 
-pressure-sum-requires : tie.Need-pressure-sum-requires
-pressure-sum-requires c κs =
+fluid-pressure-sum-requires : tie.Need-fluid-pressure-sum-requires
+fluid-pressure-sum-requires c κs =
     let u = Row c in
     let p = Begin u .pre in
     ((p .0 .0 .over, p .1), fluid u .ready)
 
-pressure-sum-requires-2 : tie.Need-pressure-sum-requires-2
-pressure-sum-requires-2 c κs =
+boundary-pressure-sum-requires : tie.Need-boundary-pressure-sum-requires
+boundary-pressure-sum-requires c κs =
     let u = Row (c .before) in
     let p = Begin u .pre in
     ((p .0 .0 .over, p .1), boundary u .ready)
@@ -141,10 +140,10 @@ returns c =
     let v = y .before .before in
     let u = Row v in
     let p = Begin u .pre in
-    next-made _ (p .0 .0 .over .size) (p .1) _ (p .0 .1) (fluid u) (boundary u) _ (dt-is _ (p .0 .0 .clockIs)) _
+    next-made _ (p .0 .0 .over .size) (p .1) _ (p .0 .1) (fluid u) (boundary u) _ (p .0 .0 .dtIs) _
     (v .vector-at .ensures)
-    (y .before .pressure-sum .ensures)
-    (y .pressure-sum2 .ensures)
+    (y .before .fluid-pressure-sum .ensures)
+    (y .boundary-pressure-sum .ensures)
     (c .next-from .ensures)
 
 pub next-pressure-of-spec : {M : Type 1} → statement M
@@ -164,8 +163,8 @@ next-pressure-of-spec =
     shared-slice-read-factor
     add-vector-at
     vector-at-requires
-    pressure-sum-requires
-    pressure-sum-requires-2
+    fluid-pressure-sum-requires
+    boundary-pressure-sum-requires
     add-next-from
     mul-next-from
     shared-slice-read-next-from

@@ -8,7 +8,7 @@ use Rattle.math.specs.Vector.{Vector, coordinates, _⊞_, _⊡_}
 use Rattle.scene_check.specs.Accepted.{FluidParticleOk}
 use Rattle.scene_format.specs.Format.{locationOf}
 use Rattle.scene_format.specs.declared.Kind.the-variants.{Fluid}
-use Rattle.iisph_rows.proofs.Particles.{record-asked, record-here, dt-is, change-made}
+use Rattle.iisph_rows.proofs.Particles.{record-asked, record-here, change-made}
 use Rattle.iisph_rows.proofs.records.velocity_change_of.Statement.{statement}
 use Rattle.iisph_rows.proofs.records.velocity_change_of.Tie as tie
 
@@ -39,8 +39,8 @@ returns c =
     let b = Begin (v .before) in
     c .add2 .ensures
     ∙ ap (λ (x : Vector). coordinates (s .before .zero .result) ⊞ x)
-    (s .scale .ensures ∙ ap (λ (x : Vector). x ⊡ b .args .clock .dt) (a .add .ensures))
-    ∙ change-made (here (v .before)) (v .vector .ensures) (b .pre .0 .gravityIs) (dt-is _ (b .pre .0 .timed .clockIs))
+    (s .scale .ensures ∙ ap (λ (x : Vector). x ⊡ b .args .dt) (a .add .ensures))
+    ∙ change-made (here (v .before)) (v .vector .ensures) (b .pre .0 .gravityIs) (b .pre .0 .timed .dtIs)
     (s .before .zero .ensures)
 
 pub velocity-change-of-spec : {M : Type 1} → statement M
