@@ -9,7 +9,8 @@ use Rattle.lists.specs.Stores.{Rows}
 
 -- ---- parts of rows: what stands from element e of each row on
 
-module _ {A : Type 0} {d : A} {at : ℕ → ℕ → ℕ} {n k : ℕ} {f : ℕ → List A} {l : List A} (q : Rows d at n k f l) (e : ℕ) where
+module _ {A : Type 0} {d : A} {at : ℕ → ℕ → ℕ} {n k : ℕ} {f : ℕ → List A} {l : List A} (q : Rows d at n k f l)
+    (e : ℕ) where
   pub rows-part : (g : ℕ → List A)
       → ((i : ℕ) → i < n → (a : ℕ) → a < length (g i)
       → (e + a < length (f i)) × (getD (f i) (e + a) d ≡ getD (g i) a d))
@@ -32,8 +33,8 @@ module _ {A : Type 0} {d : A} {at : ℕ → ℕ → ℕ} {n k : ℕ} {f : ℕ �
 
 -- ---- equal values
 
-pub rows-same : {A : Type 0} {d : A} {at : ℕ → ℕ → ℕ} {n k : ℕ} {f g : ℕ → List A} {l : List A} → ((i : ℕ) → i < n → f i ≡ g i)
-    → Rows d at n k f l → Rows d at n k g l
+pub rows-same : {A : Type 0} {d : A} {at : ℕ → ℕ → ℕ} {n k : ℕ} {f g : ℕ → List A} {l : List A}
+    → ((i : ℕ) → i < n → f i ≡ g i) → Rows d at n k f l → Rows d at n k g l
 rows-same {A} {d} {n = n} {k} {f} {g} {l} h q =
     record {
       holds = λ i m e c. q .holds i m e (subst (λ (xs : List A). e < length xs) (sym (h i m)) c)
