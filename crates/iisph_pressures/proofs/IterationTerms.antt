@@ -1,7 +1,7 @@
 -- What an iteration computes of a particle is the rules': a term is that of the row which the contact names, and a sum
 -- over a list of contacts is one over the particle's. Each law is over variables for the results of the code's calls.
 -- Assumes nothing.
-use Prim.Native.Nat.{ℕ, _+_, _<_}
+use Prim.Native.Nat.{ℕ, _+_, _*_, _<_}
 use mathlib.Core.Path.{_≡_, refl, sym, ap, _∙_, subst}
 use mathlib.Core.Bool.{Bool, true, false, cond}
 use mathlib.Core.List.{List}
@@ -25,7 +25,8 @@ use Rattle.iisph_rules.specs.Iteration.{clamped, aiiLimit, nextPressure}
 use Rattle.iisph_pressures.specs.IterationRows.{IterationReady, pressuresIn, dijsIn, quotient, withDij, rowTerm}
 use Rattle.iisph_pressures.specs.IterationRows.{termOf, withTerm, nextFrom, NextIs}
 use Rattle.scene_index.specs.Contacts.{ContactReady, overList}
-use Rattle.iisph_rows.specs.Rows.{rowAt, elementAt, vectorFrom, massSlot, pressureSlot, dijSlot, predictedSlot, aiiSlot}
+use Rattle.iisph_rows.specs.Rows.{rowAt, volumesAt, elementAt, vectorFrom, massSlot, pressureSlot, dijSlot}
+use Rattle.iisph_rows.specs.Rows.{densitySlot, predictedSlot, aiiSlot}
 use Rattle.scene_format.specs.Format.{axes, gradientOffset, startsOf}
 use Rattle.scene_index.specs.declared.contacts.ContactList.{ContactList}
 use Rattle.iisph_pressures.specs.declared.iteration.Next.{Next}
@@ -79,7 +80,7 @@ module _ (b : List ℕ) {n : ℕ} {work : List Float} (size : n ≡ fluidSize (s
       term-same (coordinates (owner .dij)) g (owner .factor) (owner .pressure)
       (mass-in q size j h)
       (pressure-in work j h)
-      (row-vector (λ i. coefficientsOf (sceneOf b) (particle (sceneOf b) i) .dii) (q .dii) j h
+      (row-vector (λ i. coefficientsOf (sceneOf b) (particle (sceneOf b) i) .dii) (q .dii) (omega arith) j h
       (length-row j (omega arith))
       ∙ sym (ap (λ k. k .dii) (coefficient-at (sceneOf b) j (omega arith))))
       (dij-in work j h)
@@ -96,7 +97,7 @@ module _ (b : List ℕ) {n : ℕ} {work : List Float} (size : n ≡ fluidSize (s
         row-term-is j (omega arith) owner g ∙ rw (ge, named, e)
 
     pub boundary-term : {r : Float} → r ≡ coordinates (owner .dij) · g → κ ≡ Boundary
-        → elementAt work (rowAt n + j) ⊗ density0 ⊗ r
+        → elementAt work (volumesAt n + j) ⊗ density0 ⊗ r
         ≡ termOf κ (sceneOf b) (pressuresIn n work) (dijsIn n work) density0 owner (contactAt (startsOf κ b) b at)
     unfolding termOf boundaryMass contactAt
     boundary-term {r} re e =
@@ -217,12 +218,13 @@ factor-made : (b : List ℕ) (p : FluidParticle) {t m r rho : Float} → t ≡ d
 unfolding djiFactor
 factor-made b p te me re = factor-same te me re
 
--- the owner as the code makes it, from row i
-abbrev ownerOf : List Float → ℕ → Float → Vec3 → Owner
-ownerOf work i t d =
+-- the owner as the code makes it, from what stands there of particle i of n
+abbrev ownerOf : List Float → ℕ → ℕ → Float → Vec3 → Owner
+ownerOf work n i t d =
+    let rho = elementAt work (densitySlot axes * n + i) in
     record {
       dij = d;
-      factor = t ⊗ t ⊗ elementAt work (rowAt i + massSlot axes) ⊘ (elementAt work (rowAt i) ⊗ elementAt work (rowAt i));
+      factor = t ⊗ t ⊗ elementAt work (rowAt i + massSlot) ⊘ (rho ⊗ rho);
       pressure = elementAt work (rowAt i + pressureSlot axes);
     }
 
@@ -231,20 +233,20 @@ pub next-made : (b : List ℕ) {n : ℕ} {work : List Float} → n ≡ fluidSize
     → IterationReady (sceneOf b) (pressuresIn n work) n work
     → (i : ℕ) → i < n → {fluid boundary : ContactList}
     → ContactsAre b Fluid (particle (sceneOf b) i) fluid → ContactsAre b Boundary (particle (sceneOf b) i) boundary
-    → (t : Float) → t ≡ dt (sceneOf b) → (d : Vec3) → coordinates d ≡ vectorFrom work (rowAt i + dijSlot axes)
+    → (t : Float) → t ≡ dt (sceneOf b) → (d : Vec3) → coordinates d ≡ vectorFrom work (rowAt i + dijSlot)
     → {x y : Float} {r : Next}
     → x ≡ overList b fluid
-    (withTerm (fluid .kind) (sceneOf b) (pressuresIn n work) (dijsIn n work) (fluid .density0) (ownerOf work i t d)) +0
+    (withTerm (fluid .kind) (sceneOf b) (pressuresIn n work) (dijsIn n work) (fluid .density0) (ownerOf work n i t d)) +0
     → y ≡ overList b boundary
     (withTerm (boundary .kind) (sceneOf b) (pressuresIn n work) (dijsIn n work) (boundary .density0)
-    (ownerOf work i t d)) x
+    (ownerOf work n i t d)) x
     → NextIs r
-    (nextFrom (fluid .density0) (elementAt work (rowAt i + aiiSlot)) (elementAt work (rowAt i + predictedSlot)) y
+    (nextFrom (fluid .density0) (elementAt work (aiiSlot axes * n + i)) (elementAt work (predictedSlot axes * n + i)) y
     (elementAt work (rowAt i + pressureSlot axes)))
     → NextIs r (nextPressure (sceneOf b) (coefficients (sceneOf b)) (pressuresIn n work) (dijsIn n work) i)
 next-made b {n} {work} size q i h fs bs t te d de {r = r} xe ye re =
     let sum =
-    sum-made i fs bs (pressuresIn n work) (dijsIn n work) (ownerOf work i t d) (de ∙ dij-in work i h)
+    sum-made i fs bs (pressuresIn n work) (dijsIn n work) (ownerOf work n i t d) (de ∙ dij-in work i h)
     (factor-made b (particle (sceneOf b) i) te (mass-in q size i h) (density-in q size i h))
     (pressure-in work i h)
     xe
