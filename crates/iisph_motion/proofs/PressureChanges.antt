@@ -1,7 +1,7 @@
 -- What the contacts of a fluid particle take off its velocity change is the rules': a contact's change is that of the
 -- row or the volume which it names, and a fold over a list of contacts is one over the particle's. Each law is over
 -- variables for the results of the code's calls. Assumes nothing.
-use Prim.Native.Nat.{ℕ, _+_, _<_}
+use Prim.Native.Nat.{ℕ, _+_, _*_, _<_}
 use mathlib.Core.Path.{_≡_, ap, _∙_, subst}
 use mathlib.Core.List.{List}
 use native.Mathlib.Omega.{arith}
@@ -10,7 +10,7 @@ use Rattle.iisph_pressures.specs.IterationRows.{pressuresIn}
 use Rattle.iisph_pressures.proofs.IterationReads.{mass-in}
 use Rattle.iisph_rows.specs.Passes.{PassOver}
 use Rattle.iisph_rows.specs.Rows.{massSlot, quotientSlot, rowAt, elementAt}
-use Rattle.iisph_rows.proofs.RowReads.{row-value}
+use Rattle.iisph_rows.proofs.RowReads.{column-value}
 use Rattle.iisph_rules.specs.Coefficients.{dt, overContacts, fluidMass, velocityChange, coefficients}
 use Rattle.iisph_rules.specs.Step.{pressureShare, boundaryAcceleration, finalVelocityChange}
 use Rattle.lists.specs.Lists.{fold}
@@ -45,15 +45,15 @@ module _ (b : List ℕ) {κ : Kind} {at : ℕ} (ready : ContactReady κ b at) wh
       → ChangesReady (sceneOf b) n work
       → (state : PressureState) (own t : Float) → κ ≡ Fluid
       → {j : ℕ} → j ≡ targetAt (startsOf κ b) b at → {g x : Vector} → g ≡ vectorAt axes b (at + gradientOffset)
-      → let m = elementAt work (rowAt j + massSlot axes) in
-      x ≡ g ⊡ (t ⊗ m ⊗ (own ⊕ elementAt work (rowAt j + quotientSlot axes)))
+      → let m = elementAt work (rowAt j + massSlot) in
+      x ≡ g ⊡ (t ⊗ m ⊗ (own ⊕ elementAt work (quotientSlot axes * n + j)))
       → x ≡ changeBy κ (sceneOf b) (pressuresIn n work) t state own (contactAt (startsOf κ b) b at)
   unfolding changeBy fluidMass contactAt
   fluid-change {n = n} pass {work} q state own t e {j} named ge xe =
       let h : j < n = omega (arith, pass .size, fluid-named ready named e) in
       xe
       ∙ change-same t own ge (mass-in (q .iteration) (pass .size) j h)
-      (row-value (pressureShare (coefficients (sceneOf b)) (pressuresIn n work)) (q .share) j h)
+      (column-value (pressureShare (coefficients (sceneOf b)) (pressuresIn n work)) (q .share) (omega arith) j h)
       ∙ rw (named, e)
 
 pub boundary-change : (b : List ℕ) {κ : Kind} (at : ℕ) (ps : List Float) (state : PressureState)

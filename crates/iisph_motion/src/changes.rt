@@ -53,7 +53,7 @@ fn pressure_change(
             let j = target_of(scene, index, kind, at);
             let row = ROW * j;
             let m = work[row + MASS];
-            let share = work[row + SHARE];
+            let share = work[SHARE * n + j];
             read::vector(scene, at + CONTACT_GRADIENT).scale(dt * m * (own + share))
         }
         Kind::Boundary => boundary_acceleration(scene, index, work, n, at, state).scale(dt),
@@ -115,7 +115,7 @@ pub(crate) fn final_change_of(
     let boundary = contacts_of(scene, index, Kind::Boundary, i);
     let dt = clock.dt;
     let state = pressure_state_of(scene, index, work, n, i);
-    let share = work[ROW * i + SHARE];
+    let share = work[SHARE * n + i];
     let first = velocity_change_of(scene, index, n, clock, gravity, i);
     let part = pressure_changes(scene, index, work, n, fluid, state, share, dt, first);
     pressure_changes(scene, index, work, n, boundary, state, share, dt, part)

@@ -8,7 +8,7 @@ use Rattle.scene_format.specs.SceneOf.{sceneOf}
 use Rattle.scene_format.specs.declared.Kind.the-variants.{Fluid, Boundary}
 use Rattle.scene_index.proofs.ContactLists.{ContactsAre, contacts-are}
 use Rattle.iisph_rows.proofs.Particles.{dt-is}
-use Rattle.iisph_rows.proofs.RowReads.{row-value}
+use Rattle.iisph_rows.proofs.RowReads.{column-value}
 use Rattle.iisph_rules.specs.Coefficients.{coefficients}
 use Rattle.iisph_rules.specs.Step.{pressureShare}
 use Rattle.iisph_motion.proofs.PressureChanges.{change-made}
@@ -90,7 +90,8 @@ returns c =
     change-made _ (fluid l) (boundary l) _ _ (dt-is _ (p .0 .0 .timed .clockIs)) _
     (o .pressure-state-of .ensures)
     _
-    (row-value (pressureShare (coefficients (sceneOf (now (Begin l .args .scene)))) _) (p .1 .share) _ (p .0 .1))
+    (column-value (pressureShare (coefficients (sceneOf (now (Begin l .args .scene)))) _) (p .1 .share) (omega arith) _
+    (p .0 .1))
     (v .velocity-change-of .ensures)
     (c .before .pressure-changes .ensures)
     (c .pressure-changes2 .ensures)

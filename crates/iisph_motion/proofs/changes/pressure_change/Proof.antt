@@ -15,7 +15,7 @@ Begin c = c .before .before .before .before .before .before
 abbrev BeginBoundary : tie.After-enum-told2 → tie.Start
 BeginBoundary c = c .before .before .before .before .before
 
--- the row that a fluid contact names
+-- the particle that a fluid contact names
 below : (c : tie.After-target-of) → c .target-of .result < Begin c .args .n
 below c =
     let p = Begin c .pre in
@@ -44,13 +44,18 @@ mul-m c =
 shared-slice-read-m : tie.Need-shared-slice-read-m
 shared-slice-read-m c = omega (arith, below (c .before), Begin (c .before) .pre .0 .1 .iteration .room)
 
+mul-share : tie.Need-mul-share
+mul-share c =
+    let p = Begin (c .before) .pre in
+    omega (arith, below (c .before), p .0 .0 .indexed .fewFluid, p .0 .0 .size)
+
 add-share : tie.Need-add-share
 add-share c =
     let p = Begin (c .before) .pre in
     omega (arith, below (c .before), p .0 .0 .indexed .fewFluid, p .0 .0 .size)
 
-mul-share : tie.Need-mul-share
-mul-share c =
+mul-share-2 : tie.Need-mul-share-2
+mul-share-2 c =
     let p = Begin (c .before) .pre in
     omega (arith, below (c .before), p .0 .0 .indexed .fewFluid, p .0 .0 .size)
 
@@ -100,8 +105,9 @@ pressure-change-spec =
     add-m
     mul-m
     shared-slice-read-m
-    add-share
     mul-share
+    add-share
+    mul-share-2
     shared-slice-read-share
     add-vector
     vector-requires
