@@ -9,7 +9,7 @@ use lib.Ieee.{Float}
 use lib.ListN.{length, set}
 use lib.Seq.{sets}
 use Rattle.lists.proofs.Addressings.{Addressing, rows-apart, row-slot, column-slot, rows-and-columns}
-use Rattle.lists.proofs.Stores.{slots-one, slots-run}
+use Rattle.lists.proofs.Stores.{slots-one, slots-append, slots-run}
 use Rattle.scene_format.specs.Format.{axes}
 use Rattle.scene_lengths.specs.Lengths.{workWidth}
 use Rattle.iisph_rows.specs.Rows.{rowAt, rowWidth, volumesAt, slotAt, setSlots}
@@ -35,3 +35,8 @@ module _ (n i k : ℕ) where
 
   pub column-set : (v : Float) (l : List Float) → rowWidth axes ≤ k → setSlots n i k (v ∷ []) l ≡ set l (k * n + i) v
   column-set v l h = slots-one (slotAt n i) v l k ∙ ap (λ (j : ℕ). set l j v) (in-column h)
+
+  -- the first of several columns
+  pub column-first : (v : Float) (vs l : List Float) → rowWidth axes ≤ k
+      → setSlots n i k (v ∷ vs) l ≡ setSlots n i (k + 1) vs (set l (k * n + i) v)
+  column-first v vs l h = slots-append (slotAt n i) (v ∷ []) vs l k ∙ ap (setSlots n i (k + 1) vs) (column-set v l h)
