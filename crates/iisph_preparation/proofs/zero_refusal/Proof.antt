@@ -12,6 +12,7 @@ use Rattle.scene_index.specs.Index.{recordsAt}
 use Rattle.scene_format.specs.declared.Kind.the-variants.{Fluid}
 use Rattle.iisph_rows.specs.Passes.{foundBelow}
 use Rattle.iisph_rows.specs.Rows.{densitySlot, predictedSlot, column}
+use Rattle.scene_format.specs.Format.{axes}
 use Rattle.iisph_rules.specs.Step.{firstZero}
 use Rattle.iisph_rules.specs.declared.StepAnswer.the-variants.{Done}
 use Rattle.iisph_rows.specs.declared.zeros.Found.the-variants.{At, Nothing}
@@ -31,18 +32,18 @@ abbrev Begin : tie.After-shared-slice-known2 → tie.Start
 Begin c = c .before .before
 
 found : (c : tie.After-known-told)
-    → First (Begin (c .before .before .before .before)) densitySlot (c .before .density .given .0 .0)
+    → First (Begin (c .before .before .before .before)) (densitySlot axes) (c .before .density .given .0 .0)
 found c = sym (c .before .density .given .1) ∙ c .before .before .before .first-zero .ensures
 
-nothing : (c : tie.After-enum-told) → None (Begin (c .before .before .before)) densitySlot
+nothing : (c : tie.After-enum-told) → None (Begin (c .before .before .before)) (densitySlot axes)
 nothing c = sym (c .enum-told .given .1) ∙ c .before .before .first-zero .ensures
 
 found-2 : (c : tie.After-known-told2)
-    → First (Begin (c .before .before .before .before .before .before .before)) predictedSlot
+    → First (Begin (c .before .before .before .before .before .before .before)) (predictedSlot axes)
     (c .before .predicted .given .0 .0)
 found-2 c = sym (c .before .predicted .given .1) ∙ c .before .before .before .first-zero2 .ensures
 
-nothing-2 : (c : tie.After-enum-told2) → None (Begin (c .before .before .before .before .before .before)) predictedSlot
+nothing-2 : (c : tie.After-enum-told2) → None (Begin (c .before .before .before .before .before .before)) (predictedSlot axes)
 nothing-2 c = sym (c .enum-told2 .given .1) ∙ c .before .before .first-zero2 .ensures
 
 add-t9 : tie.Need-add-t9
@@ -71,7 +72,7 @@ returns c =
     λ report.
     sym (ap readiness
     (unless-found (λ i. getD (now (a .index)) (recordsAt Fluid + i) 0) ZeroDensity
-    (column (a .n) densitySlot (now (a .work))) _ (length-table (a .n) _) (found k)))
+    (column (a .n) (densitySlot axes) (now (a .work))) _ (length-table (a .n) _) (found k)))
 
 returns-2 : tie.Need-returns-2
 unfolding readiness
@@ -82,9 +83,9 @@ returns-2 c =
     λ report.
     sym (ap readiness
     (unless-nothing (λ i. getD (now (a .index)) (recordsAt Fluid + i) 0) ZeroDensity
-    (column (a .n) densitySlot (now (a .work))) _ (length-table (a .n) _) (nothing p)
+    (column (a .n) (densitySlot axes) (now (a .work))) _ (length-table (a .n) _) (nothing p)
     ∙ unless-found (λ i. getD (now (a .index)) (recordsAt Fluid + i) 0) ZeroPredictedDensity
-    (column (a .n) predictedSlot (now (a .work))) _ (length-table (a .n) _) (found-2 k)))
+    (column (a .n) (predictedSlot axes) (now (a .work))) _ (length-table (a .n) _) (found-2 k)))
 
 returns-3 : tie.Need-returns-3
 unfolding readiness
@@ -94,9 +95,9 @@ returns-3 c =
     λ report.
     sym (ap readiness
     (unless-nothing (λ i. getD (now (a .index)) (recordsAt Fluid + i) 0) ZeroDensity
-    (column (a .n) densitySlot (now (a .work))) _ (length-table (a .n) _) (nothing p)
+    (column (a .n) (densitySlot axes) (now (a .work))) _ (length-table (a .n) _) (nothing p)
     ∙ unless-nothing (λ i. getD (now (a .index)) (recordsAt Fluid + i) 0) ZeroPredictedDensity
-    (column (a .n) predictedSlot (now (a .work))) (Done report) (length-table (a .n) _) (nothing-2 c)))
+    (column (a .n) (predictedSlot axes) (now (a .work))) (Done report) (length-table (a .n) _) (nothing-2 c)))
 
 pub zero-refusal-spec : {M : Type 1} → statement M
 zero-refusal-spec =
