@@ -58,12 +58,12 @@ module _ (counts : List ℕ) (n : ℕ) (work : List Float) where
     next-rows h = omega (arith, rw (drop-cons counts m 0 h) at (here .rows))
 
     pub next-averaged : m < length counts → {count : ℕ} {x : Float} → count ≡ getD counts m 0
-        → x ≡ withAverage error count (termsFrom work from count)
+        → x ≡ withAverage error count (termsFrom work n from count)
         → Averaged counts n work (m + 1) (from + count) x
     next-averaged h {count} {x} e q =
         let rows = next-rows h in
         let col = termsIn n work in
-        let part : take count (drop from col) ≡ termsFrom work from count = part-table from count n _ (omega arith) in
+        let part : take count (drop from col) ≡ termsFrom work n from count = part-table from count n _ (omega arith) in
         record {
           within = omega arith;
           rows = rw add-one (omega arith);
