@@ -209,7 +209,7 @@ module _ (b : List ℕ) {n : ℕ} (size : n ≡ fluidSize (sceneOf b)) (l : List
       ∙ length-kept b refl DijPjl (fluidSize (sceneOf b)) (omega arith) _
       ∙ length-kept b refl Quotients (fluidSize (sceneOf b)) (omega arith) l
 
-  -- beyond the rows
+  -- beyond rows and columns
   pub drop-iterated : (k : ℕ) → volumesAt (fluidSize (sceneOf b)) ≤ k → drop k (iterated (sceneOf b) l) ≡ drop k l
   unfolding iterated
   drop-iterated k h =

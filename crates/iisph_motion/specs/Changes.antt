@@ -18,7 +18,7 @@ use Rattle.scene_format.specs.declared.Kind.{Kind}
 use Rattle.scene_format.specs.declared.Kind.the-variants.{Fluid, Boundary}
 use Rattle.iisph_motion.specs.declared.acceleration.PressureState.{PressureState}
 
--- ---- the share p / (rho × rho) of a particle, as it stands in a row
+-- ---- the share p / (rho × rho) of a particle, as it stands in its column
 
 abbrev pub shareRow : Scene → List Float → ℕ → List Float
 shareRow s ps i = pressureShare (coefficients s) ps i ∷ []
@@ -48,7 +48,7 @@ changeBy Boundary s ps t state x c = accelerationOf s state c ⊡ t
 abbrev pub withChange : Kind → Scene → List Float → Float → PressureState → Float → Vector → Contact → Vector
 withChange κ s ps t state x change c = change ⊟ changeBy κ s ps t state x c
 
--- ---- what the pass finds: the iterations' rows with the last pressures, and the share of each
+-- ---- what the pass finds: the iterations' work list with the last pressures, and the share of each
 
 pub record ChangesReady (s : Scene) (n : ℕ) (work : List Float) : Type 0 where
   pub iteration : Iterating s n work

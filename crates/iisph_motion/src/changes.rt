@@ -94,7 +94,7 @@ fn pressure_changes(
     change
 }
 
-// The velocity change of fluid particle i, where the shares stand in the rows.
+// The velocity change of fluid particle i, where the shares stand in their column.
 pub(crate) fn final_change_of(
     scene: &[u8],
     index: &[usize],

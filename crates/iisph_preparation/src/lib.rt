@@ -107,7 +107,7 @@ fn prepare_rows(
     }
 }
 
-// The index of the scene in a lent list, and its rows.
+// The index of the scene in a lent list, and its rows, columns and volumes.
 pub fn prepare(
     scene: &[u8],
     layout: Layout,

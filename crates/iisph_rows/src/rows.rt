@@ -11,7 +11,7 @@ ghost use Rattle.math.specs.Vector.{coordinates};
 ghost use Rattle.scene_format.specs.Format.{axes};
 ghost use Rattle.iisph_rows.specs.Rows.{vectorFrom};
 
-// A row: what a contact reads of the particle that it names.
+// A row: what one contact reads together of the particle that it names.
 pub const ROW: usize = 2 + 2 * AXES;
 
 pub const MASS: usize = 0;
@@ -25,7 +25,8 @@ pub const PRESSURE: usize = DIJ_PJL + AXES;
 
 pub const DII: usize = PRESSURE + 1;
 
-// The columns, of n elements each, behind n rows: column c begins at element c * n.
+// The columns, of n elements each, behind n rows: what is read alone, of the particle itself or of one that a contact
+// names. Column c begins at element c * n.
 pub const DENSITY: usize = ROW;
 
 pub const PREDICTED_DENSITY: usize = DENSITY + 1;
