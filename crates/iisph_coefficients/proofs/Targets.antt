@@ -6,7 +6,7 @@ use mathlib.Core.List.{List}
 use native.Mathlib.Omega.{arith}
 use lib.Ieee.{Float}
 use Rattle.iisph_rows.specs.Passes.{PassOver, CoefficientsReady}
-use Rattle.iisph_rows.specs.Rows.{dijSlot, massSlot, rowAt, elementAt, vectorFrom}
+use Rattle.iisph_rows.specs.Rows.{dijSlot, massSlot, rowAt, volumesAt, elementAt, vectorFrom}
 use Rattle.iisph_rows.proofs.RowReads.{mass-at, volume-at, advected-at}
 use Rattle.iisph_rules.specs.Coefficients.{fluidMass, boundaryMass}
 use Rattle.iisph_rules.proofs.Sizes.{length-advected}
@@ -24,19 +24,19 @@ module _ {κ : Kind} {b index : List ℕ} {at j : ℕ} (ready : ContactReady κ 
     (named : j ≡ targetAt (startsOf κ b) b at)
     {n : ℕ} {work : List Float} (pass : PassOver b index n) (p : CoefficientsReady (sceneOf b) n work) where
   pub fluid-mass : (density0 : Float) → κ ≡ Fluid
-      → elementAt work (rowAt j + massSlot axes) ≡ massOf κ (sceneOf b) density0 (contactAt (startsOf κ b) b at)
+      → elementAt work (rowAt j + massSlot) ≡ massOf κ (sceneOf b) density0 (contactAt (startsOf κ b) b at)
   unfolding massOf fluidMass contactAt
   fluid-mass density0 e =
       let h = fluid-named ready named e in
       mass-at p j (omega (arith, pass .size)) ∙ rw (named, e)
 
   pub boundary-mass : (density0 : Float) → κ ≡ Boundary
-      → elementAt work (rowAt n + j) ⊗ density0 ≡ massOf κ (sceneOf b) density0 (contactAt (startsOf κ b) b at)
+      → elementAt work (volumesAt n + j) ⊗ density0 ≡ massOf κ (sceneOf b) density0 (contactAt (startsOf κ b) b at)
   unfolding massOf boundaryMass contactAt
   boundary-mass density0 e = ap (λ v. v ⊗ density0) (volume-at p j (boundary-named ready named e)) ∙ rw (named, e)
 
   pub fluid-velocity : κ ≡ Fluid
-      → vectorFrom work (rowAt j + dijSlot axes) ≡ velocityOf κ (sceneOf b) (contactAt (startsOf κ b) b at)
+      → vectorFrom work (rowAt j + dijSlot) ≡ velocityOf κ (sceneOf b) (contactAt (startsOf κ b) b at)
   unfolding velocityOf contactAt
   fluid-velocity e =
       let h = fluid-named ready named e in

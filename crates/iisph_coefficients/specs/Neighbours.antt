@@ -1,5 +1,5 @@
 -- What a contact names, as the code reads it: its mass and its velocity, by the kind of particle; the sums over a list
--- of contacts; and a particle's coefficients as the code has them and as a row holds them. Scaffolding: no promise
+-- of contacts; and a particle's coefficients as the code has them and as the work list holds them. Scaffolding: no promise
 -- rests on it. Definitions only.
 use Prim.Native.Nat.{ℕ}
 use mathlib.Core.Path.{_≡_}
@@ -69,8 +69,8 @@ pub record CoefficientsAre (r : CoefficientsOf) (k : Coefficients) : Type 0 wher
   pub aii : r .aii ≡ k .aii
   pub dii : coordinates (r .dii) ≡ k .dii
 
--- density, predicted density, aii, dii, and the first pressure, as they stand in a row
+-- the first pressure, dii, density, predicted density and aii, in the order of their slots
 unfoldable pub coefficientRow : Scene → ℕ → List Float
 coefficientRow s i =
     let k = coefficientsOf s (particle s i) in
-    k .density ∷ k .predictedDensity ∷ k .aii ∷ (k .dii ++ (firstPressure s i ∷ []))
+    firstPressure s i ∷ (k .dii ++ (k .density ∷ k .predictedDensity ∷ k .aii ∷ []))

@@ -2,6 +2,7 @@
 use iisph_rows::rows::ADVECTED;
 use iisph_rows::rows::MASS;
 use iisph_rows::rows::ROW;
+use iisph_rows::rows::VOLUMES;
 use iisph_rows::rows::vector_at;
 use math::Vec3;
 use scene_format::Kind;
@@ -36,7 +37,7 @@ pub fn mass(
     let j = target_of(scene, index, kind, at);
     match kind {
         Kind::Fluid => work[ROW * j + MASS],
-        Kind::Boundary => work[ROW * n + j] * density0,
+        Kind::Boundary => work[VOLUMES * n + j] * density0,
     }
 }
 

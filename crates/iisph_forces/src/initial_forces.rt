@@ -1,6 +1,6 @@
 // The answers of the boundary particles with the forces that the scene has (METHOD 7.4), boundary by boundary, and
 // where the forces of each boundary begin.
-use iisph_rows::rows::ROW;
+use iisph_rows::rows::VOLUMES;
 use iisph_rows::rows::put_vector;
 use scene_format::Kind;
 use scene_format::format::KEPT_FORCE;
@@ -48,7 +48,7 @@ fn put_particle(
         (r ≡ at + widthAt s j) × (now (answers .exit) ≡ sets (now (answers .entry)) at (boundaryInitial s j)))
         ⌝ }
 {
-    answers[at] = work[ROW * n + j];
+    answers[at] = work[VOLUMES * n + j];
     if keeps == 1 {
         let record = record_of(scene, index, Kind::Boundary, j);
         let force = read::vector(scene, record + KEPT_FORCE);

@@ -1,6 +1,7 @@
 // The last part of a step for the boundary particles (METHOD 7.4): the volume of each and, if its boundary keeps
 // forces, its force with what the contacts of the fluid particles add. Its public function is for the crate of the
-// step, which shows what it asks: an accepted scene with its index and layout, and rows that hold the last pressures.
+// step, which shows what it asks: an accepted scene with its index and layout, and a work list that holds the last
+// pressures.
 mod gather;
 mod initial_forces;
 

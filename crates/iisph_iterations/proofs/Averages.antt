@@ -39,7 +39,7 @@ unfolding withAverage average
 with-some zero error terms h e q r = absurd (not-suc-le-zero h)
 with-some (suc n) error terms h e q r = rw (r, e, q)
 
--- after m fluids, whose rows end at `from`; `error` is what they came to
+-- after m fluids, whose particles end at `from`; `error` is what they came to
 pub record Averaged (counts : List ℕ) (n : ℕ) (work : List Float) (m from : ℕ) (error : Float) : Type 0 where
   pub within : m ≤ length counts
   pub rows : from + sum (drop m counts) ≡ n
@@ -52,18 +52,18 @@ module _ (counts : List ℕ) (n : ℕ) (work : List Float) where
   none-averaged e = record { within = omega arith; rows = omega (arith, e); rest = refl }
 
   module _ {m from : ℕ} {error : Float} (here : Averaged counts n work m from error) where
-    -- the rows of the next fluid
+    -- the particles of the next fluid
     pub next-rows : m < length counts → from + getD counts m 0 + sum (drop (suc m) counts) ≡ n
     unfolding sum
     next-rows h = omega (arith, rw (drop-cons counts m 0 h) at (here .rows))
 
     pub next-averaged : m < length counts → {count : ℕ} {x : Float} → count ≡ getD counts m 0
-        → x ≡ withAverage error count (termsFrom work from count)
+        → x ≡ withAverage error count (termsFrom work n from count)
         → Averaged counts n work (m + 1) (from + count) x
     next-averaged h {count} {x} e q =
         let rows = next-rows h in
         let col = termsIn n work in
-        let part : take count (drop from col) ≡ termsFrom work from count = part-table from count n _ (omega arith) in
+        let part : take count (drop from col) ≡ termsFrom work n from count = part-table from count n _ (omega arith) in
         record {
           within = omega arith;
           rows = rw add-one (omega arith);

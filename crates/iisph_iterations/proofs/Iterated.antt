@@ -25,26 +25,27 @@ use Rattle.scene_layout.proofs.Locations.{length-counts, scene-counts, fluid-si
 use Rattle.iisph_rules.specs.Coefficients.{coefficients}
 use Rattle.iisph_rules.specs.Iteration.{pressure, dijPjl, dijPjls, NextPressure, nextPressure, nextPressures, averages}
 use Rattle.iisph_rules.specs.Iteration.{errorOf, iteration}
-use Rattle.iisph_pressures.specs.IterationRows.{pressuresIn, dijsIn, quotientRow, IterationReady, DijReady}
-use Rattle.iisph_rows.specs.Rows.{rowAt, stored, Rows, pressureSlot, quotientSlot}
+use Rattle.iisph_pressures.specs.IterationRows.{pressuresIn, dijsIn, rowQuotient, quotientRow}
+use Rattle.iisph_pressures.specs.IterationRows.{IterationReady, DijReady}
+use Rattle.iisph_rows.specs.Rows.{volumesAt, stored, Rows, pressureSlot, quotientSlot}
 use Rattle.iisph_iterations.specs.Errors.{termsIn}
 use Rattle.iisph_pressures.proofs.IterationReads.{quotient-made, pressures-are, dijs-are}
-use Rattle.iisph_rows.proofs.RowReads.{row-value}
+use Rattle.iisph_rows.proofs.RowReads.{column-value, column-values}
 use Rattle.iisph_iterations.specs.PressureSolve.{iterated, iteratedTimes, Iterates}
-use Rattle.iisph_passes.specs.Traverse.{slotOf, rowOf, nextList}
+use Rattle.iisph_passes.specs.Traverse.{slotOf, rowOf, nextList, rowNext}
 use Rattle.iisph_passes.specs.declared.traverse.Pass.{Pass}
 use Rattle.iisph_passes.specs.declared.traverse.Pass.the-variants.{Quotients, DijPjl, NextPressures, Exchange}
 use Rattle.iisph_passes.proofs.Passes.{pass-rows, pass-drop}
-use Rattle.lists.proofs.RowParts.{rows-one, rows-column, rows-same}
+use Rattle.lists.proofs.RowParts.{rows-one, rows-same}
 use Rattle.iisph_passes.proofs.Traversal.{pass-kept, length-kept, pressures-kept, iteration-kept, iteration-same}
 
--- the list after a pass over n rows
+-- the list after a pass over n particles
 abbrev After : List ℕ → ℕ → Pass → List Float → List Float
 After b n p l = stored n (slotOf p) (rowOf (sceneOf b) l p) l
 
 module _ (b : List ℕ) {n : ℕ} (size : n ≡ fluidSize (sceneOf b)) (l : List Float)
     (ready : IterationReady (sceneOf b) (pressuresIn n l) n l) where
-  rows-fit : rowAt n ≤ length l
+  rows-fit : volumesAt n ≤ length l
   rows-fit = omega (arith, ready .room)
 
   -- what the rules make of the pressures that stand there
@@ -79,13 +80,15 @@ module _ (b : List ℕ) {n : ℕ} (size : n ≡ fluidSize (sceneOf b)) (l : List
     unfolding slotOf
     quotients-iteration =
         rw e (iteration-same b size n (omega arith) l Quotients (pressuresIn n l) (omega arith)
-        (inl (omega arith)) ready)
+        (inr (omega arith)) ready)
 
     quotients-rows : Rows n (quotientSlot axes) (quotientRow (sceneOf b) (pressuresIn n x)) x
     unfolding slotOf rowOf
     quotients-rows =
         rw quotients-pressures
-        (rows-same (λ i h. ap (λ (q : Float). q ∷ []) (quotient-made ready size i h))
+        (rows-same
+        (λ i h. ap (λ (q : Float). q ∷ [])
+        (ap (λ (m : ℕ). rowQuotient l m i) (sym size) ∙ quotient-made ready size i h))
         (rw e (pass-rows b size Quotients l rows-fit)))
 
     pub quotients-there : DijReady (sceneOf b) n x
@@ -96,13 +99,13 @@ module _ (b : List ℕ) {n : ℕ} (size : n ≡ fluidSize (sceneOf b)) (l : List
     module _ {y : List Float} (f : y ≡ After b n DijPjl x) where
       dij-pressures : pressuresIn n y ≡ pressuresIn n l
       unfolding slotOf
-      dij-pressures = rw f (pressures-kept b size DijPjl n (omega arith) x (inl (omega arith)) ∙ quotients-pressures)
+      dij-pressures = rw f (pressures-kept b size DijPjl n (omega arith) x (inr (omega arith)) ∙ quotients-pressures)
 
       dij-iteration : IterationReady (sceneOf b) (pressuresIn n l) n y
       unfolding slotOf
       dij-iteration =
           rw f (iteration-same b size n (omega arith) x DijPjl (pressuresIn n l) (omega arith)
-          (inr (omega arith)) quotients-iteration)
+          (inl (omega arith)) quotients-iteration)
 
       pub dij-there : IterationReady (sceneOf b) (pressuresIn n y) n y
       dij-there = rw dij-pressures dij-iteration
@@ -123,9 +126,9 @@ module _ (b : List ℕ) {n : ℕ} (size : n ≡ fluidSize (sceneOf b)) (l : List
         unfolding slotOf
         next-iteration =
             rw g (iteration-same b size n (omega arith) y NextPressures (pressuresIn n l) (omega arith)
-            (inl (omega arith)) dij-iteration)
+            (inr (omega arith)) dij-iteration)
 
-        pub next-room : rowAt n + boundarySize (sceneOf b) ≤ length z
+        pub next-room : volumesAt n + boundarySize (sceneOf b) ≤ length z
         next-room = next-iteration .room
 
         next-rows : Rows n (quotientSlot axes) (λ i. nextList (next i)) z
@@ -154,8 +157,9 @@ module _ (b : List ℕ) {n : ℕ} (size : n ≡ fluidSize (sceneOf b)) (l : List
           exchanged =
               rows-same
               (λ i h. ap (λ (p : Float). p ∷ [])
-              (row-value (λ i. next i .pressure)
-              (rows-one next-rows 1 (λ i. next i .pressure) (λ i m. (omega arith, refl))) i h
+              (ap (λ (m : ℕ). rowNext z m i) (sym size)
+              ∙ column-value (λ i. next i .pressure)
+              (rows-one next-rows 1 (λ i. next i .pressure) (λ i m. (omega arith, refl))) (omega arith) i h
               ∙ sym (pressure-next i h)))
               (rw k (pass-rows b size Exchange z (omega (arith, next-iteration .room))))
 
@@ -163,7 +167,7 @@ module _ (b : List ℕ) {n : ℕ} (size : n ≡ fluidSize (sceneOf b)) (l : List
           unfolding slotOf
           iterated-iteration =
               rw k (iteration-kept b size n (omega arith) z Exchange (pressuresIn n l) pressures (omega arith)
-              (inr (omega arith)) (rw k at exchanged) next-iteration)
+              (inl (omega arith)) (rw k at exchanged) next-iteration)
 
           pub iterated-pressures : pressuresIn n w ≡ pressures
           iterated-pressures = pressures-are iterated-iteration length-pressures
@@ -175,7 +179,8 @@ module _ (b : List ℕ) {n : ℕ} (size : n ≡ fluidSize (sceneOf b)) (l : List
               ≡ map (λ k. k .term) (nextPressures (sceneOf b) (coefficients (sceneOf b)) (pressuresIn n l))
           unfolding nextPressures
           iterated-terms =
-              rows-column 0 (λ i. next i .term) after-rows (λ i m. (omega arith, refl))
+              column-values (λ i. next i .term)
+              (rows-one after-rows 0 (λ i. next i .term) (λ i m. (omega arith, refl))) (omega arith)
               ∙ ap (λ (j : ℕ). table j (λ i. next i .term)) size
               ∙ sym (map-table (λ k. k .term) (fluidSize (sceneOf b)) next)
 
@@ -204,14 +209,14 @@ module _ (b : List ℕ) {n : ℕ} (size : n ≡ fluidSize (sceneOf b)) (l : List
       ∙ length-kept b refl DijPjl (fluidSize (sceneOf b)) (omega arith) _
       ∙ length-kept b refl Quotients (fluidSize (sceneOf b)) (omega arith) l
 
-  -- beyond the rows
-  pub drop-iterated : (k : ℕ) → rowAt (fluidSize (sceneOf b)) ≤ k → drop k (iterated (sceneOf b) l) ≡ drop k l
+  -- beyond rows and columns
+  pub drop-iterated : (k : ℕ) → volumesAt (fluidSize (sceneOf b)) ≤ k → drop k (iterated (sceneOf b) l) ≡ drop k l
   unfolding iterated
   drop-iterated k h =
       pass-drop b refl Exchange _ k h ∙ pass-drop b refl NextPressures _ k h ∙ pass-drop b refl DijPjl _ k h
       ∙ pass-drop b refl Quotients l k h
 
-pub drop-times : (b : List ℕ) (i : ℕ) (l : List Float) (k : ℕ) → rowAt (fluidSize (sceneOf b)) ≤ k
+pub drop-times : (b : List ℕ) (i : ℕ) (l : List Float) (k : ℕ) → volumesAt (fluidSize (sceneOf b)) ≤ k
     → drop k (iteratedTimes i (sceneOf b) l) ≡ drop k l
 unfolding iteratedTimes
 drop-times b zero l k h = refl

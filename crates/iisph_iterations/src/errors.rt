@@ -1,50 +1,49 @@
-// The error of an iteration, from the error terms in the rows: the greatest of the fluids' averages, or +0 (METHOD
-// 6.4).
+// The error of an iteration, from the column of error terms: the greatest of the fluids' averages, or +0 (METHOD 6.4).
 use iisph_rows::rows::ERROR_TERM;
-use iisph_rows::rows::ROW;
 use math::larger;
 use scene_format::format::NAMEABLE_MODELS;
 use std::num::nearest_u64_to_f64;
 ghost use mathlib.Core.Path.{_≡_};
 ghost use Prim.Native.Nat.{_+_, _≤_};
 ghost use lib.ListN.{length, take};
-ghost use Rattle.iisph_rows.specs.Rows.{rowAt};
+ghost use Rattle.iisph_rows.specs.Rows.{volumesAt};
 ghost use Rattle.iisph_rules.specs.Iteration.{averages, errorOf};
 ghost use Rattle.lists.specs.Lists.{sum};
 ghost use Rattle.math.specs.Real.{total, +0};
 ghost use Rattle.scene_format.specs.Format.{nameableModels};
 ghost use Rattle.iisph_iterations.specs.Errors.{termsFrom, termsIn, withAverage};
 
-// The sum of the error terms of `count` rows from row `from` on.
-fn term_sum(work: &[f64], from: usize, count: usize) -> f64
-    requires { ⌜ rowAt (from + count) ≤ length (now work) ⌝ }
-    ensures { λ r. ⌜ r ≡ total +0 (termsFrom (now (work .entry)) from count) ⌝ }
+// The sum of the error terms of `count` of n particles, from particle `from` on.
+fn term_sum(work: &[f64], n: usize, from: usize, count: usize) -> f64
+    requires { ⌜ (from + count ≤ n) × (volumesAt n ≤ length (now work)) ⌝ }
+    ensures { λ r. ⌜ r ≡ total +0 (termsFrom (now (work .entry)) n from count) ⌝ }
 {
     let mut sum = 0.0;
     let mut k = 0usize;
     while k < count {
-        sum += work[ROW * (from + k) + ERROR_TERM];
+        sum += work[ERROR_TERM * n + (from + k)];
         k += 1;
     }
     sum
 }
 
-// The error so far, or the average of a fluid whose rows begin at `from`, if that is greater. An empty fluid has none.
-fn with_average(work: &[f64], from: usize, count: usize, error: f64) -> f64
-    requires { ⌜ rowAt (from + count) ≤ length (now work) ⌝ }
-    ensures { λ r. ⌜ r ≡ withAverage error count (termsFrom (now (work .entry)) from count) ⌝ }
+// The error so far, or the average of a fluid whose first particle is `from`, if that is greater. An empty fluid has
+// none.
+fn with_average(work: &[f64], n: usize, from: usize, count: usize, error: f64) -> f64
+    requires { ⌜ (from + count ≤ n) × (volumesAt n ≤ length (now work)) ⌝ }
+    ensures { λ r. ⌜ r ≡ withAverage error count (termsFrom (now (work .entry)) n from count) ⌝ }
 {
     if count == 0 {
         return error;
     }
-    let sum = term_sum(work, from, count);
+    let sum = term_sum(work, n, from, count);
     larger(error, sum / nearest_u64_to_f64(count as u64))
 }
 
-// The error over the first `number` of the fluids, which have these counts and n rows in all.
+// The error over the first `number` of the fluids, which have these counts and n particles in all.
 pub fn max_error(counts: [usize; NAMEABLE_MODELS], number: usize, work: &[f64], n: usize) -> f64
     requires { ⌜
-        (number ≤ nameableModels) × (sum (take number counts) ≡ n) × (rowAt n ≤ length (now work))
+        (number ≤ nameableModels) × (sum (take number counts) ≡ n) × (volumesAt n ≤ length (now work))
         ⌝ }
     ensures { λ r. ⌜ r ≡ errorOf (averages (take number counts) (termsIn n (now (work .entry)))) ⌝ }
 {
@@ -53,7 +52,7 @@ pub fn max_error(counts: [usize; NAMEABLE_MODELS], number: usize, work: &[f64], 
     let mut m = 0usize;
     while m < number {
         let count = counts[m];
-        error = with_average(work, from, count, error);
+        error = with_average(work, n, from, count, error);
         from += count;
         m += 1;
     }

@@ -14,8 +14,8 @@ use Rattle.iisph_pressures.proofs.IterationReads.{pressure-in}
 use Rattle.iisph_rows.specs.Rows.{pressureSlot, rowAt, elementAt}
 use Rattle.iisph_rules.specs.Coefficients.{dt, coefficients}
 use Rattle.iisph_rules.specs.Step.{finalVelocityChange, newVelocity, newPosition, fluidAnswer}
-use Rattle.lists.specs.Stores.{stored}
-use Rattle.lists.proofs.Stores.{stored-next}
+use Rattle.lists.specs.Stores.{inRows, stored}
+use Rattle.lists.proofs.Stores.{stored-next, slots-in-row}
 use Rattle.math.specs.Vector.{Vector, coordinates, _⊞_, _⊡_}
 use Rattle.math.specs.declared.Vec3.{Vec3}
 use Rattle.scene_check.specs.Accepted.{FluidParticleOk}
@@ -82,5 +82,7 @@ pub answers-next : (f : ℕ → List Float) (l : List Float) (i : ℕ) {x y : Li
     → x ≡ stored (fluidAnswerWidth axes) i 0 f l → y ≡ sets x (fluidAnswerWidth axes * i) (f i)
     → y ≡ stored (fluidAnswerWidth axes) (i + 1) 0 f l
 answers-next f l i {x} e q =
-    stored-next nan (fluidAnswerWidth axes) 0 f l i e
-    (q ∙ ap (λ (k : ℕ). sets x k (f i)) (sym (add-zero (fluidAnswerWidth axes * i))))
+    stored-next nan (inRows (fluidAnswerWidth axes)) 0 f l i e
+    (q
+    ∙ ap (λ (k : ℕ). sets x k (f i)) (sym (add-zero (fluidAnswerWidth axes * i)))
+    ∙ sym (slots-in-row (fluidAnswerWidth axes) i (f i) x 0))

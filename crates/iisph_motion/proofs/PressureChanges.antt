@@ -10,7 +10,7 @@ use Rattle.iisph_pressures.specs.IterationRows.{pressuresIn}
 use Rattle.iisph_pressures.proofs.IterationReads.{mass-in}
 use Rattle.iisph_rows.specs.Passes.{PassOver}
 use Rattle.iisph_rows.specs.Rows.{massSlot, quotientSlot, rowAt, elementAt}
-use Rattle.iisph_rows.proofs.RowReads.{row-value}
+use Rattle.iisph_rows.proofs.RowReads.{column-value}
 use Rattle.iisph_rules.specs.Coefficients.{dt, overContacts, fluidMass, velocityChange, coefficients}
 use Rattle.iisph_rules.specs.Step.{pressureShare, boundaryAcceleration, finalVelocityChange}
 use Rattle.lists.proofs.Lists.{fold-same}
@@ -42,15 +42,15 @@ pub fluid-change : (b : List ℕ) {at : ℕ} → ContactReady Fluid b at → {in
     → {work : List Float} → ChangesReady (sceneOf b) n work
     → (own t : Float) {j : ℕ} → j ≡ targetAt (startsOf Fluid b) b at
     → {g x : Vector} → g ≡ vectorAt axes b (at + gradientOffset)
-    → let m = elementAt work (rowAt j + massSlot axes) in
-    x ≡ g ⊡ (t ⊗ m ⊗ (own ⊕ elementAt work (rowAt j + quotientSlot axes)))
+    → let m = elementAt work (rowAt j + massSlot) in
+    x ≡ g ⊡ (t ⊗ m ⊗ (own ⊕ elementAt work (quotientSlot axes * n + j)))
     → x ≡ fluidChange (sceneOf b) (pressuresIn n work) t own (contactAt (startsOf Fluid b) b at)
 unfolding fluidChange fluidMass contactAt
 fluid-change b ready {n = n} pass q own t {j} named ge xe =
     let h : j < n = omega (arith, pass .size, fluid-named ready named refl) in
     xe
     ∙ change-same t own ge (mass-in (q .iteration) (pass .size) j h)
-    (row-value (pressureShare (coefficients (sceneOf b)) (pressuresIn n _)) (q .share) j h)
+    (column-value (pressureShare (coefficients (sceneOf b)) (pressuresIn n _)) (q .share) (omega arith) j h)
     ∙ rw named
 
 -- of a boundary contact c

@@ -16,7 +16,7 @@ use Rattle.scene_format.specs.Format.{axes}
 use Rattle.scene_format.specs.Scene.{Scene, Contact, particle}
 use Rattle.iisph_motion.specs.declared.acceleration.PressureState.{PressureState}
 
--- ---- the share p / (rho × rho) of a particle, as it stands in a row
+-- ---- the share p / (rho × rho) of a particle, as it stands in its column
 
 abbrev pub shareRow : Scene → List Float → ℕ → List Float
 shareRow s ps i = pressureShare (coefficients s) ps i ∷ []
@@ -49,7 +49,7 @@ boundaryChange s t state c = accelerationOf s state c ⊡ t
 abbrev pub lessBy : (Contact → Vector) → Vector → Contact → Vector
 lessBy taken change c = change ⊟ taken c
 
--- ---- what the pass finds: the iterations' rows with the last pressures, and the share of each
+-- ---- what the pass finds: the iterations' work list with the last pressures, and the share of each
 
 pub record ChangesReady (s : Scene) (n : ℕ) (work : List Float) : Type 0 where
   pub iteration : Iterating s n work

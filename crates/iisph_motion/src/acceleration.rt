@@ -1,8 +1,10 @@
 // What the terms of a fluid particle's contacts take of the particle itself, and a of METHOD 7.2 for a boundary
 // contact.
+use iisph_rows::rows::DENSITY;
 use iisph_rows::rows::MASS;
 use iisph_rows::rows::PRESSURE;
 use iisph_rows::rows::ROW;
+use iisph_rows::rows::VOLUMES;
 use math::Vec3;
 use scene_format::Kind;
 use scene_format::format::CONTACT_GRADIENT;
@@ -43,7 +45,7 @@ pub fn pressure_state_of(
     let head = head_of(scene, index, i);
     let density0 = read::double(scene, head + DENSITY0);
     let row = ROW * i;
-    let rho = work[row];
+    let rho = work[DENSITY * n + i];
     let pressure = work[row + PRESSURE];
     let mass = work[row + MASS];
     let square = rho * rho;
@@ -73,6 +75,6 @@ pub fn boundary_acceleration(
         ⌝ }
 {
     let j = target_of(scene, index, Kind::Boundary, at);
-    let m = work[ROW * n + j] * state.density0;
+    let m = work[VOLUMES * n + j] * state.density0;
     read::vector(scene, at + CONTACT_GRADIENT).scale(m * state.pressure / state.square)
 }

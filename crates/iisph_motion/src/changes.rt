@@ -93,7 +93,7 @@ fn boundary_changes(
     change
 }
 
-// The velocity change of fluid particle i, where the shares stand in the rows.
+// The velocity change of fluid particle i, where the shares stand in their column.
 pub(crate) fn final_change_of(
     scene: &[u8],
     index: &[usize],
@@ -113,7 +113,7 @@ pub(crate) fn final_change_of(
     let fluid = contacts_of(scene, index, Kind::Fluid, i);
     let boundary = contacts_of(scene, index, Kind::Boundary, i);
     let state = pressure_state_of(scene, index, work, n, i);
-    let share = work[ROW * i + SHARE];
+    let share = work[SHARE * n + i];
     let first = velocity_change_of(scene, index, n, dt, gravity, i);
     let part = fluid_changes(scene, index, work, n, fluid, share, dt, first);
     boundary_changes(scene, index, work, n, boundary, state, dt, part)

@@ -1,5 +1,4 @@
--- What a pass leaves in the work list: its rows, beside other slots and what stands behind the rows, and all else as it
--- was; and what the pass at hand finds there. From the laws of stores, for every pass at once. Assumes nothing.
+-- What a pass leaves in the work list: its slots, beside other slots and the volumes, and all else as it was; and what the pass at hand finds there. From the laws of stores, for every pass at once. Assumes nothing.
 use Prim.Native.Nat.{ℕ, _+_, _<_, _≤_}
 use mathlib.Core.Path.{_≡_, subst}
 use mathlib.Core.List.{List}
@@ -12,12 +11,13 @@ use Rattle.scene_format.specs.Format.{axes}
 use Rattle.scene_format.specs.Scene.{Scene, fluidSize}
 use Rattle.scene_format.specs.SceneOf.{sceneOf}
 use Rattle.scene_lengths.specs.Lengths.{workWidth}
-use Rattle.iisph_rows.specs.Rows.{rowAt, stored, Rows, Behind}
+use Rattle.iisph_rows.specs.Rows.{volumesAt, slotAt, stored, Rows, Behind}
 use Rattle.iisph_rows.specs.Passes.{CoefficientsReady}
 use Rattle.iisph_pressures.specs.IterationRows.{Iterating, DijReady}
 use Rattle.iisph_passes.specs.Traverse.{slotOf, rowOf, Ready}
 use Rattle.iisph_passes.specs.declared.traverse.Pass.{Pass}
 use Rattle.iisph_passes.specs.declared.traverse.Pass.the-variants.{Coefficients, DijPjl, NextPressures}
+use Rattle.iisph_rows.proofs.RowStores.{slots-apart}
 use Rattle.lists.proofs.Stores.{stored-beyond, stored-rows}
 use Rattle.iisph_passes.proofs.Traversal.{rowLength, row-fits, row-length, pass-kept, volumes-kept, length-kept}
 
@@ -29,10 +29,11 @@ drop-same k x y l h =
     (λ j m. rw (getD-drop k x, getD-drop k y) (h (k + j) (omega arith)))
 
 module _ (b : List ℕ) {n : ℕ} (size : n ≡ fluidSize (sceneOf b)) (pass : Pass) (l : List Float) where
-  pub pass-rows : rowAt n ≤ length l
+  pub pass-rows : volumesAt n ≤ length l
       → Rows n (slotOf pass) (rowOf (sceneOf b) l pass) (stored n (slotOf pass) (rowOf (sceneOf b) l pass) l)
-  pass-rows room = stored-rows nan (workWidth axes) (slotOf pass) (rowOf (sceneOf b) l pass) l n (rowLength pass)
-      (row-length b size l pass) (row-fits pass) room
+  pass-rows room =
+      stored-rows nan (slotAt n) (slotOf pass) (rowOf (sceneOf b) l pass) l n (workWidth axes) (slots-apart n)
+      (rowLength pass) (row-length b size l pass) (row-fits pass) room
 
   pub pass-keeps : (k c : ℕ) {g : ℕ → List Float} → ((i : ℕ) → i < n → length (g i) ≡ c) → k + c ≤ workWidth axes
       → (k + c ≤ slotOf pass) ⊎ (slotOf pass + rowLength pass ≤ k) → Rows n k g l
@@ -43,17 +44,17 @@ module _ (b : List ℕ) {n : ℕ} (size : n ≡ fluidSize (sceneOf b)) (pass : P
       → Behind n xs (stored n (slotOf pass) (rowOf (sceneOf b) l pass) l)
   pass-part q = volumes-kept b size pass n (omega arith) l q
 
-  pub room-kept : (m : ℕ) {x : List Float} → rowAt n + m ≤ length l
-      → x ≡ stored n (slotOf pass) (rowOf (sceneOf b) l pass) l → rowAt n + m ≤ length x
+  pub room-kept : (m : ℕ) {x : List Float} → volumesAt n + m ≤ length l
+      → x ≡ stored n (slotOf pass) (rowOf (sceneOf b) l pass) l → volumesAt n + m ≤ length x
   room-kept m h e = rw (e, length-kept b size pass n (omega arith) l) h
 
-  pub pass-beyond : (j : ℕ) → rowAt n ≤ j → getD (stored n (slotOf pass) (rowOf (sceneOf b) l pass) l) j nan
+  pub pass-beyond : (j : ℕ) → volumesAt n ≤ j → getD (stored n (slotOf pass) (rowOf (sceneOf b) l pass) l) j nan
       ≡ getD l j nan
   pass-beyond j h =
-      stored-beyond nan (workWidth axes) (slotOf pass) (rowOf (sceneOf b) l pass) l n (rowLength pass)
-      (row-length b size l pass) (row-fits pass) n (omega arith) j h
+      stored-beyond nan (slotAt n) (slotOf pass) (rowOf (sceneOf b) l pass) l n (workWidth axes) (slots-apart n)
+      (rowLength pass) (row-length b size l pass) (row-fits pass) n (omega arith) j h
 
-  pub pass-drop : (k : ℕ) → rowAt n ≤ k → drop k (stored n (slotOf pass) (rowOf (sceneOf b) l pass) l) ≡ drop k l
+  pub pass-drop : (k : ℕ) → volumesAt n ≤ k → drop k (stored n (slotOf pass) (rowOf (sceneOf b) l pass) l) ≡ drop k l
   pass-drop k h = drop-same k _ l (length-kept b size pass n (omega arith) l) (λ j m. pass-beyond j (omega arith))
 
 -- ---- of the pass at hand

@@ -1,5 +1,5 @@
-// The passes over all fluid particles, in the order of their numbers: each stores some slots of every row of the work
-// list. What a pass reads of the list it does not store, so the order of the rows is free.
+// The passes over all fluid particles, in the order of their numbers: each stores some slots of every particle in the
+// work list. What a pass reads of the list it does not store, so the order of the particles is free.
 use iisph_coefficients::coefficients::CoefficientsOf;
 use iisph_coefficients::coefficients::coefficients_of;
 use iisph_pressures::iteration::dij_pjl_of;
@@ -11,6 +11,7 @@ use iisph_rows::records::first_pressure;
 use iisph_rows::records::mass_of;
 use iisph_rows::rows::ADVECTED;
 use iisph_rows::rows::AII;
+use iisph_rows::rows::DENSITY;
 use iisph_rows::rows::DII;
 use iisph_rows::rows::DIJ_PJL;
 use iisph_rows::rows::ERROR_TERM;
@@ -24,16 +25,15 @@ use iisph_rows::rows::SHARE;
 use iisph_rows::rows::put_vector;
 use math::Vec3;
 ghost use mathlib.Core.Path.{_≡_};
-ghost use Prim.Native.Nat.{_+_, _<_, _≤_};
+ghost use Prim.Native.Nat.{_<_, _≤_};
 ghost use lib.ListN.{length};
-ghost use lib.Seq.{sets};
 ghost use Rattle.iisph_rows.specs.Passes.{DrivenPass, Room};
-ghost use Rattle.iisph_rows.specs.Rows.{dijSlot, rowAt, stored};
+ghost use Rattle.iisph_rows.specs.Rows.{pressureSlot, volumesAt, setSlots, stored};
 ghost use Rattle.scene_format.specs.Format.{axes};
 ghost use Rattle.scene_format.specs.SceneOf.{sceneOf};
 ghost use Rattle.iisph_passes.specs.Traverse.{slotOf, rowOf, Ready, coefficientList};
 
-// What is stored in every row.
+// What is stored of every particle.
 pub enum Pass {
     // Fluid::particle_mass.
     Masses,
@@ -53,20 +53,22 @@ pub enum Pass {
     Shares,
 }
 
-// Density, predicted density, aii, dii and a pressure, from element k on.
-fn put_coefficients(work: &mut [f64], k: usize, c: CoefficientsOf, pressure: f64)
-    requires { ⌜ k + dijSlot axes ≤ length (now work) ⌝ }
-    ensures { λ _. ⌜ now (work .exit) ≡ sets (now (work .entry)) k (coefficientList c pressure) ⌝ }
+// A pressure and the coefficients of fluid particle i of n: the pressure and dii in its row, the others in columns.
+fn put_coefficients(work: &mut [f64], n: usize, i: usize, c: CoefficientsOf, pressure: f64)
+    requires { ⌜ (i < n) × (volumesAt n ≤ length (now work)) ⌝ }
+    ensures { λ _. ⌜
+        now (work .exit) ≡ setSlots n i (pressureSlot axes) (coefficientList c pressure) (now (work .entry))
+        ⌝ }
 {
     let dii = c.dii;
-    work[k] = c.density;
-    work[k + PREDICTED_DENSITY] = c.predicted_density;
-    work[k + AII] = c.aii;
-    put_vector(work, k + DII, dii);
-    work[k + PRESSURE] = pressure;
+    work[ROW * i + PRESSURE] = pressure;
+    put_vector(work, ROW * i + DII, dii);
+    work[DENSITY * n + i] = c.density;
+    work[PREDICTED_DENSITY * n + i] = c.predicted_density;
+    work[AII * n + i] = c.aii;
 }
 
-// The row of fluid particle i.
+// The slots of fluid particle i.
 fn update_row(
     pass: Pass,
     scene: &[u8],
@@ -81,7 +83,7 @@ fn update_row(
     requires { ⌜ Room (sceneOf (now scene)) n (now work) × Ready (sceneOf (now scene)) n (now work) pass ⌝ }
     ensures { λ _. ⌜
         (let l = now (work .entry) in
-        now (work .exit) ≡ sets l (rowAt i + slotOf pass) (rowOf (sceneOf (now (scene .entry))) l pass i))
+        now (work .exit) ≡ setSlots n i (slotOf pass) (rowOf (sceneOf (now (scene .entry))) l pass i) l)
         ⌝ }
 {
     match pass {
@@ -96,11 +98,11 @@ fn update_row(
         Pass::Coefficients => {
             let c = coefficients_of(scene, index, work, n, dt, i);
             let pressure = first_pressure(scene, index, n, i);
-            put_coefficients(work, ROW * i, c, pressure);
+            put_coefficients(work, n, i, c, pressure);
         }
         Pass::Quotients => {
-            let q = quotient_of(work, i);
-            work[ROW * i + QUOTIENT] = q;
+            let q = quotient_of(work, n, i);
+            work[QUOTIENT * n + i] = q;
         }
         Pass::DijPjl => {
             let d = dij_pjl_of(scene, index, work, n, dt, i);
@@ -108,21 +110,21 @@ fn update_row(
         }
         Pass::NextPressures => {
             let next = next_pressure_of(scene, index, work, n, dt, i);
-            work[ROW * i + ERROR_TERM] = next.term;
-            work[ROW * i + NEXT_PRESSURE] = next.pressure;
+            work[ERROR_TERM * n + i] = next.term;
+            work[NEXT_PRESSURE * n + i] = next.pressure;
         }
         Pass::Exchange => {
-            let next = work[ROW * i + NEXT_PRESSURE];
+            let next = work[NEXT_PRESSURE * n + i];
             work[ROW * i + PRESSURE] = next;
         }
         Pass::Shares => {
-            let share = share_of(work, i);
-            work[ROW * i + SHARE] = share;
+            let share = share_of(work, n, i);
+            work[SHARE * n + i] = share;
         }
     }
 }
 
-// The rows of all fluid particles, one after the other.
+// The slots of all fluid particles, one particle after the other.
 pub fn traverse(
     pass: Pass,
     scene: &[u8],

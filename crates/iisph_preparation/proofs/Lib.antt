@@ -1,4 +1,4 @@
 pub mod RowsFilled
-pub mod ZeroRefusals
 pub mod IterationStart
+pub mod ZeroRefusals
 pub mod Prepared

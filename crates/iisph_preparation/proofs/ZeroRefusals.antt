@@ -1,19 +1,18 @@
 -- What is answered before the iterations is the step's: the work list's columns are the rules' coefficients, so
--- refusals 9 and 10 over them are the rules', and where they refuse the cleared list is that of the step. From the rows
--- of the list, one law for both columns. Assumes nothing.
+-- refusals 9 and 10 over them are the rules', and where they refuse the cleared list is that of the step. One
+-- law for both columns. Assumes nothing.
 use Prim.Native.Nat.{ℕ, _+_, _<_, _≤_}
 use mathlib.Core.Path.{_≡_, refl, sym, ap, _∙_}
 use mathlib.Core.Bool.{Bool, true, false}
-use mathlib.Core.List.{List, _++_, map}
-use native.Mathlib.Nat.{zero-add}
+use mathlib.Core.List.{List, [], _∷_, _++_, map}
 use native.Mathlib.Omega.{arith}
-use lib.Ieee.{Float, nan}
+use lib.Ieee.{Float}
 use lib.ListN.{length, getD, drop, replicate}
 use lib.Seq.{sets, length-sets}
 use Rattle.math.specs.Real.{+0}
 use Rattle.lists.specs.Lists.{choose}
 use Rattle.lists.proofs.Lists.{length-table, map-table}
-use Rattle.scene_format.specs.Format.{locationOf}
+use Rattle.scene_format.specs.Format.{axes, locationOf}
 use Rattle.scene_format.specs.Scene.{Scene, fluidSize, boundarySize, particle}
 use Rattle.scene_format.specs.SceneOf.{sceneOf}
 use Rattle.scene_lengths.specs.Lengths.{workNeeded}
@@ -21,37 +20,37 @@ use Rattle.scene_format.specs.declared.Kind.the-variants.{Fluid}
 use Rattle.scene_format.specs.declared.Refusal.{Refusal}
 use Rattle.iisph_rules.specs.Coefficients.{Coefficients, coefficientsOf, coefficients}
 use Rattle.iisph_rows.specs.Passes.{volumes}
-use Rattle.iisph_coefficients.specs.Neighbours.{coefficientRow}
 use Rattle.iisph_preparation.specs.Prepare.{rowsFilled, prepared, workPrepared, readiness, zeroAnswer}
 use Rattle.iisph_rules.specs.Step.{reportOf, unlessZero, sceneAnswer}
-use Rattle.iisph_rows.specs.Rows.{densitySlot, predictedSlot, rowAt, column, Behind}
+use Rattle.iisph_rows.specs.Rows.{densitySlot, predictedSlot, rowWidth, volumesAt, column, Rows, Behind}
 use Rattle.iisph_rules.specs.declared.Report.{Report}
 use Rattle.iisph_rules.specs.declared.StepAnswer.{StepAnswer}
 use Rattle.iisph_rules.specs.declared.StepAnswer.the-variants as answer
 use Rattle.iisph_preparation.specs.declared.Readiness.{Readiness}
 use Rattle.iisph_preparation.specs.declared.Readiness.the-variants.{Ready, Refused}
 use Rattle.scene_lengths.proofs.Needed.{work-needed}
-use Rattle.lists.proofs.RowParts.{rows-column}
-use Rattle.iisph_preparation.proofs.RowsFilled.{part-stored, drop-prepared, coefficient-rows}
+use Rattle.iisph_rows.proofs.RowReads.{column-values}
+use Rattle.iisph_preparation.proofs.RowsFilled.{part-stored, drop-prepared}
+use Rattle.iisph_preparation.proofs.IterationStart.{iteration-ready}
 
 -- ---- the list, call by call
 
 module _ (b : List ℕ) {n : ℕ} (size : n ≡ fluidSize (sceneOf b)) (l : List Float) where
   -- the volumes, then the rows
-  pub prepared-made : {x z : List Float} → x ≡ sets l (rowAt n) (volumes (sceneOf b)) → z ≡ rowsFilled (sceneOf b) x
+  pub prepared-made : {x z : List Float} → x ≡ sets l (volumesAt n) (volumes (sceneOf b)) → z ≡ rowsFilled (sceneOf b) x
       → z ≡ prepared (sceneOf b) l
   unfolding prepared
   prepared-made e q = rw (q, e, size)
 
   -- the volumes are there
-  pub volumes-there : {x : List Float} → rowAt n + boundarySize (sceneOf b) ≤ length l
-      → x ≡ sets l (rowAt n) (volumes (sceneOf b))
-      → (rowAt n + boundarySize (sceneOf b) ≤ length x) × Behind n (volumes (sceneOf b)) x
+  pub volumes-there : {x : List Float} → volumesAt n + boundarySize (sceneOf b) ≤ length l
+      → x ≡ sets l (volumesAt n) (volumes (sceneOf b))
+      → (volumesAt n + boundarySize (sceneOf b) ≤ length x) × Behind n (volumes (sceneOf b)) x
   volumes-there room e =
       let v : length (volumes (sceneOf b)) ≡ boundarySize (sceneOf b) = length-table (boundarySize (sceneOf b)) _ in
       rw e (
-        omega (arith, length-sets l (rowAt n) (volumes (sceneOf b))),
-        part-stored (rowAt n) (volumes (sceneOf b)) l
+        omega (arith, length-sets l (volumesAt n) (volumes (sceneOf b))),
+        part-stored (volumesAt n) (volumes (sceneOf b)) l
             (omega arith),
       )
 
@@ -65,35 +64,33 @@ module _ (b : List ℕ) {n : ℕ} (size : n ≡ fluidSize (sceneOf b)) (l : List
 -- ---- columns
 
 module _ (b : List ℕ) (l : List Float)
-    (room : rowAt (fluidSize (sceneOf b)) + boundarySize (sceneOf b) ≤ length l) where
-  coefficient-column : (e : ℕ) (x : Coefficients → Float)
-      → ((i : ℕ) → (e < length (coefficientRow (sceneOf b) i))
-      × (getD (coefficientRow (sceneOf b) i) e nan ≡ x (coefficientsOf (sceneOf b) (particle (sceneOf b) i))))
+    (room : volumesAt (fluidSize (sceneOf b)) + boundarySize (sceneOf b) ≤ length l) where
+  coefficient-column : (e : ℕ) (x : Coefficients → Float) → rowWidth axes ≤ e
+      → Rows (fluidSize (sceneOf b)) e (λ i. x (coefficientsOf (sceneOf b) (particle (sceneOf b) i)) ∷ [])
+      (prepared (sceneOf b) l)
       → column (fluidSize (sceneOf b)) e (prepared (sceneOf b) l) ≡ map x (coefficients (sceneOf b))
   unfolding coefficients
-  coefficient-column e x h =
-      ap (λ (k : ℕ). column (fluidSize (sceneOf b)) k (prepared (sceneOf b) l)) (sym (zero-add e))
-      ∙ rows-column e (λ i. x (coefficientsOf (sceneOf b) (particle (sceneOf b) i))) (coefficient-rows b l room)
-      (λ i m. h i)
+  coefficient-column e x h q =
+      column-values (λ i. x (coefficientsOf (sceneOf b) (particle (sceneOf b) i))) q h
       ∙ sym (map-table x (fluidSize (sceneOf b)) (λ i. coefficientsOf (sceneOf b) (particle (sceneOf b) i)))
 
   -- the two that refusals look at
-  columns : (column (fluidSize (sceneOf b)) densitySlot (prepared (sceneOf b) l)
+  columns : (column (fluidSize (sceneOf b)) (densitySlot axes) (prepared (sceneOf b) l)
       ≡ map (λ k. k .density) (coefficients (sceneOf b)))
-      × (column (fluidSize (sceneOf b)) predictedSlot (prepared (sceneOf b) l)
+      × (column (fluidSize (sceneOf b)) (predictedSlot axes) (prepared (sceneOf b) l)
       ≡ map (λ k. k .predictedDensity) (coefficients (sceneOf b)))
-  unfolding coefficientRow
-  columns = (
-    coefficient-column densitySlot (λ k. k .density) (λ i. (omega arith, refl)),
-    coefficient-column predictedSlot
-        (λ k. k .predictedDensity) (λ i. (omega arith, refl)),
-  )
+  columns =
+      let ready = iteration-ready b l room in (
+        coefficient-column (densitySlot axes) (λ k. k .density) (omega arith) (ready .density),
+        coefficient-column (predictedSlot axes) (λ k. k .predictedDensity) (omega arith) (ready .predictedDensity),
+      )
 
   -- refusals 9 and 10 over the columns are the step's
   pub answer-made : {n : ℕ} {z : List Float} {r : Readiness} → n ≡ fluidSize (sceneOf b) → z ≡ prepared (sceneOf b) l
       → ((report : Report)
       → r ≡ readiness
-      (zeroAnswer (λ i. locationOf Fluid b i .at) (column n densitySlot z) (column n predictedSlot z) report))
+      (zeroAnswer (λ i. locationOf Fluid b i .at) (column n (densitySlot axes) z)
+      (column n (predictedSlot axes) z) report))
       → r ≡ readiness (sceneAnswer (λ i. locationOf Fluid b i .at) (sceneOf b))
   unfolding sceneAnswer
   answer-made size e h = rw (size, e, columns .0, columns .1) at (h (reportOf (sceneOf b)))

@@ -8,7 +8,7 @@ use lib.Ieee.{Float}
 use lib.ListN.{drop, replicate}
 use lib.Seq.{sets}
 use Rattle.iisph_rows.specs.Passes.{volumes}
-use Rattle.iisph_rows.specs.Rows.{rowAt}
+use Rattle.iisph_rows.specs.Rows.{volumesAt}
 use Rattle.iisph_rules.specs.Step.{unlessZero, sceneAnswer}
 use Rattle.iisph_rules.specs.declared.Report.{Report}
 use Rattle.iisph_rules.specs.declared.StepAnswer.{StepAnswer}
@@ -32,9 +32,9 @@ use Rattle.iisph_preparation.specs.declared.Readiness.the-variants.{Read
 unfoldable pub rowsFilled : Scene → List Float → List Float
 rowsFilled s work = afterPass s pass.Coefficients (afterPass s pass.Advected (afterPass s pass.Masses work))
 
--- behind the rows the boundary volumes
+-- behind rows and columns the boundary volumes
 unfoldable pub prepared : Scene → List Float → List Float
-prepared s work = rowsFilled s (sets work (rowAt (fluidSize s)) (volumes s))
+prepared s work = rowsFilled s (sets work (volumesAt (fluidSize s)) (volumes s))
 
 -- a refused scene leaves +0 in the needed front part
 unfoldable pub workPrepared : List ℕ → Readiness → List Float → List Float

@@ -22,11 +22,11 @@ ghost use Prim.Native.Nat.{ℕ, _+_, _≤_};
 ghost use lib.ListN.{length};
 ghost use Rattle.iisph_header.specs.Header.{StepHeaderIs};
 ghost use Rattle.iisph_rows.specs.Passes.{PassOver, DrivenPass, Room, volumes};
-ghost use Rattle.iisph_rows.specs.Rows.{densitySlot, predictedSlot, rowAt, column, Behind};
+ghost use Rattle.iisph_rows.specs.Rows.{densitySlot, predictedSlot, volumesAt, column, Behind};
 ghost use Rattle.iisph_rules.specs.Step.{sceneAnswer};
 ghost use Rattle.iisph_rules.specs.declared.Report.{Report};
 ghost use Rattle.scene_check.specs.Check.{Passed};
-ghost use Rattle.scene_format.specs.Format.{locationOf};
+ghost use Rattle.scene_format.specs.Format.{axes, locationOf};
 ghost use Rattle.scene_format.specs.SceneOf.{sceneOf};
 ghost use Rattle.scene_format.specs.declared.Kind.the-variants.{Fluid};
 ghost use Rattle.scene_index.specs.Index.{indexNeeded};
@@ -39,7 +39,7 @@ pub enum Readiness {
     Refused(Refusal),
 }
 
-// The masses, advected velocities, coefficients and first pressures of every row. The boundary volumes are there.
+// The masses, advected velocities, coefficients and first pressures of every particle. The boundary volumes are there.
 fn fill_rows(scene: &[u8], index: &[usize], n: usize, dt: f64, gravity: Vec3, work: &mut [f64])
     requires { ⌜ DrivenPass (now scene) (now index) n dt gravity ⌝ }
     requires { ⌜ Room (sceneOf (now scene)) n (now work) × Behind n (volumes (sceneOf (now scene))) (now work) ⌝ }
@@ -53,12 +53,12 @@ fn fill_rows(scene: &[u8], index: &[usize], n: usize, dt: f64, gravity: Vec3, wo
 // Two searches, one after the other: refusal 9 in the densities, 10 in the predicted ones. Each gives the offset of the
 // particle's record.
 fn zero_refusal(scene: &[u8], index: &[usize], n: usize, work: &[f64]) -> Readiness
-    requires { ⌜ PassOver (now scene) (now index) n × (rowAt n ≤ length (now work)) ⌝ }
+    requires { ⌜ PassOver (now scene) (now index) n × (volumesAt n ≤ length (now work)) ⌝ }
     ensures { λ r. ⌜
         ((report : Report) →
         (let at : ℕ → ℕ = λ i. locationOf Fluid (now (scene .entry)) i .at in
         let l = now (work .entry) in
-        r ≡ readiness (zeroAnswer at (column n densitySlot l) (column n predictedSlot l) report)))
+        r ≡ readiness (zeroAnswer at (column n (densitySlot axes) l) (column n (predictedSlot axes) l) report)))
         ⌝ }
 {
     let density = first_zero(work, n, DENSITY);
@@ -115,7 +115,7 @@ fn prepare_rows(
     }
 }
 
-// The index of the scene in a lent list, and its rows.
+// The index of the scene in a lent list, and its rows, columns and volumes.
 pub fn prepare(
     scene: &[u8],
     layout: Layout,

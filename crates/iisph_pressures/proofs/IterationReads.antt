@@ -1,9 +1,8 @@
--- What the rows of the work list hold in an iteration, by the rules: coefficients, pressures, quotients and dij_pjl, of
+-- What the work list holds in an iteration, by the rules: coefficients, pressures, quotients and dij_pjl, of
 -- one particle and of all. Each is the one field of IterationReady, or the one table, that says it. Assumes nothing.
-use Prim.Native.Nat.{ℕ, _+_, _<_}
+use Prim.Native.Nat.{ℕ, _+_, _*_, _<_}
 use mathlib.Core.Path.{_≡_, sym, ap, _∙_}
 use mathlib.Core.List.{List, []}
-use native.Mathlib.Nat.{add-zero}
 use native.Mathlib.Omega.{arith}
 use lib.Ieee.{Float}
 use lib.ListN.{length}
@@ -17,11 +16,11 @@ use Rattle.scene_format.specs.SceneOf.{sceneOf}
 use Rattle.iisph_rules.specs.Coefficients.{particleMass, coefficientsOf, coefficients, noCoefficients, coefficient}
 use Rattle.iisph_rules.specs.Iteration.{pressure, dijPjl, dijPjls, dij}
 use Rattle.iisph_pressures.specs.IterationRows.{IterationReady, pressuresIn, dijsIn, rowQuotient, quotient}
-use Rattle.iisph_rows.specs.Rows.{rowAt, elementAt, vectorFrom, Rows, massSlot, pressureSlot, dijSlot, predictedSlot}
-use Rattle.iisph_rows.specs.Rows.{aiiSlot}
+use Rattle.iisph_rows.specs.Rows.{rowAt, elementAt, vectorFrom, Rows, massSlot, pressureSlot, dijSlot, densitySlot}
+use Rattle.iisph_rows.specs.Rows.{predictedSlot, aiiSlot}
 use Rattle.scene_format.specs.Format.{axes}
 use Rattle.iisph_rules.proofs.Sizes.{length-dij}
-use Rattle.iisph_rows.proofs.RowReads.{row-value, row-vector}
+use Rattle.iisph_rows.proofs.RowReads.{row-value, row-vector, column-value}
 
 -- ---- of one particle
 
@@ -36,29 +35,28 @@ unfolding pressuresIn
 pressure-in {n} work j h = sym (table-at n (λ i. elementAt work (rowAt i + pressureSlot axes)) j +0 h)
 
 pub dij-in : {n : ℕ} (work : List Float) (j : ℕ) → j < n
-    → vectorFrom work (rowAt j + dijSlot axes) ≡ dij (dijsIn n work) j
+    → vectorFrom work (rowAt j + dijSlot) ≡ dij (dijsIn n work) j
 unfolding dijsIn
-dij-in {n} work j h = sym (table-at n (λ i. vectorFrom work (rowAt i + dijSlot axes)) j [] h)
+dij-in {n} work j h = sym (table-at n (λ i. vectorFrom work (rowAt i + dijSlot)) j [] h)
 
 module _ {s : Scene} {ps : List Float} {n : ℕ} {work : List Float} (q : IterationReady s ps n work)
     (size : n ≡ fluidSize s) (j : ℕ) (h : j < n) where
-  pub density-in : elementAt work (rowAt j) ≡ coefficient (coefficients s) j .density
+  pub density-in : elementAt work (densitySlot axes * n + j) ≡ coefficient (coefficients s) j .density
   density-in =
-      ap (λ (k : ℕ). elementAt work k) (sym (add-zero (rowAt j)))
-      ∙ row-value (λ i. coefficientsOf s (particle s i) .density) (q .density) j h
+      column-value (λ i. coefficientsOf s (particle s i) .density) (q .density) (omega arith) j h
       ∙ sym (ap (λ k. k .density) (coefficient-at s j (omega arith)))
 
-  pub predicted-in : elementAt work (rowAt j + predictedSlot) ≡ coefficient (coefficients s) j .predictedDensity
+  pub predicted-in : elementAt work (predictedSlot axes * n + j) ≡ coefficient (coefficients s) j .predictedDensity
   predicted-in =
-      row-value (λ i. coefficientsOf s (particle s i) .predictedDensity) (q .predictedDensity) j h
+      column-value (λ i. coefficientsOf s (particle s i) .predictedDensity) (q .predictedDensity) (omega arith) j h
       ∙ sym (ap (λ k. k .predictedDensity) (coefficient-at s j (omega arith)))
 
-  pub aii-in : elementAt work (rowAt j + aiiSlot) ≡ coefficient (coefficients s) j .aii
-  aii-in = row-value (λ i. coefficientsOf s (particle s i) .aii) (q .aii) j h
+  pub aii-in : elementAt work (aiiSlot axes * n + j) ≡ coefficient (coefficients s) j .aii
+  aii-in = column-value (λ i. coefficientsOf s (particle s i) .aii) (q .aii) (omega arith) j h
       ∙ sym (ap (λ k. k .aii) (coefficient-at s j (omega arith)))
 
-  pub mass-in : elementAt work (rowAt j + massSlot axes) ≡ particleMass (particle s j)
-  mass-in = row-value (λ i. particleMass (particle s i)) (q .mass) j h
+  pub mass-in : elementAt work (rowAt j + massSlot) ≡ particleMass (particle s j)
+  mass-in = row-value (λ i. particleMass (particle s i)) (q .mass) (omega arith) j h
 
 -- ---- quotients
 
@@ -67,10 +65,10 @@ quotient-same e q s = rw (e, q, s)
 
 pub quotient-made : {s : Scene} {ps : List Float} {n : ℕ} {work : List Float} → IterationReady s ps n work
     → n ≡ fluidSize s → (i : ℕ) → i < n
-    → rowQuotient work i ≡ quotient s ps i
+    → rowQuotient work n i ≡ quotient s ps i
 unfolding quotient
 quotient-made {s} {ps} q size i h =
-    quotient-same (mass-in q size i h) (row-value (pressure ps) (q .pressure) i h) (density-in q size i h)
+    quotient-same (mass-in q size i h) (row-value (pressure ps) (q .pressure) (omega arith) i h) (density-in q size i h)
 
 -- ---- of all particles
 
@@ -82,14 +80,14 @@ pressures-are {s} {ps} {n} {work} q l =
     ext-getD +0 (pressuresIn n work) ps (size ∙ sym l)
     (λ i m.
     let h : i < n = omega (arith, size) in
-    sym (pressure-in work i h) ∙ row-value (pressure ps) (q .pressure) i h)
+    sym (pressure-in work i h) ∙ row-value (pressure ps) (q .pressure) (omega arith) i h)
 
 pub dijs-are : (b : List ℕ) (ps : List Float) {n : ℕ} {work : List Float} → n ≡ fluidSize (sceneOf b)
-    → Rows n (dijSlot axes) (λ i. dijPjl (sceneOf b) (coefficients (sceneOf b)) ps (particle (sceneOf b) i)) work
+    → Rows n dijSlot (λ i. dijPjl (sceneOf b) (coefficients (sceneOf b)) ps (particle (sceneOf b) i)) work
     → dijsIn n work ≡ dijPjls (sceneOf b) (coefficients (sceneOf b)) ps
 unfolding dijsIn dijPjls
 dijs-are b ps {n} {work} size q =
     let f : ℕ → Vector = λ i. dijPjl (sceneOf b) (coefficients (sceneOf b)) ps (particle (sceneOf b) i) in
-    table-same n (λ i. vectorFrom work (rowAt i + dijSlot axes)) f
-    (λ i h. row-vector f q i h (length-dij b i (omega arith) (coefficients (sceneOf b)) ps))
+    table-same n (λ i. vectorFrom work (rowAt i + dijSlot)) f
+    (λ i h. row-vector f q (omega arith) i h (length-dij b i (omega arith) (coefficients (sceneOf b)) ps))
     ∙ ap (λ (k : ℕ). table k f) size

@@ -25,7 +25,8 @@ use Rattle.iisph_rules.specs.Iteration.{clamped, aiiLimit, nextPressure}
 use Rattle.iisph_pressures.specs.IterationRows.{IterationReady, pressuresIn, dijsIn, quotient, withDij, rowTerm}
 use Rattle.iisph_pressures.specs.IterationRows.{fluidTerm, boundaryTerm, withTerm, nextFrom, NextIs}
 use Rattle.scene_index.specs.Contacts.{ContactReady, overFirst, overList}
-use Rattle.iisph_rows.specs.Rows.{rowAt, elementAt, vectorFrom, massSlot, pressureSlot, dijSlot, predictedSlot, aiiSlot}
+use Rattle.iisph_rows.specs.Rows.{rowAt, volumesAt, elementAt, vectorFrom, massSlot, pressureSlot, dijSlot}
+use Rattle.iisph_rows.specs.Rows.{densitySlot, predictedSlot, aiiSlot}
 use Rattle.scene_format.specs.Format.{axes, contactWidth, gradientOffset, startsOf}
 use Rattle.scene_index.specs.declared.contacts.ContactList.{ContactList}
 use Rattle.iisph_pressures.specs.declared.iteration.Next.{Next}
@@ -79,7 +80,7 @@ module _ (b : List ℕ) {n : ℕ} {work : List Float} (size : n ≡ fluidSize (s
       term-same (coordinates (owner .dij)) g (owner .factor) (owner .pressure)
       (mass-in q size j h)
       (pressure-in work j h)
-      (row-vector (λ i. coefficientsOf (sceneOf b) (particle (sceneOf b) i) .dii) (q .dii) j h
+      (row-vector (λ i. coefficientsOf (sceneOf b) (particle (sceneOf b) i) .dii) (q .dii) (omega arith) j h
       (length-row j (omega arith))
       ∙ sym (ap (λ k. k .dii) (coefficient-at (sceneOf b) j (omega arith))))
       (dij-in work j h)
@@ -96,7 +97,7 @@ module _ (b : List ℕ) {n : ℕ} {work : List Float} (size : n ≡ fluidSize (s
 
     pub boundary-term : ContactReady Boundary b at → j ≡ targetAt (startsOf Boundary b) b at
         → (density0 : Float) (d : Vector) {r : Float} → r ≡ d · g
-        → elementAt work (rowAt n + j) ⊗ density0 ⊗ r
+        → elementAt work (volumesAt n + j) ⊗ density0 ⊗ r
         ≡ boundaryTerm (sceneOf b) density0 d (contactAt (startsOf Boundary b) b at)
     unfolding boundaryTerm boundaryMass contactAt
     boundary-term ready named density0 d {r} re =
@@ -214,12 +215,13 @@ factor-made : (b : List ℕ) (p : FluidParticle) {t m r rho : Float} → t ≡ d
 unfolding djiFactor
 factor-made b p te me re = factor-same te me re
 
--- the owner as the code makes it, from row i
-abbrev ownerOf : List Float → ℕ → Float → Vec3 → Owner
-ownerOf work i t d =
+-- the owner as the code makes it, from what stands there of particle i of n
+abbrev ownerOf : List Float → ℕ → ℕ → Float → Vec3 → Owner
+ownerOf work n i t d =
+    let rho = elementAt work (densitySlot axes * n + i) in
     record {
       dij = d;
-      factor = t ⊗ t ⊗ elementAt work (rowAt i + massSlot axes) ⊘ (elementAt work (rowAt i) ⊗ elementAt work (rowAt i));
+      factor = t ⊗ t ⊗ elementAt work (rowAt i + massSlot) ⊘ (rho ⊗ rho);
       pressure = elementAt work (rowAt i + pressureSlot axes);
     }
 
@@ -228,19 +230,19 @@ pub next-made : (b : List ℕ) {n : ℕ} {work : List Float} → n ≡ fluidSize
     → IterationReady (sceneOf b) (pressuresIn n work) n work
     → (i : ℕ) → i < n → {fluid boundary : ContactList}
     → ContactsAre b Fluid (particle (sceneOf b) i) fluid → ContactsAre b Boundary (particle (sceneOf b) i) boundary
-    → (t : Float) → t ≡ dt (sceneOf b) → (d : Vec3) → coordinates d ≡ vectorFrom work (rowAt i + dijSlot axes)
+    → (t : Float) → t ≡ dt (sceneOf b) → (d : Vec3) → coordinates d ≡ vectorFrom work (rowAt i + dijSlot)
     → {x y : Float} {r : Next}
     → let ps = pressuresIn n work in
     let ds = dijsIn n work in
-    x ≡ overList Fluid b fluid (withTerm (fluidTerm (sceneOf b) ps ds (ownerOf work i t d))) +0
+    x ≡ overList Fluid b fluid (withTerm (fluidTerm (sceneOf b) ps ds (ownerOf work n i t d))) +0
     → y ≡ overList Boundary b boundary (withTerm (boundaryTerm (sceneOf b) (boundary .density0) (coordinates d))) x
     → NextIs r
-    (nextFrom (fluid .density0) (elementAt work (rowAt i + aiiSlot)) (elementAt work (rowAt i + predictedSlot)) y
+    (nextFrom (fluid .density0) (elementAt work (aiiSlot axes * n + i)) (elementAt work (predictedSlot axes * n + i)) y
     (elementAt work (rowAt i + pressureSlot axes)))
     → NextIs r (nextPressure (sceneOf b) (coefficients (sceneOf b)) ps ds i)
 next-made b {n} {work} size q i h fs bs t te d de {r = r} xe ye re =
     let sum =
-    sum-made i fs bs (pressuresIn n work) (dijsIn n work) (ownerOf work i t d) xe ye (de ∙ dij-in work i h)
+    sum-made i fs bs (pressuresIn n work) (dijsIn n work) (ownerOf work n i t d) xe ye (de ∙ dij-in work i h)
     (factor-made b (particle (sceneOf b) i) te (mass-in q size i h) (density-in q size i h))
     (pressure-in work i h) in
     subst (NextIs r)

@@ -1,7 +1,7 @@
--- What an iteration reads of the rows of the work list and stores in them: the pressures and dij_pjl that stand there,
+-- What an iteration reads of the work list and stores in it: the pressures and dij_pjl that stand there,
 -- a quotient for each particle, and the terms of the pressure sum by the kind of contact. Scaffolding: no promise rests
 -- on it. Definitions only.
-use Prim.Native.Nat.{ℕ, _+_}
+use Prim.Native.Nat.{ℕ, _+_, _*_}
 use mathlib.Core.Path.{_≡_}
 use mathlib.Core.List.{List, [], _∷_}
 use lib.Ieee
@@ -9,7 +9,7 @@ use lib.Ieee.{Float}
 use Rattle.iisph_rows.specs.Passes.{Room, massRow, volumes}
 use Rattle.iisph_rows.specs.Rows.{densitySlot, predictedSlot, aiiSlot, diiSlot, pressureSlot, dijSlot, massSlot}
 use Rattle.iisph_rows.specs.Rows.{quotientSlot}
-use Rattle.iisph_rows.specs.Rows.{rowAt, elementAt, vectorFrom, column, Rows, Behind}
+use Rattle.iisph_rows.specs.Rows.{rowAt, elementAt, vectorFrom, Rows, Behind}
 use Rattle.iisph_rules.specs.Coefficients.{particleMass, fluidMass, boundaryMass, coefficientsOf, coefficients}
 use Rattle.iisph_rules.specs.Coefficients.{coefficient}
 use Rattle.iisph_rules.specs.Iteration.{pressure, dij, relaxed, NextPressure, noPressure, clamped, aiiLimit}
@@ -21,24 +21,25 @@ use Rattle.scene_format.specs.Scene.{Scene, Contact, particle}
 use Rattle.iisph_pressures.specs.declared.iteration.Next.{Next}
 use Rattle.iisph_pressures.specs.declared.iteration.Owner.{Owner}
 
--- ---- what stands in n rows
+-- ---- what stands in the rows of n particles
 
 unfoldable pub pressuresIn : ℕ → List Float → List Float
-pressuresIn n work = column n (pressureSlot axes) work
+pressuresIn n work = table n (λ i. elementAt work (rowAt i + pressureSlot axes))
 
 unfoldable pub dijsIn : ℕ → List Float → List Vector
-dijsIn n work = table n (λ i. vectorFrom work (rowAt i + dijSlot axes))
+dijsIn n work = table n (λ i. vectorFrom work (rowAt i + dijSlot))
 
--- ---- what the iterations find: the coefficients of the scene s, the pressures ps, masses and volumes, in n rows
+-- ---- what the iterations find: the coefficients of the scene s, the pressures ps, masses and volumes, of n
+-- particles
 
 pub record IterationReady (s : Scene) (ps : List Float) (n : ℕ) (work : List Float) : Type 0 where
   pub room : Room s n work
-  pub density : Rows n densitySlot (λ i. coefficientsOf s (particle s i) .density ∷ []) work
-  pub predictedDensity : Rows n predictedSlot (λ i. coefficientsOf s (particle s i) .predictedDensity ∷ []) work
-  pub aii : Rows n aiiSlot (λ i. coefficientsOf s (particle s i) .aii ∷ []) work
-  pub dii : Rows n diiSlot (λ i. coefficientsOf s (particle s i) .dii) work
+  pub density : Rows n (densitySlot axes) (λ i. coefficientsOf s (particle s i) .density ∷ []) work
+  pub predictedDensity : Rows n (predictedSlot axes) (λ i. coefficientsOf s (particle s i) .predictedDensity ∷ []) work
+  pub aii : Rows n (aiiSlot axes) (λ i. coefficientsOf s (particle s i) .aii ∷ []) work
+  pub dii : Rows n (diiSlot axes) (λ i. coefficientsOf s (particle s i) .dii) work
   pub pressure : Rows n (pressureSlot axes) (λ i. pressure ps i ∷ []) work
-  pub mass : Rows n (massSlot axes) (massRow s) work
+  pub mass : Rows n massSlot (massRow s) work
   pub volume : Behind n (volumes s) work
 
 -- with the pressures that stand in the rows
@@ -47,11 +48,11 @@ Iterating s n work = IterationReady s (pressuresIn n work) n work
 
 -- ---- dij_pjl: ((-m) × p) / (rho × rho), which no contact changes
 
--- of row i
-abbrev pub rowQuotient : List Float → ℕ → Float
-rowQuotient work i =
-    let rho = elementAt work (rowAt i) in
-    ⊝ (elementAt work (rowAt i + massSlot axes)) ⊗ elementAt work (rowAt i + pressureSlot axes) ⊘ (rho ⊗ rho)
+-- of particle i of n, as it stands in the list
+abbrev pub rowQuotient : List Float → ℕ → ℕ → Float
+rowQuotient work n i =
+    let rho = elementAt work (densitySlot axes * n + i) in
+    ⊝ (elementAt work (rowAt i + massSlot)) ⊗ elementAt work (rowAt i + pressureSlot axes) ⊘ (rho ⊗ rho)
 
 -- of fluid particle i
 unfoldable pub quotient : Scene → List Float → ℕ → Float
@@ -66,7 +67,7 @@ withDij s ps sum c = sum ⊞ c .gradient ⊡ quotient s ps (c .target)
 abbrev pub quotientRow : Scene → List Float → ℕ → List Float
 quotientRow s ps i = quotient s ps i ∷ []
 
--- what dij_pjl finds: room for n rows, and the quotients of the pressures that stand there
+-- what dij_pjl finds: room for n particles, and the quotients of the pressures that stand there
 pub record DijReady (s : Scene) (n : ℕ) (work : List Float) : Type 0 where
   pub room : Room s n work
   pub quotients : Rows n (quotientSlot axes) (quotientRow s (pressuresIn n work)) work
@@ -77,9 +78,9 @@ pub record DijReady (s : Scene) (n : ℕ) (work : List Float) : Type 0 where
 abbrev pub rowTerm : List Float → ℕ → Owner → Vector → Float
 rowTerm work j owner g =
     let own = coordinates (owner .dij)
-    ⊟ vectorFrom work (rowAt j + diiSlot) ⊡ elementAt work (rowAt j + pressureSlot axes) in
-    let other = vectorFrom work (rowAt j + dijSlot axes) ⊟ (g ⊡ owner .factor) ⊡ owner .pressure in
-    elementAt work (rowAt j + massSlot axes) ⊗ ((own ⊟ other) · g)
+    ⊟ vectorFrom work (rowAt j + diiSlot axes) ⊡ elementAt work (rowAt j + pressureSlot axes) in
+    let other = vectorFrom work (rowAt j + dijSlot) ⊟ (g ⊡ owner .factor) ⊡ owner .pressure in
+    elementAt work (rowAt j + massSlot) ⊗ ((own ⊟ other) · g)
 
 -- what a contact of each kind adds to the pressure sum of its owner
 
@@ -108,9 +109,9 @@ pub record NextIs (r : Next) (k : NextPressure) : Type 0 where
   pub pressure : r .pressure ≡ k .pressure
   pub term : r .term ≡ k .term
 
--- ---- p / (rho × rho) of row i, which the velocity changes take
+-- ---- p / (rho × rho) of particle i of n, which the velocity changes take
 
-abbrev pub rowShare : List Float → ℕ → Float
-rowShare work i =
-    let rho = elementAt work (rowAt i) in
+abbrev pub rowShare : List Float → ℕ → ℕ → Float
+rowShare work n i =
+    let rho = elementAt work (densitySlot axes * n + i) in
     elementAt work (rowAt i + pressureSlot axes) ⊘ (rho ⊗ rho)

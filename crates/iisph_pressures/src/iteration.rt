@@ -1,6 +1,7 @@
 // What an iteration makes of a fluid particle (METHOD 6.1 to 6.3): compute_dij_pjl and compute_next_pressures of the
 // Rust, particle by particle. Whatever does not depend on a contact is computed once per particle.
 use iisph_rows::rows::AII;
+use iisph_rows::rows::DENSITY;
 use iisph_rows::rows::DII;
 use iisph_rows::rows::DIJ_PJL;
 use iisph_rows::rows::MASS;
@@ -8,6 +9,7 @@ use iisph_rows::rows::PREDICTED_DENSITY;
 use iisph_rows::rows::PRESSURE;
 use iisph_rows::rows::QUOTIENT;
 use iisph_rows::rows::ROW;
+use iisph_rows::rows::VOLUMES;
 use iisph_rows::rows::vector_at;
 use math::Vec3;
 use math::magnitude;
@@ -22,7 +24,7 @@ ghost use mathlib.Core.Path.{_≡_};
 ghost use Prim.Native.Nat.{_+_, _<_, _≤_};
 ghost use lib.ListN.{length};
 ghost use Rattle.iisph_rows.specs.Passes.{PassOver, TimedPass};
-ghost use Rattle.iisph_rows.specs.Rows.{rowAt};
+ghost use Rattle.iisph_rows.specs.Rows.{rowAt, rowWidth};
 ghost use Rattle.iisph_rules.specs.Coefficients.{coefficients};
 ghost use Rattle.iisph_rules.specs.Iteration.{dijPjl, nextPressure};
 ghost use Rattle.math.specs.Real.{+0};
@@ -31,7 +33,6 @@ ghost use Rattle.scene_format.specs.Format.{axes};
 ghost use Rattle.scene_format.specs.Scene.{particle};
 ghost use Rattle.scene_format.specs.SceneOf.{sceneOf};
 ghost use Rattle.scene_index.specs.Contacts.{ContactsReady, overList};
-ghost use Rattle.scene_lengths.specs.Lengths.{workWidth};
 ghost use Rattle.iisph_pressures.specs.IterationRows.{pressuresIn, dijsIn, withDij, rowTerm, fluidTerm};
 ghost use Rattle.iisph_pressures.specs.IterationRows.{boundaryTerm, withTerm, nextFrom, DijReady, Iterating};
 ghost use Rattle.iisph_pressures.specs.IterationRows.{NextIs};
@@ -49,7 +50,7 @@ pub struct Next {
     pub term: f64,
 }
 
-// The sum of compute_dij_pjl over a list of fluid contacts: g × the quotient of the row that a contact names.
+// The sum of compute_dij_pjl over a list of fluid contacts: g × the quotient of the particle that a contact names.
 fn dij_sum(scene: &[u8], index: &[usize], work: &[f64], n: usize, list: ContactList) -> Vec3
     requires { ⌜ PassOver (now scene) (now index) n × DijReady (sceneOf (now scene)) n (now work) ⌝ }
     requires { ⌜ ContactsReady Kind.Fluid (now scene) list ⌝ }
@@ -66,13 +67,13 @@ fn dij_sum(scene: &[u8], index: &[usize], work: &[f64], n: usize, list: ContactL
     while k < count {
         let c = at + CONTACT_WIDTH * k;
         let j = target_of(scene, index, Kind::Fluid, c);
-        sum = sum.add(read::vector(scene, c + CONTACT_GRADIENT).scale(work[ROW * j + QUOTIENT]));
+        sum = sum.add(read::vector(scene, c + CONTACT_GRADIENT).scale(work[QUOTIENT * n + j]));
         k += 1;
     }
     sum
 }
 
-// The dij_pjl of fluid particle i, where the quotients stand in the rows.
+// The dij_pjl of fluid particle i, where the quotients stand in their column.
 pub fn dij_pjl_of(scene: &[u8], index: &[usize], work: &[f64], n: usize, dt: f64, i: usize) -> Vec3
     requires { ⌜ TimedPass (now scene) (now index) n dt × (i < n) ⌝ }
     requires { ⌜ DijReady (sceneOf (now scene)) n (now work) ⌝ }
@@ -87,7 +88,7 @@ pub fn dij_pjl_of(scene: &[u8], index: &[usize], work: &[f64], n: usize, dt: f64
 
 // What a fluid contact with gradient g adds to the pressure sum of its owner, where it names row j.
 fn row_term(work: &[f64], j: usize, owner: Owner, g: Vec3) -> f64
-    requires { ⌜ rowAt j + workWidth axes ≤ length (now work) ⌝ }
+    requires { ⌜ rowAt j + rowWidth axes ≤ length (now work) ⌝ }
     ensures { λ r. ⌜ r ≡ rowTerm (now (work .entry)) j owner (coordinates g) ⌝ }
 {
     let row = ROW * j;
@@ -155,7 +156,7 @@ fn boundary_pressure_sum(
         let c = at + CONTACT_WIDTH * k;
         let j = target_of(scene, index, Kind::Boundary, c);
         let g = read::vector(scene, c + CONTACT_GRADIENT);
-        sum = sum + work[ROW * n + j] * density0 * d.dot(g);
+        sum = sum + work[VOLUMES * n + j] * density0 * d.dot(g);
         k += 1;
     }
     sum
@@ -201,7 +202,7 @@ pub fn next_pressure_of(
     let fluid = contacts_of(scene, index, Kind::Fluid, i);
     let boundary = contacts_of(scene, index, Kind::Boundary, i);
     let row = ROW * i;
-    let rho = work[row];
+    let rho = work[DENSITY * n + i];
     let pressure = work[row + PRESSURE];
     let factor = dt * dt * work[row + MASS] / (rho * rho);
     let dij = vector_at(work, row + DIJ_PJL);
@@ -214,8 +215,8 @@ pub fn next_pressure_of(
     let sum = boundary_pressure_sum(scene, index, work, n, boundary, dij, part);
     next_from(
         fluid.density0,
-        work[row + AII],
-        work[row + PREDICTED_DENSITY],
+        work[AII * n + i],
+        work[PREDICTED_DENSITY * n + i],
         sum,
         pressure,
     )

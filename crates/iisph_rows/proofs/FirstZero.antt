@@ -1,4 +1,4 @@
--- The first zero of a list of doubles: what a loop knows after some rows. By induction on the rows passed. Assumes
+-- The first zero of a list of doubles: what a loop knows after some elements. By induction on the elements passed. Assumes
 -- nothing.
 use Prim.Native.Nat.{ℕ, zero, suc, _<_}
 use mathlib.Core.Path.{_≡_, refl, ap}

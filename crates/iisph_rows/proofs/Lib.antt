@@ -1,4 +1,5 @@
 pub mod Particles
+pub mod RowStores
 pub mod RowReads
 pub mod FirstZero
 pub mod Volumes

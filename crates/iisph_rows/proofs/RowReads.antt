@@ -1,6 +1,6 @@
--- What is read of rows that hold something: one value, one vector, a volume behind the rows. Each is the one fact that
--- says it, taken at its element. Assumes nothing.
-use Prim.Native.Nat.{ℕ, _+_, _<_}
+-- What is read of a work list that holds something: one value, one vector, a volume. Each is the one fact that says it,
+-- taken at its element. Assumes nothing.
+use Prim.Native.Nat.{ℕ, _+_, _*_, _<_, _≤_}
 use mathlib.Core.Path.{_≡_, sym, ap, _∙_}
 use mathlib.Core.List.{List, [], _∷_}
 use native.Mathlib.Nat.{add-zero, add-assoc}
@@ -9,42 +9,55 @@ use lib.Ieee.{Float, nan}
 use lib.ListN.{length}
 use lib.Seq.{ext-getD}
 use Rattle.iisph_rules.specs.Coefficients.{boundaryVolume, particleMass, advectedVelocity}
-use Rattle.lists.proofs.Lists.{length-table, table-at}
+use Rattle.lists.specs.Lists.{table}
+use Rattle.lists.proofs.Lists.{length-table, table-at, table-same}
 use Rattle.scene_format.specs.Format.{axes}
 use Rattle.scene_format.specs.Scene.{Scene, boundarySize, particle, boundary}
 use Rattle.iisph_rows.specs.Passes.{volumes, CoefficientsReady}
-use Rattle.iisph_rows.specs.Rows.{dijSlot, massSlot, rowAt, elementAt, vectorFrom, Rows, Behind}
+use Rattle.iisph_rows.specs.Rows.{dijSlot, massSlot, rowAt, rowWidth, volumesAt, slotAt}
+use Rattle.iisph_rows.specs.Rows.{elementAt, vectorFrom, column, Rows, Behind}
+use Rattle.iisph_rows.proofs.RowStores.{in-row, in-column}
 
--- one value of each row
-pub row-value : {n k : ℕ} {l : List Float} (x : ℕ → Float) → Rows n k (λ i. x i ∷ []) l → (j : ℕ) → j < n
-    → elementAt l (rowAt j + k) ≡ x j
-row-value {n} {k} {l} x q j h = ap (λ (e : ℕ). elementAt l (rowAt j + e)) (sym (add-zero k))
-    ∙ q .holds j h 0 (omega arith)
+-- one value of each particle, in its row
+pub row-value : {n k : ℕ} {l : List Float} (x : ℕ → Float) → Rows n k (λ i. x i ∷ []) l → k < rowWidth axes → (j : ℕ)
+    → j < n → elementAt l (rowAt j + k) ≡ x j
+row-value {n} {k} {l} x q h j m =
+    ap (elementAt l) (sym (in-row n j k h) ∙ ap (slotAt n j) (sym (add-zero k))) ∙ q .holds j m 0 (omega arith)
 
--- one vector
-pub row-vector : {n k : ℕ} {l : List Float} (f : ℕ → List Float) → Rows n k f l → (j : ℕ) → j < n → length (f j) ≡ axes
-    → vectorFrom l (rowAt j + k) ≡ f j
-row-vector {n} {k} {l} f q j h sized =
+-- in a column
+pub column-value : {n k : ℕ} {l : List Float} (x : ℕ → Float) → Rows n k (λ i. x i ∷ []) l → rowWidth axes ≤ k
+    → (j : ℕ) → j < n → elementAt l (k * n + j) ≡ x j
+column-value {n} {k} {l} x q h j m =
+    ap (elementAt l) (sym (in-column n j k h) ∙ ap (slotAt n j) (sym (add-zero k))) ∙ q .holds j m 0 (omega arith)
+
+pub column-values : {n k : ℕ} {l : List Float} (x : ℕ → Float) → Rows n k (λ i. x i ∷ []) l → rowWidth axes ≤ k
+    → column n k l ≡ table n x
+column-values {n} x q h = table-same n _ x (column-value x q h)
+
+-- one vector of each particle, in its row
+pub row-vector : {n k : ℕ} {l : List Float} (f : ℕ → List Float) → Rows n k f l → k + axes ≤ rowWidth axes → (j : ℕ)
+    → j < n → length (f j) ≡ axes → vectorFrom l (rowAt j + k) ≡ f j
+row-vector {n} {k} {l} f q h j m sized =
     let size = length-table axes (λ e. elementAt l (rowAt j + k + e)) in
     ext-getD nan _ _ (size ∙ sym sized)
-    (λ e m.
+    (λ e u.
     table-at axes (λ e. elementAt l (rowAt j + k + e)) e nan (omega (arith, size))
-    ∙ ap (elementAt l) (add-assoc (rowAt j) k e)
-    ∙ q .holds j h e (omega (arith, size)))
+    ∙ ap (elementAt l) (add-assoc (rowAt j) k e ∙ sym (in-row n j (k + e) (omega (arith, size))))
+    ∙ q .holds j m e (omega (arith, size)))
 
 pub volume-behind : (s : Scene) (n : ℕ) {l : List Float} → Behind n (volumes s) l → (j : ℕ) → j < boundarySize s
-    → elementAt l (rowAt n + j) ≡ boundaryVolume (boundary s j)
+    → elementAt l (volumesAt n + j) ≡ boundaryVolume (boundary s j)
 volume-behind s n q j h =
     q .holds j (rw (length-table (boundarySize s)) h)
     ∙ table-at (boundarySize s) (λ j. boundaryVolume (boundary s j)) j nan h
 
 module _ {s : Scene} {n : ℕ} {work : List Float} (p : CoefficientsReady s n work) where
-  pub mass-at : (j : ℕ) → j < n → elementAt work (rowAt j + massSlot axes) ≡ particleMass (particle s j)
-  mass-at = row-value (λ i. particleMass (particle s i)) (p .mass)
+  pub mass-at : (j : ℕ) → j < n → elementAt work (rowAt j + massSlot) ≡ particleMass (particle s j)
+  mass-at = row-value (λ i. particleMass (particle s i)) (p .mass) (omega arith)
 
-  pub volume-at : (j : ℕ) → j < boundarySize s → elementAt work (rowAt n + j) ≡ boundaryVolume (boundary s j)
+  pub volume-at : (j : ℕ) → j < boundarySize s → elementAt work (volumesAt n + j) ≡ boundaryVolume (boundary s j)
   volume-at = volume-behind s n (p .volume)
 
   pub advected-at : (j : ℕ) → j < n → length (advectedVelocity s (particle s j)) ≡ axes
-      → vectorFrom work (rowAt j + dijSlot axes) ≡ advectedVelocity s (particle s j)
-  advected-at = row-vector (λ i. advectedVelocity s (particle s i)) (p .advected)
+      → vectorFrom work (rowAt j + dijSlot) ≡ advectedVelocity s (particle s j)
+  advected-at = row-vector (λ i. advectedVelocity s (particle s i)) (p .advected) (omega arith)

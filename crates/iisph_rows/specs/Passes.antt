@@ -1,4 +1,4 @@
--- What a pass may rely on and what the first passes store in the rows, by the rules. Scaffolding: no promise rests on
+-- What a pass may rely on and what the first passes store in the work list, by the rules. Scaffolding: no promise rests on
 -- it. Definitions only.
 use Prim.Native.Nat.{ℕ, _+_, _≤_}
 use mathlib.Core.Path.{_≡_}
@@ -15,7 +15,7 @@ use Rattle.scene_format.specs.Format.{axes, boundaryRecordWidth, boundaryContac
 use Rattle.scene_format.specs.Scene.{Scene, fluidSize, boundarySize, particle, boundary}
 use Rattle.scene_format.specs.SceneOf.{boundaryWeights, sceneOf}
 use Rattle.scene_index.specs.Index.{Indexed}
-use Rattle.iisph_rows.specs.Rows.{rowAt, dijSlot, massSlot, Rows, Behind}
+use Rattle.iisph_rows.specs.Rows.{volumesAt, dijSlot, massSlot, Rows, Behind}
 use Rattle.iisph_rows.specs.declared.zeros.Found.{Found}
 use Rattle.iisph_rows.specs.declared.zeros.Found.the-variants.{At, Nothing}
 
@@ -36,9 +36,9 @@ pub record DrivenPass (b index : List ℕ) (n : ℕ) (t : Float) (gravity : Vec3
   pub timed : TimedPass b index n t
   pub gravityIs : coordinates gravity ≡ sceneOf b .header .gravity
 
--- room for n rows and the volumes
+-- room for rows and columns of n particles and for the volumes
 abbrev pub Room : Scene → ℕ → List Float → Type 0
-Room s n work = rowAt n + boundarySize s ≤ length work
+Room s n work = volumesAt n + boundarySize s ≤ length work
 
 -- ---- what is stored of a particle
 
@@ -63,8 +63,8 @@ volumeAt b k at = volumeFrom (boundaryWeights b (boundaryContactCount b k at) (a
 
 pub record CoefficientsReady (s : Scene) (n : ℕ) (work : List Float) : Type 0 where
   pub room : Room s n work
-  pub mass : Rows n (massSlot axes) (massRow s) work
-  pub advected : Rows n (dijSlot axes) (advectedRow s) work
+  pub mass : Rows n massSlot (massRow s) work
+  pub advected : Rows n dijSlot (advectedRow s) work
   pub volume : Behind n (volumes s) work
 
 -- ---- a number below n, or none

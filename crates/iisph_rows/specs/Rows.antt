@@ -1,6 +1,7 @@
--- The work list of a step: a row of doubles for each fluid particle, then the volume of each boundary particle. A pass
--- stores some slots of every row, one row after the other; what later passes need of the list is said slot by slot.
--- Scaffolding: no promise rests on it. Definitions only.
+-- The work list of a step: for each of n fluid particles a row of doubles, what a contact reads together of the particle
+-- that it names; then columns of n doubles, each of which is read alone; then the volume of each boundary particle. A
+-- pass stores some slots of every particle, one particle after the other; what later passes need of the list is said
+-- slot by slot. Scaffolding: no promise rests on it. Definitions only.
 use Prim.Native.Nat.{ℕ, _+_, _*_}
 use mathlib.Core.List.{List}
 use lib.Ieee.{Float, nan}
@@ -8,42 +9,55 @@ use Rattle.lists.specs.Stores as lists
 use Rattle.scene_format.specs.Format.{axes}
 use Rattle.scene_lengths.specs.Lengths.{workWidth}
 
--- ---- a row, for d axes: the Rust's eight lists, with what is cached in the slots of the velocity change
+-- ---- the slots of a row, for d axes
 
-abbrev pub densitySlot : ℕ
-densitySlot = 0
-
-abbrev pub predictedSlot : ℕ
-predictedSlot = 1
-
-abbrev pub aiiSlot : ℕ
-aiiSlot = 2
-
-abbrev pub diiSlot : ℕ
-diiSlot = 3
-
-abbrev pub pressureSlot : ℕ → ℕ
-pressureSlot d = diiSlot + d
+abbrev pub massSlot : ℕ
+massSlot = 0
 
 -- dij_pjl; before the iterations the advected velocity
-abbrev pub dijSlot : ℕ → ℕ
-dijSlot d = pressureSlot d + 1
+abbrev pub dijSlot : ℕ
+dijSlot = massSlot + 1
 
-abbrev pub massSlot : ℕ → ℕ
-massSlot d = dijSlot d + d
+abbrev pub pressureSlot : ℕ → ℕ
+pressureSlot d = dijSlot + d
+
+abbrev pub diiSlot : ℕ → ℕ
+diiSlot d = pressureSlot d + 1
+
+abbrev pub rowWidth : ℕ → ℕ
+rowWidth d = 2 + 2 * d
+
+-- ---- the slots that are columns
+
+abbrev pub densitySlot : ℕ → ℕ
+densitySlot d = rowWidth d
+
+abbrev pub predictedSlot : ℕ → ℕ
+predictedSlot d = densitySlot d + 1
+
+abbrev pub aiiSlot : ℕ → ℕ
+aiiSlot d = predictedSlot d + 1
 
 -- a quotient of the particle's pressure; within an iteration then the error term
 abbrev pub quotientSlot : ℕ → ℕ
-quotientSlot d = massSlot d + 1
+quotientSlot d = aiiSlot d + 1
 
 abbrev pub nextPressureSlot : ℕ → ℕ
 nextPressureSlot d = quotientSlot d + 1
 
 -- ---- the list
 
--- where row i begins; row n is the first element behind n rows
+-- where the row of particle i begins
 abbrev pub rowAt : ℕ → ℕ
-rowAt i = workWidth axes * i
+rowAt i = rowWidth axes * i
+
+-- where the volumes begin, behind rows and columns of n particles
+abbrev pub volumesAt : ℕ → ℕ
+volumesAt n = workWidth axes * n
+
+-- where slot s of particle i stands, of n particles: in its row, or as element i of column s
+abbrev pub slotAt : ℕ → ℕ → ℕ → ℕ
+slotAt n i s = lists.inRowsAndColumns (rowWidth axes) n i s
 
 -- the element k, and the vector from element k on
 abbrev pub elementAt : List Float → ℕ → Float
@@ -52,17 +66,21 @@ elementAt l k = lists.elementAt nan l k
 abbrev pub vectorFrom : List Float → ℕ → List Float
 vectorFrom l k = lists.elements nan axes k l
 
--- in each of n rows the slots from k on hold what f says, or become it
+-- of each of n particles the slots from k on hold what f says, or become it
 abbrev pub Rows : ℕ → ℕ → (ℕ → List Float) → List Float → Type 0
-Rows n k f l = lists.Rows nan (workWidth axes) n k f l
+Rows n k f l = lists.Rows nan (slotAt n) n k f l
 
 abbrev pub stored : ℕ → ℕ → (ℕ → List Float) → List Float → List Float
-stored n k f l = lists.stored (workWidth axes) n k f l
+stored n k f l = lists.storedAt (slotAt n) n k f l
 
--- slot k of each of n rows
+-- of particle i, of n, the slots from k on become these values
+abbrev pub setSlots : ℕ → ℕ → ℕ → List Float → List Float → List Float
+setSlots n i k vs l = lists.setSlots (slotAt n i) k vs l
+
+-- column k of n particles
 abbrev pub column : ℕ → ℕ → List Float → List Float
-column n k l = lists.column nan (workWidth axes) n k l
+column n k l = lists.elements nan n (k * n) l
 
--- behind n rows the list holds xs
+-- behind rows and columns of n particles the list holds xs
 abbrev pub Behind : ℕ → List Float → List Float → Type 0
-Behind n xs l = lists.Part nan (rowAt n) xs l
+Behind n xs l = lists.Part nan (volumesAt n) xs l

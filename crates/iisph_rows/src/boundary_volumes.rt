@@ -1,6 +1,6 @@
-// The volumes of the boundary particles (the Rust's `compute_boundary_volumes`), stored behind the rows of the work
-// list.
-use crate::rows::ROW;
+// The volumes of the boundary particles (the Rust's `compute_boundary_volumes`), stored behind rows and columns of the
+// work list.
+use crate::rows::VOLUMES;
 use math::is_zero;
 use scene_format::Kind;
 use scene_format::format::BOUNDARY_CONTACT_WIDTH;
@@ -26,7 +26,7 @@ ghost use Rattle.scene_index.specs.Index.{Indexed};
 ghost use Rattle.scene_index.specs.Runs.{BoundaryRun};
 ghost use Rattle.scene_walk.specs.Accepted.{BoundaryRecordOk};
 ghost use Rattle.iisph_rows.specs.Passes.{volumes, volumeAt, Room};
-ghost use Rattle.iisph_rows.specs.Rows.{rowAt};
+ghost use Rattle.iisph_rows.specs.Rows.{volumesAt};
 
 // The sum of the weights of n contacts, in their order.
 fn weight_sum(scene: &[u8], n: usize, at: usize) -> f64
@@ -81,7 +81,7 @@ fn put_volumes(
     }
 }
 
-// The pass: the volumes of all boundary particles, boundary by boundary, behind n rows.
+// The pass: the volumes of all boundary particles, boundary by boundary.
 pub fn compute_boundary_volumes(
     scene: &[u8],
     layout: Layout,
@@ -91,7 +91,7 @@ pub fn compute_boundary_volumes(
 )
     requires { ⌜ Indexed (now scene) (now index) × Passed (now scene) layout ⌝ }
     requires { ⌜ (n ≡ fluidSize (sceneOf (now scene))) × Room (sceneOf (now scene)) n (now work) ⌝ }
-    ensures { λ _. ⌜ now (work .exit) ≡ sets (now (work .entry)) (rowAt n) (volumes (sceneOf (now (scene .entry)))) ⌝ }
+    ensures { λ _. ⌜ now (work .exit) ≡ sets (now (work .entry)) (volumesAt n) (volumes (sceneOf (now (scene .entry)))) ⌝ }
 {
     let boundaries = layout.boundaries;
     let starts = boundaries.starts;
@@ -107,7 +107,7 @@ pub fn compute_boundary_volumes(
             first,
             counts[m],
             keeps[m],
-            ROW * n + first,
+            VOLUMES * n + first,
             work,
         );
         m += 1;

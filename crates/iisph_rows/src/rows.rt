@@ -1,5 +1,5 @@
-// The work list: a row for each fluid particle, then the volume of each boundary particle. Where a number stands in a
-// row, and its vectors, an element for each axis.
+// The work list: n rows, one for each fluid particle, then columns with an element for each, then the volume of each
+// boundary particle. Where a number stands in a row, or in which column; vectors have an element for each axis.
 use math::Vec3;
 use scene_format::format::AXES;
 use scene_lengths::WORK_WIDTH;
@@ -11,33 +11,39 @@ ghost use Rattle.math.specs.Vector.{coordinates};
 ghost use Rattle.scene_format.specs.Format.{axes};
 ghost use Rattle.iisph_rows.specs.Rows.{vectorFrom};
 
-pub const ROW: usize = WORK_WIDTH;
+// A row: what one contact reads together of the particle that it names.
+pub const ROW: usize = 2 + 2 * AXES;
 
-pub const DENSITY: usize = 0;
-
-pub const PREDICTED_DENSITY: usize = 1;
-
-pub const AII: usize = 2;
-
-pub const DII: usize = 3;
-
-pub const PRESSURE: usize = DII + AXES;
+pub const MASS: usize = 0;
 
 // The advected velocity, until the iterations use the place for dij_pjl.
-pub const ADVECTED: usize = PRESSURE + 1;
+pub const ADVECTED: usize = MASS + 1;
 
-pub const DIJ_PJL: usize = PRESSURE + 1;
+pub const DIJ_PJL: usize = MASS + 1;
 
-pub const MASS: usize = DIJ_PJL + AXES;
+pub const PRESSURE: usize = DIJ_PJL + AXES;
+
+pub const DII: usize = PRESSURE + 1;
+
+// The columns, of n elements each, behind n rows: what is read alone, of the particle itself or of one that a contact
+// names. Column c begins at element c * n.
+pub const DENSITY: usize = ROW;
+
+pub const PREDICTED_DENSITY: usize = DENSITY + 1;
+
+pub const AII: usize = PREDICTED_DENSITY + 1;
 
 // In an iteration first the quotient, then the error term; behind the last iteration the share.
-pub const QUOTIENT: usize = MASS + 1;
+pub const QUOTIENT: usize = AII + 1;
 
-pub const ERROR_TERM: usize = MASS + 1;
+pub const ERROR_TERM: usize = AII + 1;
 
-pub const SHARE: usize = MASS + 1;
+pub const SHARE: usize = AII + 1;
 
 pub const NEXT_PRESSURE: usize = QUOTIENT + 1;
+
+// The volumes of the boundary particles begin where a column of this number would.
+pub const VOLUMES: usize = WORK_WIDTH;
 
 // The vector from element k on.
 pub fn vector_at(work: &[f64], k: usize) -> Vec3

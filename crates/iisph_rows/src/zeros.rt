@@ -1,5 +1,4 @@
-// What refusals 9 and 10 need: the first zero in a slot of all rows, and clearing.
-use crate::rows::ROW;
+// What refusals 9 and 10 need: the first zero in a column, and clearing.
 use math::is_zero;
 ghost use mathlib.Core.Path.{_≡_};
 ghost use mathlib.Core.List.{_++_};
@@ -10,22 +9,22 @@ ghost use Rattle.math.specs.Real.{+0};
 ghost use Rattle.scene_format.specs.Format.{axes};
 ghost use Rattle.scene_lengths.specs.Lengths.{workWidth};
 ghost use Rattle.iisph_rows.specs.Passes.{foundBelow};
-ghost use Rattle.iisph_rows.specs.Rows.{rowAt, column};
+ghost use Rattle.iisph_rows.specs.Rows.{volumesAt, column};
 
-// The number of a row, or none.
+// The number of a fluid particle, or none.
 pub enum Found {
     At(usize),
     Nothing,
 }
 
-// The number of the first of n rows whose slot is a zero of either sign.
-pub fn first_zero(work: &[f64], n: usize, slot: usize) -> Found
-    requires { ⌜ (slot < workWidth axes) × (rowAt n ≤ length (now work)) ⌝ }
-    ensures { λ r. ⌜ r ≡ foundBelow n (firstZero (column n slot (now (work .entry)))) ⌝ }
+// The number of the first of n fluid particles that has a zero of either sign in a column.
+pub fn first_zero(work: &[f64], n: usize, number: usize) -> Found
+    requires { ⌜ (number < workWidth axes) × (volumesAt n ≤ length (now work)) ⌝ }
+    ensures { λ r. ⌜ r ≡ foundBelow n (firstZero (column n number (now (work .entry)))) ⌝ }
 {
     let mut i = 0usize;
     while i < n {
-        if is_zero(work[ROW * i + slot]) {
+        if is_zero(work[number * n + i]) {
             return Found::At(i);
         }
         i += 1;

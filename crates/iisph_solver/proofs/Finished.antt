@@ -3,7 +3,7 @@
 -- Assumes nothing.
 use Prim.Native.Nat.{ℕ, zero, suc, _+_, _*_, _<_, _≤_}
 use mathlib.Core.Path.{_≡_, refl, sym, ap, _∙_}
-use mathlib.Core.Logic.{inl}
+use mathlib.Core.Logic.{inl, inr}
 use mathlib.Core.List.{List, [], _∷_, _++_, flatten}
 use native.Mathlib.Nat.{zero-add}
 use native.Mathlib.Omega.{arith}
@@ -28,10 +28,11 @@ use Rattle.iisph_rules.specs.declared.Ending.{Ending}
 use Rattle.iisph_rules.specs.declared.Report.{Report}
 use Rattle.iisph_rules.proofs.Iterations.{pressuresAfter, solution-pressures}
 use Rattle.iisph_rules.proofs.Sizes.{length-fluid, length-answers}
-use Rattle.iisph_pressures.specs.IterationRows.{pressuresIn, IterationReady, Iterating}
+use Rattle.iisph_pressures.specs.IterationRows.{pressuresIn, rowShare, IterationReady, Iterating}
 use Rattle.iisph_rows.specs.Rows as rows
-use Rattle.iisph_rows.specs.Rows.{rowAt}
-use Rattle.lists.specs.Stores.{stored}
+use Rattle.iisph_rows.specs.Rows.{volumesAt}
+use Rattle.lists.specs.Stores.{storedAt, stored}
+use Rattle.lists.proofs.Stores.{slots-in-row}
 use Rattle.lists.proofs.Fills.{sets-append}
 use Rattle.iisph_pressures.proofs.IterationReads.{pressures-are}
 use Rattle.lists.proofs.Numbering.{sum-same}
@@ -88,10 +89,11 @@ module _ (b : List ℕ) {n : ℕ} (size : n ≡ fluidSize (sceneOf b)) (l : List
         iteration =
             rw shares-pressures
             (rw e (iteration-same b size n (omega arith) l Shares (pressuresIn n l) (omega arith)
-            (inl (omega arith)) ready));
+            (inr (omega arith)) ready));
         share =
             rw shares-pressures
-            (rows-same (λ i h. ap (λ (q : Float). q ∷ []) (share-made ready size i h))
+            (rows-same
+            (λ i h. ap (λ (q : Float). q ∷ []) (ap (λ (m : ℕ). rowShare l m i) (sym size) ∙ share-made ready size i h))
             (rw e (pass-rows b size Shares l (omega (arith, ready .room)))));
       }
 
@@ -100,13 +102,14 @@ module _ (b : List ℕ) {n : ℕ} (size : n ≡ fluidSize (sceneOf b)) (l : List
 -- rows of w values, one after the other, are the values end to end
 stored-joined : (w : ℕ) (f : ℕ → List Float) (l : List Float) (n : ℕ) → ((i : ℕ) → i < n → length (f i) ≡ w)
     → stored w n 0 f l ≡ sets l 0 (flatten (table n f))
-unfolding stored table flatten
+unfolding storedAt table flatten
 stored-joined w f l zero h = refl
 stored-joined w f l (suc n) h =
     let long : length (flatten (table n f)) ≡ w * n = length-rows n f (λ i. w) (λ i m. h i (omega arith))
     ∙ sum-same w n in
     let at : w * n + 0 ≡ 0 + length (flatten (table n f)) = omega (arith, long) in
-    ap (λ (x : List Float). sets x (w * n + 0) (f n)) (stored-joined w f l n (λ i m. h i (omega arith)))
+    slots-in-row w n (f n) (stored w n 0 f l) 0
+    ∙ ap (λ (x : List Float). sets x (w * n + 0) (f n)) (stored-joined w f l n (λ i m. h i (omega arith)))
     ∙ rw (at, rows-next n f) (sym (sets-append (flatten (table n f)) (f n) l 0))
 
 module _ (b : List ℕ) {n : ℕ} (size : n ≡ fluidSize (sceneOf b)) (old : List Float)
@@ -175,7 +178,7 @@ module _ {b : List ℕ} {layout : Layout} (passed : Passed b layout) {n : ℕ} (
           shares-pressures b size x solved-ready e
           ∙ solved-pressures b size work first-ready first-pressures (solves .list)
 
-      beyond-rows : rowAt (fluidSize (sceneOf b)) ≤ workNeeded (sceneOf b)
+      beyond-rows : volumesAt (fluidSize (sceneOf b)) ≤ workNeeded (sceneOf b)
       beyond-rows = omega (arith, work-needed b)
 
       drop-shared : drop (workNeeded (sceneOf b)) z ≡ drop (workNeeded (sceneOf b)) work

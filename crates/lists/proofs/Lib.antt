@@ -1,5 +1,6 @@
 pub mod Lists
 pub mod Numbering
+pub mod Addressings
 pub mod Stores
 pub mod Fills
 pub mod Rows

@@ -1,18 +1,16 @@
 -- The laws of stores in rows: a pass stores one row after the other, what it stored stands in the rows, and all else is
--- as it was. By induction on the rows stored, once for every width, slot and number of values. Assumes nothing.
+-- as it was. By induction on the rows stored, once for every addressing, slot and number of values. Assumes nothing.
 use Prim.Native.Nat.{ℕ, zero, suc, _+_, _*_, _<_, _≤_}
 use mathlib.Core.Path.{_≡_, refl, sym, _∙_, ap}
-use mathlib.Core.List.{List, [], _∷_}
-use mathlib.Core.Bool.{Bool, true, false}
-use mathlib.Core.Logic.{_⊎_, inl, inr, ⊎-elim}
+use mathlib.Core.List.{List, [], _∷_, _++_}
+use mathlib.Core.Logic.{_≢_, _⊎_, inl, inr, ⊎-elim}
 use native.Mathlib.Omega.{arith}
-use native.Mathlib.Nat.{not-suc-le-zero, le-of-suc-le-suc, add-zero, mul-suc, mul-le-mul-left}
+use native.Mathlib.Nat.{not-suc-le-zero, le-of-suc-le-suc, add-zero}
 use native.Mathlib.Numerals.{add-one}
-use lib.Dec.{ltb}
 use lib.ListN.{length, getD, set, length-set}
-use lib.Seq.{sets, length-sets, getD-set-same, getD-set-other}
-use borrow.Author.Tests.{ltb-true, ltb-false}
-use Rattle.lists.specs.Stores.{stored, Rows, Part}
+use lib.Seq.{sets, getD-set-same, getD-set-other}
+use Rattle.lists.specs.Stores.{inRows, setSlots, storedAt, Rows, Part}
+use Rattle.lists.proofs.Addressings.{Addressing, compared}
 
 -- ---- one run of stores
 
@@ -38,101 +36,149 @@ module _ {A : Type 0} (d : A) where
       ap (λ (j : ℕ). getD (sets (set l i v) (suc i) vs) j d) (omega arith)
       ∙ sets-in vs (set l i v) (suc i) e (omega (arith, length-set l i v)) (le-of-suc-le-suc h)
 
--- ---- two rows
+-- ---- the slots of one row
 
-compared : {A : Type 0} (j n : ℕ) → (j < n → A) → (j ≡ n → A) → (n < j → A) → A
-compared {A} j n f g h = go (ltb j n) (ltb n j) refl refl
-  where
-    go : (s t : Bool) → ltb j n ≡ s → ltb n j ≡ t → A
-    go true t p q = f (ltb-true j n p)
-    go false true p q = h (ltb-true n j q)
-    go false false p q = g (omega (arith, ltb-false j n p, ltb-false n j q))
+module _ {A : Type 0} (at : ℕ → ℕ) where
+  pub length-slots : (vs l : List A) (k : ℕ) → length (setSlots at k vs l) ≡ length l
+  unfolding setSlots
+  length-slots [] l k = refl
+  length-slots (v ∷ vs) l k = length-slots vs (set l (at k) v) (suc k) ∙ length-set l (at k) v
 
-rows-apart : (w : ℕ) {j n : ℕ} → j < n → w * j + w ≤ w * n
-rows-apart w {j} h = let m : w * suc j ≤ w * _ = mul-le-mul-left w h in omega (arith, m, mul-suc w j)
+  pub slots-one : (v : A) (l : List A) (k : ℕ) → setSlots at k (v ∷ []) l ≡ set l (at k) v
+  unfolding setSlots
+  slots-one v l k = refl
 
--- ---- a store in each row: c values at slot k of rows of width w
+  pub slots-append : (vs us l : List A) (k : ℕ)
+      → setSlots at k (vs ++ us) l ≡ setSlots at (k + length vs) us (setSlots at k vs l)
+  unfolding setSlots
+  slots-append [] us l k = ap (λ (j : ℕ). setSlots at j us l) (sym (add-zero k))
+  slots-append (v ∷ vs) us l k =
+      slots-append vs us (set l (at k) v) (suc k)
+      ∙ ap (λ (j : ℕ). setSlots at j us (setSlots at (suc k) vs (set l (at k) v))) (omega arith)
 
-module _ {A : Type 0} (d : A) (w k : ℕ) (f : ℕ → List A) (l : List A) where
-  pub length-stored : (n : ℕ) → length (stored w n k f l) ≡ length l
-  unfolding stored
+  -- slots that stand one behind the other, from element b on
+  pub slots-run : (vs l : List A) (k b : ℕ) → ((e : ℕ) → e < length vs → at (k + e) ≡ b + e)
+      → setSlots at k vs l ≡ sets l b vs
+  unfolding setSlots
+  slots-run [] l k b h = refl
+  slots-run (v ∷ vs) l k b h =
+      let first : at k ≡ b = ap at (sym (add-zero k)) ∙ h 0 (omega arith) ∙ add-zero b in
+      slots-run vs (set l (at k) v) (suc k) (suc b)
+      (λ e m. let p : suc k + e ≡ k + suc e = omega arith in ap at p ∙ h (suc e) (omega arith) ∙ omega arith)
+      ∙ ap (λ (j : ℕ). sets (set l j v) (suc b) vs) first
+
+  module _ (d : A) where
+    pub slots-other : (vs l : List A) (k j : ℕ) → ((e : ℕ) → e < length vs → j ≢ at (k + e))
+        → getD (setSlots at k vs l) j d ≡ getD l j d
+    unfolding setSlots
+    slots-other [] l k j h = refl
+    slots-other (v ∷ vs) l k j h =
+        slots-other vs (set l (at k) v) (suc k) j
+        (λ e m q. let p : suc k + e ≡ k + suc e = omega arith in h (suc e) (omega arith) (q ∙ ap at p))
+        ∙ getD-set-other l (at k) j v d (λ q. h 0 (omega arith) (q ∙ ap at (sym (add-zero k))))
+
+    -- of a row of w slots, no two in one place, all within the list
+    module _ (w : ℕ) (apart : (s t : ℕ) → s < w → t < w → at s ≡ at t → s ≡ t) where
+      pub slots-in : (vs l : List A) (k e : ℕ) → ((s : ℕ) → s < w → at s < length l) → k + length vs ≤ w
+          → e < length vs → getD (setSlots at k vs l) (at (k + e)) d ≡ getD vs e d
+      unfolding setSlots
+      slots-in [] l k e room fits h = absurd (not-suc-le-zero h)
+      slots-in (v ∷ vs) l k zero room fits h =
+          ap (λ (j : ℕ). getD (setSlots at (suc k) vs (set l (at k) v)) (at j) d) (add-zero k)
+          ∙ slots-other vs (set l (at k) v) (suc k) (at k)
+          (λ e m q. let p : k ≡ suc k + e = apart k (suc k + e) (omega arith) (omega arith) q in omega arith)
+          ∙ getD-set-same l (at k) v d (room k (omega arith))
+      slots-in (v ∷ vs) l k (suc e) room fits h =
+          ap (λ (j : ℕ). getD (setSlots at (suc k) vs (set l (at k) v)) (at j) d) (omega arith)
+          ∙ slots-in vs (set l (at k) v) (suc k) e (λ s m. rw (length-set l (at k) v) (room s m)) (omega arith)
+          (le-of-suc-le-suc h)
+
+-- in rows of one width
+pub slots-in-row : {A : Type 0} (w i : ℕ) (vs l : List A) (k : ℕ)
+    → setSlots (inRows w i) k vs l ≡ sets l (w * i + k) vs
+slots-in-row w i vs l k = slots-run (inRows w i) vs l k (w * i + k) (λ e m. omega arith)
+
+-- ---- a store in each row: c values from slot k on
+
+module _ {A : Type 0} (d : A) (at : ℕ → ℕ → ℕ) (k : ℕ) (f : ℕ → List A) (l : List A) where
+  pub length-stored : (n : ℕ) → length (storedAt at n k f l) ≡ length l
+  unfolding storedAt
   length-stored zero = refl
-  length-stored (suc n) = length-sets (stored w n k f l) (w * n + k) (f n) ∙ length-stored n
+  length-stored (suc n) = length-slots (at n) (f n) (storedAt at n k f l) k ∙ length-stored n
 
   -- before the first row, and one row more
-  pub stored-none : l ≡ stored w 0 k f l
-  unfolding stored
+  pub stored-none : l ≡ storedAt at 0 k f l
+  unfolding storedAt
   stored-none = refl
 
-  pub stored-next : (i : ℕ) {x y : List A} → x ≡ stored w i k f l → y ≡ sets x (w * i + k) (f i)
-      → y ≡ stored w (i + 1) k f l
-  unfolding stored
-  stored-next i e q = q ∙ ap (λ (x : List A). sets x (w * i + k) (f i)) e
-      ∙ ap (λ (j : ℕ). stored w j k f l) (sym (add-one i))
+  pub stored-next : (i : ℕ) {x y : List A} → x ≡ storedAt at i k f l → y ≡ setSlots (at i) k (f i) x
+      → y ≡ storedAt at (i + 1) k f l
+  unfolding storedAt
+  stored-next i e q = q ∙ ap (λ (x : List A). setSlots (at i) k (f i) x) e
+      ∙ ap (λ (j : ℕ). storedAt at j k f l) (sym (add-one i))
 
-  -- each of the first r rows takes c values
-  module _ (r c : ℕ) (wide : (i : ℕ) → i < r → length (f i) ≡ c) (fits : k + c ≤ w) where
-    -- a slot of a row that is not among the stored ones
-    pub stored-other : (n : ℕ) → n ≤ r → (j e : ℕ) → e < w → (e < k) ⊎ (k + c ≤ e)
-        → getD (stored w n k f l) (w * j + e) d ≡ getD l (w * j + e) d
-    unfolding stored
-    stored-other zero m j e he h = refl
-    stored-other (suc n) m j e he h =
-        let s = stored w n k f l in
-        let at = w * n + k in
-        compared j n
-        (λ b. sets-below d (f n) s at (w * j + e) (omega (arith, rows-apart w b)))
-        (λ q. let r : w * j ≡ w * n = ap (λ (x : ℕ). w * x) q in
-        ⊎-elim (λ u. sets-below d (f n) s at (w * j + e) (omega arith))
-        (λ u. sets-above d (f n) s at (w * j + e) (omega (arith, wide n m))) h)
-        (λ b. sets-above d (f n) s at (w * j + e) (omega (arith, rows-apart w b, wide n m)))
-        ∙ stored-other n (omega arith) j e he h
+  -- each of r rows of w slots takes c values
+  module _ (r w : ℕ) (places : Addressing r w at) (c : ℕ) (wide : (i : ℕ) → i < r → length (f i) ≡ c)
+      (fits : k + c ≤ w) where
+    -- a slot that is not among the stored ones
+    pub stored-other : (n : ℕ) → n ≤ r → (j e : ℕ) → j < r → e < w → (e < k) ⊎ (k + c ≤ e)
+        → getD (storedAt at n k f l) (at j e) d ≡ getD l (at j e) d
+    unfolding storedAt
+    stored-other zero m j e hj he h = refl
+    stored-other (suc n) m j e hj he h =
+        slots-other (at n) d (f n) (storedAt at n k f l) k (at j e)
+        (λ a b q. let s : e ≡ k + a = places .apart hj he m (omega (arith, wide n m)) q .1 in
+        ⊎-elim (λ u. omega arith) (λ u. omega (arith, wide n m)) h)
+        ∙ stored-other n (omega arith) j e hj he h
 
     -- beyond the rows
-    pub stored-beyond : (n : ℕ) → n ≤ r → (j : ℕ) → w * n ≤ j → getD (stored w n k f l) j d ≡ getD l j d
-    unfolding stored
+    pub stored-beyond : (n : ℕ) → n ≤ r → (j : ℕ) → w * r ≤ j → getD (storedAt at n k f l) j d ≡ getD l j d
+    unfolding storedAt
     stored-beyond zero m j h = refl
     stored-beyond (suc n) m j h =
-        sets-above d (f n) (stored w n k f l) (w * n + k) j (omega (arith, wide n m, mul-suc w n))
-        ∙ stored-beyond n (omega arith) j (omega (arith, mul-suc w n))
+        slots-other (at n) d (f n) (storedAt at n k f l) k j
+        (λ a b q. let s : at n (k + a) < w * r = places .within m (omega (arith, wide n m)) in omega arith)
+        ∙ stored-beyond n (omega arith) j h
 
     -- what a row's turn stored stays
-    pub stored-at : (n : ℕ) → n ≤ r → (j e : ℕ) → j < n → e < c → w * n ≤ length l
-        → getD (stored w n k f l) (w * j + (k + e)) d ≡ getD (f j) e d
-    unfolding stored
+    pub stored-at : (n : ℕ) → n ≤ r → (j e : ℕ) → j < n → e < c → w * r ≤ length l
+        → getD (storedAt at n k f l) (at j (k + e)) d ≡ getD (f j) e d
+    unfolding storedAt
     stored-at zero m j e hj he room = absurd (not-suc-le-zero hj)
     stored-at (suc n) m j e hj he room =
-        let s = stored w n k f l in
-        let at = w * n + k in
+        let s = storedAt at n k f l in
         compared j n
         (λ b.
-        sets-below d (f n) s at (w * j + (k + e)) (omega (arith, rows-apart w b))
-        ∙ stored-at n (omega arith) j e b he (omega (arith, mul-suc w n)))
+        slots-other (at n) d (f n) s k (at j (k + e))
+        (λ a u q.
+        let p : j ≡ n = places .apart (omega arith) (omega arith) m (omega (arith, wide n m)) q .0 in
+        omega arith)
+        ∙ stored-at n (omega arith) j e b he room)
         (λ q.
-        ap (λ (x : ℕ). getD (sets s at (f n)) (w * x + (k + e)) d) q
-        ∙ ap (λ (x : ℕ). getD (sets s at (f n)) x d) (omega arith)
-        ∙ sets-in d (f n) s at e (omega (arith, length-stored n, wide n m, mul-suc w n)) (omega (arith, wide n m))
+        ap (λ (x : ℕ). getD (setSlots (at n) k (f n) s) (at x (k + e)) d) q
+        ∙ slots-in (at n) d w (λ x y hx hy u. places .apart m hx m hy u .1) (f n) s k e
+        (λ x hx. omega (arith, length-stored n, places .within m hx)) (omega (arith, wide n m)) (omega (arith, wide n m))
         ∙ ap (λ (x : ℕ). getD (f x) e d) (sym q))
         (λ b. absurd (omega arith))
 
     -- ---- what a list holds after a pass over all r rows
 
-    pub stored-rows : w * r ≤ length l → Rows d w r k f (stored w r k f l)
+    pub stored-rows : w * r ≤ length l → Rows d at r k f (storedAt at r k f l)
     stored-rows room = record { holds = λ i h e b. stored-at r (omega arith) i e h (omega (arith, wide i h)) room }
 
     -- and during it: other slots, and what stands beyond the rows
     module _ (n : ℕ) (m : n ≤ r) where
       pub rows-kept : (k′ c′ : ℕ) {g : ℕ → List A} → ((i : ℕ) → i < r → length (g i) ≡ c′) → k′ + c′ ≤ w
           → (k′ + c′ ≤ k) ⊎ (k + c ≤ k′)
-          → Rows d w r k′ g l → Rows d w r k′ g (stored w n k f l)
+          → Rows d at r k′ g l → Rows d at r k′ g (storedAt at n k f l)
       rows-kept k′ c′ wide′ fits′ apart q =
           record {
             holds = λ i h e b.
-                stored-other n m i (k′ + e) (omega (arith, wide′ i h))
+                stored-other n m i (k′ + e) h (omega (arith, wide′ i h))
                 (⊎-elim (λ u. inl (omega (arith, wide′ i h))) (λ u. inr (omega arith)) apart)
                 ∙ q .holds i h e b;
           }
 
-      pub part-kept : (at : ℕ) {xs : List A} → w * r ≤ at → Part d at xs l → Part d at xs (stored w n k f l)
-      part-kept at room q =
-          record { holds = λ j h. stored-beyond n m (at + j) (omega (arith, mul-le-mul-left w m)) ∙ q .holds j h }
+      pub part-kept : (b : ℕ) {xs : List A} → w * r ≤ b → Part d b xs l → Part d b xs (storedAt at n k f l)
+      part-kept b room q =
+          record { holds = λ j h. stored-beyond n m (b + j) (omega arith) ∙ q .holds j h }

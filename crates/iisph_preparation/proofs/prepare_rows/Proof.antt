@@ -10,7 +10,7 @@ use Rattle.scene_format.specs.SceneOf.{sceneOf}
 use Rattle.iisph_preparation.specs.Prepare.{prepared, workPrepared}
 use Rattle.iisph_preparation.proofs.RowsFilled.{length-prepared}
 use Rattle.iisph_preparation.proofs.ZeroRefusals.{volumes-there, prepared-made, work-cleared, answer-made}
-use Rattle.iisph_rows.specs.Rows.{rowAt}
+use Rattle.iisph_rows.specs.Rows.{volumesAt}
 use Rattle.scene_lengths.proofs.Needed.{few-in, work-needed}
 use Rattle.scene_lengths.specs.Lengths.{workNeeded}
 use borrow.Author.Needs.{needs}
@@ -31,7 +31,7 @@ size : (b : tie.Start) → b .args .n ≡ fluidSize (sceneOf (now (b .args .scen
 size b = b .pre .0 .timed .over .size
 
 room : (b : tie.Start)
-    → rowAt (fluidSize (sceneOf (now (b .args .scene)))) + boundarySize (sceneOf (now (b .args .scene)))
+    → volumesAt (fluidSize (sceneOf (now (b .args .scene)))) + boundarySize (sceneOf (now (b .args .scene)))
     ≤ length (now (b .args .work))
 room b = omega (arith, size b, b .pre .1 .1)
 

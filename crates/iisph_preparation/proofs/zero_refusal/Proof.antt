@@ -10,6 +10,7 @@ use Rattle.scene_format.specs.Format.{locationOf}
 use Rattle.scene_format.specs.declared.Kind.the-variants.{Fluid}
 use Rattle.iisph_rows.specs.Passes.{foundBelow}
 use Rattle.iisph_rows.specs.Rows.{densitySlot, predictedSlot, column}
+use Rattle.scene_format.specs.Format.{axes}
 use Rattle.iisph_rules.specs.Step.{firstZero}
 use Rattle.iisph_rules.specs.declared.StepAnswer.the-variants.{Done, Refused}
 use Rattle.iisph_rows.specs.declared.zeros.Found.the-variants.{At, Nothing}
@@ -30,18 +31,18 @@ abbrev Begin : tie.After-shared-slice-known3 → tie.Start
 Begin c = c .before .before .before
 
 found : (c : tie.After-known-told)
-    → First (Begin (c .before .before .before .before)) densitySlot (c .before .density .given .0 .0)
+    → First (Begin (c .before .before .before .before)) (densitySlot axes) (c .before .density .given .0 .0)
 found c = sym (c .before .density .given .1) ∙ c .before .before .before .first-zero .ensures
 
-nothing : (c : tie.After-enum-told) → None (Begin (c .before .before .before)) densitySlot
+nothing : (c : tie.After-enum-told) → None (Begin (c .before .before .before)) (densitySlot axes)
 nothing c = sym (c .enum-told .given .1) ∙ c .before .before .first-zero .ensures
 
 found-2 : (c : tie.After-known-told2)
-    → First (Begin (c .before .before .before .before .before .before .before)) predictedSlot
+    → First (Begin (c .before .before .before .before .before .before .before)) (predictedSlot axes)
     (c .before .predicted .given .0 .0)
 found-2 c = sym (c .before .predicted .given .1) ∙ c .before .before .before .first-zero2 .ensures
 
-nothing-2 : (c : tie.After-enum-told2) → None (Begin (c .before .before .before .before .before .before)) predictedSlot
+nothing-2 : (c : tie.After-enum-told2) → None (Begin (c .before .before .before .before .before .before)) (predictedSlot axes)
 nothing-2 c = sym (c .enum-told2 .given .1) ∙ c .before .before .first-zero2 .ensures
 
 record-of-requires : tie.Need-record-of-requires
@@ -59,7 +60,7 @@ returns c =
     λ report.
     sym (ap readiness
     (unless-found (λ i. locationOf Fluid (now (a .scene)) i .at) ZeroDensity
-    (column (a .n) densitySlot (now (a .work))) _ (length-table (a .n) _) (found k)
+    (column (a .n) (densitySlot axes) (now (a .work))) _ (length-table (a .n) _) (found k)
     ∙ sym (ap (λ (at : ℕ). Refused (ZeroDensity at)) (c .record-of .ensures))))
 
 returns-2 : tie.Need-returns-2
@@ -71,9 +72,9 @@ returns-2 c =
     λ report.
     sym (ap readiness
     (unless-nothing (λ i. locationOf Fluid (now (a .scene)) i .at) ZeroDensity
-    (column (a .n) densitySlot (now (a .work))) _ (length-table (a .n) _) (nothing p)
+    (column (a .n) (densitySlot axes) (now (a .work))) _ (length-table (a .n) _) (nothing p)
     ∙ unless-found (λ i. locationOf Fluid (now (a .scene)) i .at) ZeroPredictedDensity
-    (column (a .n) predictedSlot (now (a .work))) _ (length-table (a .n) _) (found-2 k)
+    (column (a .n) (predictedSlot axes) (now (a .work))) _ (length-table (a .n) _) (found-2 k)
     ∙ sym (ap (λ (at : ℕ). Refused (ZeroPredictedDensity at)) (c .record-of2 .ensures))))
 
 returns-3 : tie.Need-returns-3
@@ -84,9 +85,9 @@ returns-3 c =
     λ report.
     sym (ap readiness
     (unless-nothing (λ i. locationOf Fluid (now (a .scene)) i .at) ZeroDensity
-    (column (a .n) densitySlot (now (a .work))) _ (length-table (a .n) _) (nothing p)
+    (column (a .n) (densitySlot axes) (now (a .work))) _ (length-table (a .n) _) (nothing p)
     ∙ unless-nothing (λ i. locationOf Fluid (now (a .scene)) i .at) ZeroPredictedDensity
-    (column (a .n) predictedSlot (now (a .work))) (Done report) (length-table (a .n) _) (nothing-2 c)))
+    (column (a .n) (predictedSlot axes) (now (a .work))) (Done report) (length-table (a .n) _) (nothing-2 c)))
 
 pub zero-refusal-spec : {M : Type 1} → statement M
 zero-refusal-spec =

@@ -1,4 +1,4 @@
--- `iisph_forces::initial_forces::put_particle` meets its contract: the volume stands behind the rows, and the record
+-- `iisph_forces::initial_forces::put_particle` meets its contract: the volume stands in the work list, and the record
 -- has a force if it is kept. Assumes nothing.
 use Prim.Native.Nat.{_+_}
 use mathlib.Core.Path.{_≡_, ap, _∙_}

@@ -34,7 +34,7 @@ below : (c : tie.In-loop Inv-loop μ-loop)
     → c .before .loop .m < length (take (c .before .before .before .args .number) (c .before .before .before .args .t1))
 below c = omega (arith, sixteen (c .before .before), c .loop-test .taken)
 
--- the next fluid's rows are among the n
+-- the next fluid's particles are among the n
 room : (c : tie.In-loop Inv-loop μ-loop)
     → let a = c .before .before .before .args in
     c .before .loop .from + getD (a .t1) (c .before .loop .m) 0 ≤ a .n
@@ -51,7 +51,7 @@ loop-holds : tie.Need-loop-holds Inv-loop μ-loop
 loop-holds c = none-averaged _ _ _ (c .before .pre .1)
 
 with-average-requires : tie.Need-with-average-requires Inv-loop μ-loop
-with-average-requires c κs = omega (arith, room c, c .before .before .before .pre .2)
+with-average-requires c κs = (room c, c .before .before .before .pre .2)
 
 add-from : tie.Need-add-from Inv-loop μ-loop
 add-from c = omega (arith, room (c .before), c .before .before .before .before .pre .2)

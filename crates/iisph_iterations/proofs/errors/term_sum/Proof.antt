@@ -11,10 +11,10 @@ use Rattle.iisph_iterations.proofs.errors.term_sum.Statement.{statement
 use Rattle.iisph_iterations.proofs.errors.term_sum.Tie as tie
 
 abbrev Inv-loop : tie.InvT-loop
-Inv-loop work from count sum₀ k₀ sum k = (k ≤ count) × (sum ≡ total +0 (termsFrom work from k))
+Inv-loop work n from count sum₀ k₀ sum k = (k ≤ count) × (sum ≡ total +0 (termsFrom work n from k))
 
 abbrev μ-loop : tie.MeasureT-loop
-μ-loop work from count sum₀ k₀ sum k = count - k
+μ-loop work n from count sum₀ k₀ sum k = count - k
 
 loop-holds : tie.Need-loop-holds Inv-loop μ-loop
 unfolding table fold

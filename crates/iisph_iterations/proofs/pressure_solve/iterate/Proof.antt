@@ -1,5 +1,5 @@
 -- `iisph_iterations::pressure_solve::iterate` meets its contract: each pass finds what it needs, which the earlier ones
--- stored, and the error is that of the terms in the rows. Assumes nothing.
+-- stored, and the error is that of the terms in their column. Assumes nothing.
 use native.Mathlib.Omega.{arith}
 use Rattle.iisph_passes.specs.Traverse.{Ready}
 use Rattle.iisph_iterations.proofs.Iterated.{quotients-there, dij-there, next-room, iterated-ready, few-fluids}

@@ -1,5 +1,5 @@
 -- `iisph_motion::acceleration::boundary_acceleration` meets its contract: the volume of what the contact names stands
--- behind the rows, and the operations are the rule's. Assumes nothing.
+-- in the work list, and the operations are the rule's. Assumes nothing.
 use Prim.Native.Nat.{_<_}
 use mathlib.Core.Path.{refl}
 use native.Mathlib.Omega.{arith}

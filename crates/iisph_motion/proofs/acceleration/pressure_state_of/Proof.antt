@@ -1,5 +1,5 @@
 -- `iisph_motion::acceleration::pressure_state_of` meets its contract: the rest density stands in the head that the
--- index finds, all else in row i. Assumes nothing.
+-- index finds, all else in the work list. Assumes nothing.
 use mathlib.Core.Path.{refl}
 use native.Mathlib.Omega.{arith}
 use borrow.Author.Needs.{needs}
@@ -44,6 +44,8 @@ pressure-state-of-spec =
     head-of-requires
     add-double
     double-requires
+    (λ c. search needs)
+    (λ c. search needs)
     (λ c. search needs)
     (λ c. search needs)
     (λ c. search needs)

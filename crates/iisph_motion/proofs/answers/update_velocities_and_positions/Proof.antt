@@ -13,7 +13,7 @@ use Rattle.scene_format.specs.SceneOf.{sceneOf}
 use Rattle.iisph_rules.specs.Coefficients.{coefficients}
 use Rattle.iisph_rules.specs.Step.{fluidAnswer}
 use Rattle.iisph_pressures.specs.IterationRows.{pressuresIn}
-use Rattle.lists.specs.Stores.{stored}
+use Rattle.lists.specs.Stores.{inRows, stored}
 use Rattle.lists.proofs.Stores.{stored-none}
 use Rattle.scene_format.specs.Format.{axes}
 use Rattle.scene_lengths.specs.Lengths.{fluidAnswerWidth}
@@ -36,7 +36,7 @@ abbrev Begin : tie.At-loop Inv-loop μ-loop → tie.Start Inv-loop μ-loop
 Begin c = c .before .before .before .before .before
 
 loop-holds : tie.Need-loop-holds Inv-loop μ-loop
-loop-holds c = (omega arith, refl, stored-none nan (fluidAnswerWidth axes) 0 _ _)
+loop-holds c = (omega arith, refl, stored-none nan (inRows (fluidAnswerWidth axes)) 0 _ _)
 
 put-answer-requires : tie.Need-put-answer-requires Inv-loop μ-loop
 put-answer-requires c κs =

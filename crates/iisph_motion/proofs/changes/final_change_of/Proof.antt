@@ -7,7 +7,7 @@ use Rattle.scene_format.specs.Scene.{fluidSize, particle}
 use Rattle.scene_format.specs.SceneOf.{sceneOf}
 use Rattle.scene_format.specs.declared.Kind.the-variants.{Fluid, Boundary}
 use Rattle.scene_index.proofs.ContactLists.{ContactsAre, contacts-are}
-use Rattle.iisph_rows.proofs.RowReads.{row-value}
+use Rattle.iisph_rows.proofs.RowReads.{column-value}
 use Rattle.iisph_rules.specs.Coefficients.{coefficients}
 use Rattle.iisph_rules.specs.Step.{pressureShare}
 use Rattle.iisph_motion.proofs.PressureChanges.{change-made}
@@ -89,7 +89,8 @@ returns c =
     change-made _ (fluid l) (boundary l) _ _ (p .0 .0 .timed .dtIs) _
     (o .pressure-state-of .ensures)
     _
-    (row-value (pressureShare (coefficients (sceneOf (now (Begin l .args .scene)))) _) (p .1 .share) _ (p .0 .1))
+    (column-value (pressureShare (coefficients (sceneOf (now (Begin l .args .scene)))) _) (p .1 .share) (omega arith) _
+    (p .0 .1))
     (v .velocity-change-of .ensures)
     (c .before .fluid-changes .ensures)
     (c .boundary-changes .ensures)

@@ -1,43 +1,42 @@
--- `iisph_passes::traverse::put_coefficients` meets its contract: the stores one after the other are those of the list.
+-- `iisph_passes::traverse::put_coefficients` meets its contract: the stores one after the other are those of the slots.
 -- Assumes nothing.
 use native.Mathlib.Omega.{arith}
-use Prim.Native.Nat.{suc, _+_}
-use mathlib.Core.Path.{_≡_, ap, _∙_}
+use mathlib.Core.Path.{_≡_, refl, ap, _∙_}
 use denote.Ref.{now}
 use lib.ListN.{length, length-set}
-use Rattle.iisph_rows.specs.Rows.{predictedSlot, aiiSlot, diiSlot, pressureSlot}
-use Rattle.scene_format.specs.Format.{axes}
+use Rattle.math.specs.Vector.{coordinates}
+use Rattle.iisph_passes.proofs.Turns.{coefficients-set}
 use borrow.Author.Needs.{needs}
 use Rattle.iisph_passes.proofs.traverse.put_coefficients.Statement.{statement}
 use Rattle.iisph_passes.proofs.traverse.put_coefficients.Tie as tie
 
+abbrev Begin : tie.After-slice-known2 → tie.Start
+Begin c = c .before .before .before .before .before .before
+
 kept : (c : tie.After-slice-known2) → length (c .before .before .put-vector .last .0)
-    ≡ length (now (c .before .before .before .before .before .before .args .work))
+    ≡ length (now (Begin c .args .work))
 kept c = ap length (c .before .before .put-vector .ensures) ∙ simp length-set
-
-slice-write-work-2 : tie.Need-slice-write-work-2
-slice-write-work-2 c = simp length-set (omega arith)
-
-slice-write-work-3 : tie.Need-slice-write-work-3
-slice-write-work-3 c = simp length-set (omega arith)
 
 put-vector-requires : tie.Need-put-vector-requires
 put-vector-requires c κs = simp length-set (omega arith)
 
+slice-write-work-2 : tie.Need-slice-write-work-2
+slice-write-work-2 c = omega (arith, kept c)
+
+slice-write-work-3 : tie.Need-slice-write-work-3
+slice-write-work-3 c = simp length-set (omega (arith, kept c))
+
 slice-write-work-4 : tie.Need-slice-write-work-4
-slice-write-work-4 c = omega (arith, kept c)
+slice-write-work-4 c = simp length-set (omega (arith, kept c))
 
 same-length : tie.Need-same-length
 same-length c = simp length-set (kept c)
 
 returns : tie.Need-returns
 returns c =
-    let k = c .before .before .before .before .before .before .args .k in
-    let e₁ : k + predictedSlot ≡ suc k = omega arith in
-    let e₂ : k + aiiSlot ≡ suc (suc k) = omega arith in
-    let e₃ : k + diiSlot ≡ suc (suc (suc k)) = omega arith in
-    let e₆ : k + pressureSlot axes ≡ suc (suc (suc (suc (suc (suc k))))) = omega arith in
-    rw (c .before .before .put-vector .ensures, e₁, e₂, e₃, e₆)
+    let a = Begin c .args in
+    coefficients-set (a .n) (a .i) (a .pressure) (coordinates (a .c .dii)) (a .c .density)
+    (a .c .«predicted_density») (a .c .aii) (now (a .work)) refl (c .before .before .put-vector .ensures)
 
 pub put-coefficients-spec : {M : Type 1} → statement M
 put-coefficients-spec =
@@ -47,12 +46,18 @@ put-coefficients-spec =
     (λ c. search needs)
     (λ c. search needs)
     (λ c. search needs)
+    (λ c. search needs)
+    (λ c. search needs)
+    put-vector-requires
+    (λ c. search needs)
+    (λ c. search needs)
+    (λ c. search needs)
     slice-write-work-2
+    (λ c. search needs)
     (λ c. search needs)
     (λ c. search needs)
     slice-write-work-3
     (λ c. search needs)
-    put-vector-requires
     (λ c. search needs)
     (λ c. search needs)
     slice-write-work-4

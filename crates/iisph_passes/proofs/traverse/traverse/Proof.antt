@@ -1,5 +1,5 @@
 -- `iisph_passes::traverse::traverse` meets its contract. The loop's invariant: the list is as at entry but for the
--- slots of the first i rows. Assumes nothing.
+-- slots of the first i particles. Assumes nothing.
 use Prim.Native.Nat.{ℕ, _≤_, _-_}
 use mathlib.Core.Path.{_≡_, refl, ap, _∙_}
 use native.Mathlib.Nat.{le-antisymm}
@@ -7,13 +7,11 @@ use native.Mathlib.Omega.{arith}
 use denote.Ref.{now}
 use lib.Ieee.{nan}
 use lib.ListN.{length}
-use lib.Seq.{length-sets}
-use Rattle.scene_format.specs.Format.{axes}
 use Rattle.scene_format.specs.SceneOf.{sceneOf}
-use Rattle.scene_lengths.specs.Lengths.{workWidth}
-use Rattle.iisph_rows.specs.Rows.{stored}
+use Rattle.iisph_rows.specs.Rows.{slotAt}
+use Rattle.lists.specs.Stores.{storedAt}
 use Rattle.iisph_passes.specs.Traverse.{slotOf, rowOf}
-use Rattle.lists.proofs.Stores.{stored-none, stored-next}
+use Rattle.lists.proofs.Stores.{length-slots, stored-none, stored-next}
 use Rattle.iisph_passes.proofs.Traversal.{ready-kept, row-again}
 use borrow.Author.Needs.{needs}
 use Rattle.iisph_passes.proofs.traverse.traverse.Statement.{statement}
@@ -21,7 +19,7 @@ use Rattle.iisph_passes.proofs.traverse.traverse.Tie as tie
 
 abbrev Inv-loop : tie.InvT-loop
 Inv-loop pass scene index n dt gravity work₀ i₀ work i = (i ≤ n) × (length work ≡ length work₀)
-    × (work ≡ stored i (slotOf pass) (rowOf (sceneOf scene) work₀ pass) work₀)
+    × (work ≡ storedAt (slotAt n) i (slotOf pass) (rowOf (sceneOf scene) work₀ pass) work₀)
 
 abbrev μ-loop : tie.MeasureT-loop
 μ-loop pass scene index n dt gravity work₀ i₀ work i = n - i
@@ -30,7 +28,7 @@ abbrev Begin : tie.After-slice-known Inv-loop μ-loop → tie.Start Inv-loop μ-
 Begin c = c .before .before .before
 
 loop-holds : tie.Need-loop-holds Inv-loop μ-loop
-loop-holds c = (omega arith, refl, stored-none nan (workWidth axes) _ _ _)
+loop-holds c = (omega arith, refl, stored-none nan (slotAt _) _ _ _)
 
 update-row-requires : tie.Need-update-row-requires Inv-loop μ-loop
 update-row-requires c κs =
@@ -51,12 +49,12 @@ loop-again c =
     let l = t .before .before .before in
     let a = Begin (l .before) .args in (
       omega arith,
-      ap length (t .update-row .ensures) ∙ simp length-sets (l .loop .inv .1),
-      stored-next nan (workWidth axes) (slotOf (a .pass)) (rowOf (sceneOf (now (a .scene))) (now (a .work)) (a .pass))
+      ap length (t .update-row .ensures) ∙ (length-slots (slotAt (a .n) (l .loop .i)) _ _ _ ∙ l .loop .inv .1),
+      stored-next nan (slotAt (a .n)) (slotOf (a .pass)) (rowOf (sceneOf (now (a .scene))) (now (a .work)) (a .pass))
           (now (a .work)) (l .loop .i) (l .loop .inv .2)
           (t .update-row .ensures
-          ∙ row-again (now (a .scene)) (Begin (l .before) .pre .0 .timed .over .size) (l .loop .i) (l .loop .inv .0)
-          (now (a .work)) (a .pass) (l .loop .inv .2)),
+          ∙ row-again (now (a .scene)) (Begin (l .before) .pre .0 .timed .over .size) (l .loop .i)
+          (t .before .before .loop-test .taken) (now (a .work)) (a .pass) (l .loop .inv .2)),
     )
 
 returns : tie.Need-returns Inv-loop μ-loop
@@ -64,7 +62,7 @@ returns c =
     let l = c .before .loop in
     let a = Begin (c .before .before) .args in
     l .inv .2
-    ∙ ap (λ (k : ℕ). stored k (slotOf (a .pass)) (rowOf (sceneOf (now (a .scene))) (now (a .work)) (a .pass))
+    ∙ ap (λ (k : ℕ). storedAt (slotAt (a .n)) k (slotOf (a .pass)) (rowOf (sceneOf (now (a .scene))) (now (a .work)) (a .pass))
     (now (a .work))) (le-antisymm (l .inv .0) (c .loop-test .left))
 
 pub traverse-spec : {M : Type 1} → statement M

@@ -1,10 +1,11 @@
 -- `iisph_passes::traverse::update_row` meets its contract, pass by pass. Assumes nothing.
+use mathlib.Core.Path.{refl}
 use native.Mathlib.Omega.{arith}
 use denote.Ref.{now}
 use lib.ListN.{length-set}
 use Rattle.scene_format.specs.SceneOf.{sceneOf}
-use Rattle.iisph_passes.proofs.Traversal.{mass-stored, advected-stored, coefficients-stored, quotient-stored}
-use Rattle.iisph_passes.proofs.Traversal.{dij-stored, next-stored, exchange-stored, share-stored}
+use Rattle.iisph_passes.proofs.Turns.{mass-stored, advected-stored, coefficients-stored, quotient-stored}
+use Rattle.iisph_passes.proofs.Turns.{dij-stored, next-stored, exchange-stored, share-stored}
 use Rattle.iisph_passes.proofs.Passes.{coefficients-ready, dij-ready, next-ready}
 use borrow.Author.Needs.{needs}
 use Rattle.iisph_passes.proofs.traverse.update_row.Statement.{statement}
@@ -35,14 +36,14 @@ slice-write-work-4 c =
 returns : tie.Need-returns
 returns c =
     let a = Begin (c .before .before .before) .args in
-    mass-stored (sceneOf (now (a .scene))) (a .i) (now (a .work)) (c .before .enum-told .given .1) (c .mass-of .ensures)
+    mass-stored (sceneOf (now (a .scene))) (a .n) (a .i) (now (a .work)) (c .before .enum-told .given .1) (c .mass-of .ensures)
 
 returns-2 : tie.Need-returns-2
 returns-2 c =
     let v = c .before .before .before .before in
     let a = Begin (v .before .before .before) .args in
-    advected-stored (sceneOf (now (a .scene))) (a .i) (now (a .work)) (v .before .enum-told2 .given .1)
-    (v .advected-of .ensures)
+    advected-stored (sceneOf (now (a .scene))) (a .n) (a .i) (now (a .work)) (v .before .enum-told2 .given .1)
+    (v .advected-of .ensures) refl
     (c .before .before .put-vector .ensures)
 
 returns-3 : tie.Need-returns-3
@@ -50,14 +51,16 @@ returns-3 c =
     let p = c .before .before .before .before in
     let k = p .before in
     let a = Begin (k .before .before .before .before) .args in
-    coefficients-stored (sceneOf (now (a .scene))) (a .i) (now (a .work)) (k .before .before .enum-told3 .given .1)
+    coefficients-stored (sceneOf (now (a .scene))) (a .n) (a .i) (now (a .work)) (k .before .before .enum-told3 .given .1)
     (k .coefficients-of .ensures)
     (p .first-pressure .ensures) (c .before .before .put-coefficients .ensures)
 
 returns-4 : tie.Need-returns-4
 returns-4 c =
-    let a = Begin (c .before .before .before .before) .args in
-    quotient-stored (sceneOf (now (a .scene))) (a .i) (now (a .work)) (c .before .before .enum-told4 .given .1)
+    let b = Begin (c .before .before .before .before) in
+    let a = b .args in
+    quotient-stored (sceneOf (now (a .scene))) (a .n) (a .i) (now (a .work)) (b .pre .0 .0 .timed .over .size)
+    (c .before .before .enum-told4 .given .1)
     (c .quotient-of .ensures)
 
 returns-5 : tie.Need-returns-5
@@ -65,26 +68,30 @@ returns-5 c =
     let v = c .before .before .before .before in
     let b = Begin (v .before .before .before .before) in
     let a = b .args in
-    dij-stored (sceneOf (now (a .scene))) (a .i) (now (a .work)) (b .pre .0 .0 .timed .over .size)
-    (v .before .before .enum-told5 .given .1) (v .dij-pjl-of .ensures)
+    dij-stored (sceneOf (now (a .scene))) (a .n) (a .i) (now (a .work)) (b .pre .0 .0 .timed .over .size)
+    (v .before .before .enum-told5 .given .1) (v .dij-pjl-of .ensures) refl
     (c .before .before .put-vector2 .ensures)
 
 returns-6 : tie.Need-returns-6
 returns-6 c =
     let b = Begin (c .before .before .before .before) in
     let a = b .args in
-    next-stored (sceneOf (now (a .scene))) (a .i) (now (a .work)) (b .pre .0 .0 .timed .over .size)
+    next-stored (sceneOf (now (a .scene))) (a .n) (a .i) (now (a .work)) (b .pre .0 .0 .timed .over .size)
     (c .before .before .enum-told6 .given .1) (c .next-pressure-of .ensures)
 
 returns-7 : tie.Need-returns-7
 returns-7 c =
-    let a = Begin (c .before .before .before) .args in
-    exchange-stored (sceneOf (now (a .scene))) (a .i) (now (a .work)) (c .before .enum-told7 .given .1)
+    let b = Begin (c .before .before .before) in
+    let a = b .args in
+    exchange-stored (sceneOf (now (a .scene))) (a .n) (a .i) (now (a .work)) (b .pre .0 .0 .timed .over .size)
+    (c .before .enum-told7 .given .1)
 
 returns-8 : tie.Need-returns-8
 returns-8 c =
-    let a = Begin (c .before .before .before .before) .args in
-    share-stored (sceneOf (now (a .scene))) (a .i) (now (a .work)) (c .before .before .enum-told8 .given .1)
+    let b = Begin (c .before .before .before .before) in
+    let a = b .args in
+    share-stored (sceneOf (now (a .scene))) (a .n) (a .i) (now (a .work)) (b .pre .0 .0 .timed .over .size)
+    (c .before .before .enum-told8 .given .1)
     (c .share-of .ensures)
 
 pub update-row-spec : {M : Type 1} → statement M
@@ -105,7 +112,6 @@ update-row-spec =
     (λ c. search needs)
     coefficients-of-requires
     (λ c κs. search needs)
-    (λ c. search needs)
     (λ c κs. search needs)
     (λ c. search needs)
     (λ c κs. search needs)

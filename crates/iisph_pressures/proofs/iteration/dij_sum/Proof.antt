@@ -16,7 +16,7 @@ use Rattle.scene_index.specs.Contacts.{ContactReady, overFirst}
 use Rattle.iisph_pressures.proofs.IterationTerms.{dij-step}
 use Rattle.scene_index.proofs.ContactLists.{fold-next}
 use Rattle.scene_index.proofs.Targets.{fluid-named}
-use Rattle.iisph_rows.proofs.RowReads.{row-value}
+use Rattle.iisph_rows.proofs.RowReads.{column-value}
 use Rattle.iisph_pressures.proofs.iteration.dij_sum.Statement.{statement}
 use Rattle.iisph_pressures.proofs.iteration.dij_sum.Tie as tie
 
@@ -45,7 +45,7 @@ here c = Begin c .pre .1 .each (c .before .loop .k) (c .loop-test .taken)
 target-of-requires : tie.Need-target-of-requires Inv-loop μ-loop
 target-of-requires c κs = (Begin c .pre .0 .0 .indexed, here c)
 
--- the row that it names
+-- the particle that it names
 below : (c : tie.After-target-of Inv-loop μ-loop) → c .target-of .result < Begin (c .before) .args .n
 below c =
     let p = Begin (c .before) .pre in
@@ -90,7 +90,7 @@ loop-again c =
           (contactAt (startsOf Fluid (now (a .scene))) (now (a .scene))
           (a .list .at + contactWidth axes * l .k)) (coordinates (l .sum)) (c .add .ensures) (c .before .scale .ensures)
           (v .vector .ensures)
-          (row-value (quotient scene ps) (s .pre .0 .1 .quotients) (t .target-of .result) (below t)
+          (column-value (quotient scene ps) (s .pre .0 .1 .quotients) (omega arith) (t .target-of .result) (below t)
           ∙ ap (quotient scene ps) (t .target-of .ensures))),
     )
 

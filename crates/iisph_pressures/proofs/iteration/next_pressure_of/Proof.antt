@@ -1,9 +1,10 @@
 -- `iisph_pressures::iteration::next_pressure_of` meets its contract: the pressure sum over both kinds of contacts is
--- the rule's, and the row holds what else it takes of the particle. Assumes nothing.
-use Prim.Native.Nat.{_<_}
+-- the rule's, and the work list holds what else it takes of the particle. Assumes nothing.
+use Prim.Native.Nat.{_<_, _≤_}
 use native.Mathlib.Omega.{arith}
 use borrow.Author.Needs.{needs}
 use denote.Ref.{now}
+use Rattle.scene_format.specs.Format.{mostOfAKind}
 use Rattle.scene_format.specs.Scene.{fluidSize, particle}
 use Rattle.scene_format.specs.SceneOf.{sceneOf}
 use Rattle.scene_format.specs.declared.Kind.the-variants.{Fluid, Boundary}
@@ -20,6 +21,9 @@ Row c = c .before .before .before .before
 
 below : (c : tie.Start) → c .args .i < fluidSize (sceneOf (now (c .args .scene)))
 below c = omega (arith, c .pre .0 .0 .over .size, c .pre .0 .1)
+
+few : (c : tie.Start) → c .args .n ≤ mostOfAKind
+few c = omega (arith, c .pre .0 .0 .over .size, c .pre .0 .0 .over .indexed .fewFluid)
 
 fluid : (c : tie.After-contacts-of2)
     → let b = now (Begin c .args .scene) in
@@ -42,10 +46,16 @@ contacts-of-requires-2 c κs =
     (s .pre .0 .0 .over .indexed, below s)
 
 mul-row : tie.Need-mul-row
-mul-row c = omega (arith, Begin c .pre .0 .0 .over .indexed .fewFluid, below (Begin c))
+mul-row c = omega (arith, few (Begin c), Begin c .pre .0 .1)
 
 mul-rho : tie.Need-mul-rho
-mul-rho c = omega (arith, Begin c .pre .0 .0 .over .indexed .fewFluid, below (Begin c))
+mul-rho c = omega (arith, few (Begin c))
+
+add-rho : tie.Need-add-rho
+add-rho c = omega (arith, few (Begin c), Begin c .pre .0 .1)
+
+mul-rho-2 : tie.Need-mul-rho-2
+mul-rho-2 c = omega (arith, few (Begin c), Begin c .pre .0 .1)
 
 shared-slice-read-rho : tie.Need-shared-slice-read-rho
 shared-slice-read-rho c =
@@ -55,12 +65,12 @@ shared-slice-read-rho c =
 add-pressure : tie.Need-add-pressure
 add-pressure c =
     let s = Begin (c .before) in
-    omega (arith, s .pre .0 .0 .over .indexed .fewFluid, below s)
+    omega (arith, few s, s .pre .0 .1)
 
 mul-pressure : tie.Need-mul-pressure
 mul-pressure c =
     let s = Begin (c .before) in
-    omega (arith, s .pre .0 .0 .over .indexed .fewFluid, below s)
+    omega (arith, few s, s .pre .0 .1)
 
 shared-slice-read-pressure : tie.Need-shared-slice-read-pressure
 shared-slice-read-pressure c =
@@ -70,12 +80,12 @@ shared-slice-read-pressure c =
 add-factor : tie.Need-add-factor
 add-factor c =
     let s = Begin (c .before .before) in
-    omega (arith, s .pre .0 .0 .over .indexed .fewFluid, below s)
+    omega (arith, few s, s .pre .0 .1)
 
 mul-factor : tie.Need-mul-factor
 mul-factor c =
     let s = Begin (c .before .before) in
-    omega (arith, s .pre .0 .0 .over .indexed .fewFluid, below s)
+    omega (arith, few s, s .pre .0 .1)
 
 shared-slice-read-factor : tie.Need-shared-slice-read-factor
 shared-slice-read-factor c =
@@ -85,7 +95,7 @@ shared-slice-read-factor c =
 add-vector-at : tie.Need-add-vector-at
 add-vector-at c =
     let s = Begin (c .before .before .before) in
-    omega (arith, s .pre .0 .0 .over .indexed .fewFluid, below s)
+    omega (arith, few s, s .pre .0 .1)
 
 vector-at-requires : tie.Need-vector-at-requires
 vector-at-requires c κs =
@@ -104,30 +114,36 @@ boundary-pressure-sum-requires c κs =
     let p = Begin u .pre in
     ((p .0 .0 .over, p .1), boundary u .ready)
 
+mul-next-from : tie.Need-mul-next-from
+mul-next-from c = omega (arith, few (Begin (Row (c .before .before))))
+
 add-next-from : tie.Need-add-next-from
 add-next-from c =
     let s = Begin (Row (c .before .before)) in
-    omega (arith, s .pre .0 .0 .over .indexed .fewFluid, below s)
+    omega (arith, few s, s .pre .0 .1)
 
-mul-next-from : tie.Need-mul-next-from
-mul-next-from c =
+mul-next-from-2 : tie.Need-mul-next-from-2
+mul-next-from-2 c =
     let s = Begin (Row (c .before .before)) in
-    omega (arith, s .pre .0 .0 .over .indexed .fewFluid, below s)
+    omega (arith, few s, s .pre .0 .1)
 
 shared-slice-read-next-from : tie.Need-shared-slice-read-next-from
 shared-slice-read-next-from c =
     let p = Begin (Row (c .before .before .before)) .pre in
     omega (arith, p .1 .room, p .0 .1)
 
+mul-next-from-3 : tie.Need-mul-next-from-3
+mul-next-from-3 c = omega (arith, few (Begin (Row (c .before .before .before))))
+
 add-next-from-2 : tie.Need-add-next-from-2
 add-next-from-2 c =
     let s = Begin (Row (c .before .before .before)) in
-    omega (arith, s .pre .0 .0 .over .indexed .fewFluid, below s)
+    omega (arith, few s, s .pre .0 .1)
 
-mul-next-from-2 : tie.Need-mul-next-from-2
-mul-next-from-2 c =
+mul-next-from-4 : tie.Need-mul-next-from-4
+mul-next-from-4 c =
     let s = Begin (Row (c .before .before .before)) in
-    omega (arith, s .pre .0 .0 .over .indexed .fewFluid, below s)
+    omega (arith, few s, s .pre .0 .1)
 
 shared-slice-read-next-from-2 : tie.Need-shared-slice-read-next-from-2
 shared-slice-read-next-from-2 c =
@@ -154,6 +170,8 @@ next-pressure-of-spec =
     contacts-of-requires-2
     mul-row
     mul-rho
+    add-rho
+    mul-rho-2
     shared-slice-read-rho
     add-pressure
     mul-pressure
@@ -165,11 +183,13 @@ next-pressure-of-spec =
     vector-at-requires
     fluid-pressure-sum-requires
     boundary-pressure-sum-requires
-    add-next-from
     mul-next-from
-    shared-slice-read-next-from
-    add-next-from-2
+    add-next-from
     mul-next-from-2
+    shared-slice-read-next-from
+    mul-next-from-3
+    add-next-from-2
+    mul-next-from-4
     shared-slice-read-next-from-2
     (λ c κs. search needs)
     returns)

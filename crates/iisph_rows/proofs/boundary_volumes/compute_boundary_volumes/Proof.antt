@@ -12,14 +12,14 @@ use Rattle.scene_format.specs.declared.Kind.the-variants.{Boundary}
 use Rattle.scene_index.specs.Runs.{BoundaryRun}
 use Rattle.scene_index.proofs.Indexes.{number-is, boundaries-are}
 use Rattle.scene_index.proofs.Runs.{boundary-run}
-use Rattle.iisph_rows.specs.Rows.{rowAt}
+use Rattle.iisph_rows.specs.Rows.{volumesAt}
 use Rattle.iisph_rows.proofs.Volumes.{Stored, none-stored, one-more-stored, all-stored}
 use Rattle.iisph_rows.proofs.boundary_volumes.compute_boundary_volumes.Statement.{statement}
 use Rattle.iisph_rows.proofs.boundary_volumes.compute_boundary_volumes.Tie as tie
 
 abbrev Inv-loop : tie.InvT-loop
 Inv-loop scene index n work₀ starts counts keeps number m₀ work m =
-    Stored scene work₀ (rowAt n) m work
+    Stored scene work₀ (volumesAt n) m work
 
 abbrev μ-loop : tie.MeasureT-loop
 μ-loop scene index n work₀ starts counts keeps number m₀ work m = number - m

@@ -1,4 +1,4 @@
--- `iisph_solver::lent::finish` meets its contract: each call finds what it needs in the rows, and what they leave
+-- `iisph_solver::lent::finish` meets its contract: each call finds what it needs in the work list, and what they leave
 -- together is the rules'. Assumes nothing.
 use native.Mathlib.Omega.{arith}
 use lib.Ieee.{nan}
