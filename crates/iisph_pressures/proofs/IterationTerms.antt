@@ -236,7 +236,8 @@ pub next-made : (b : List ℕ) {n : ℕ} {work : List Float} → n ≡ fluidSize
     → (t : Float) → t ≡ dt (sceneOf b) → (d : Vec3) → coordinates d ≡ vectorFrom work (rowAt i + dijSlot)
     → {x y : Float} {r : Next}
     → x ≡ overList b fluid
-    (withTerm (fluid .kind) (sceneOf b) (pressuresIn n work) (dijsIn n work) (fluid .density0) (ownerOf work n i t d)) +0
+    (withTerm (fluid .kind) (sceneOf b) (pressuresIn n work) (dijsIn n work) (fluid .density0)
+    (ownerOf work n i t d)) +0
     → y ≡ overList b boundary
     (withTerm (boundary .kind) (sceneOf b) (pressuresIn n work) (dijsIn n work) (boundary .density0)
     (ownerOf work n i t d)) x
