@@ -24,18 +24,36 @@ use Rattle.iisph_rules.specs.declared.Report.{Report}
 use Rattle.iisph_rules.specs.declared.StepAnswer.{StepAnswer}
 use Rattle.iisph_rules.specs.declared.StepAnswer.the-variants.{Done, Refused}
 use Rattle.scene_lengths.specs.Lengths.{lengthsNeeded, needsAfter, needsOf}
+use Rattle.iisph_solver.specs.Lent.{StepsLent}
 use Rattle.iisph_solver.specs.Step.{Steps}
+use Rattle.iisph_solver.specs.declared.lent.LentAnswer.{LentAnswer}
+use Rattle.iisph_solver.specs.declared.lent.LentAnswer.the-variants.{Answered, ShortIndex}
 use Rattle.iisph_validation.specs.Validate.{Validates}
 use Rattle.scene_lengths.specs.declared.Lengths.{Lengths}
 use Rattle.scene_lengths.specs.declared.Needs.{Needs}
 use Rattle.scene_lengths.specs.declared.Needs.the-variants as needs
 use Rattle.iisph_c.specs.Needs.{needsCode, lengthsAfter, NeedsTo}
-use Rattle.iisph_codes.specs.Numbers.{tooShort, countsNeeded, refusedCode, refusedCounts}
-use Rattle.iisph_codes.specs.Report.{numbersNeeded, reportNumbers}
+use Rattle.iisph_codes.specs.Numbers.{tooShort, shortIndex, countsNeeded, refusedCode, refusedCounts}
+use Rattle.iisph_codes.specs.Report.{numbersNeeded}
 use Rattle.iisph_c.specs.Step.{stepCode, numbersAfter, countsAfter, hasRoom, StepsTo}
+use Rattle.iisph_c.specs.Step.{lentCode, numbersLent, countsLent, LentTo}
 use Rattle.iisph_c.specs.Validate.{validateCode, validateCounts, ValidatesTo}
 
 -- ---- the step
+
+-- whether `numbers` and `counts` have room
+module _ (numbers : List Float) (counts : List ℕ) where
+  numbers-lack : length numbers < numbersNeeded → hasRoom numbers counts ≡ false
+  unfolding hasRoom
+  numbers-lack h = rw (lt-leb numbersNeeded (length numbers) h)
+
+  counts-lack : numbersNeeded ≤ length numbers → length counts < countsNeeded → hasRoom numbers counts ≡ false
+  unfolding hasRoom
+  counts-lack l h = rw (le-leb numbersNeeded (length numbers) l, lt-leb countsNeeded (length counts) h)
+
+  room : numbersNeeded ≤ length numbers → countsNeeded ≤ length counts → hasRoom numbers counts ≡ true
+  unfolding hasRoom
+  room l m = rw (le-leb numbersNeeded (length numbers) l, le-leb countsNeeded (length counts) m)
 
 module _ (b : List ℕ) (answers work numbers : List Float) (counts : List ℕ) where
   -- 99
@@ -46,51 +64,72 @@ module _ (b : List ℕ) (answers work numbers : List Float) (counts : List ℕ) 
 
   pub numbers-short : length numbers < numbersNeeded
       → StepsTo (hasRoom numbers counts) b answers work numbers counts tooShort answers work numbers counts
-  unfolding hasRoom
-  numbers-short h = unchanged (rw (lt-leb numbersNeeded (length numbers) h))
+  numbers-short h = unchanged (numbers-lack numbers counts h)
 
   pub counts-short : numbersNeeded ≤ length numbers → length counts < countsNeeded
       → StepsTo (hasRoom numbers counts) b answers work numbers counts tooShort answers work numbers counts
-  unfolding hasRoom
-  counts-short l h = unchanged (rw (le-leb numbersNeeded (length numbers) l, lt-leb countsNeeded (length counts) h))
+  counts-short l h = unchanged (counts-lack numbers counts l h)
 
-  module _ (l : numbersNeeded ≤ length numbers) (m : countsNeeded ≤ length counts) where
-    room : hasRoom numbers counts ≡ true
-    unfolding hasRoom
-    room = rw (le-leb numbersNeeded (length numbers) l, le-leb countsNeeded (length counts) m)
+  -- the answer is written
+  pub stepped-to : numbersNeeded ≤ length numbers → countsNeeded ≤ length counts
+      → {a : StepAnswer} {answers′ work′ numbers′ : List Float} {n : ℕ} {counts′ : List ℕ}
+      → Steps b answers work a answers′ work′ → n ≡ stepCode a → numbers′ ≡ numbersAfter a numbers
+      → counts′ ≡ countsAfter a counts
+      → StepsTo (hasRoom numbers counts) b answers work numbers counts n answers′ work′ numbers′ counts′
+  unfolding choose
+  stepped-to l m s e f g =
+      let t = room numbers counts l m in
+      record {
+        result = rw t (e ∙ ap stepCode (s .answer));
+        answersThen = rw t (s .answersThen);
+        workThen = rw t (s .workThen);
+        numbersThen = rw t (f ∙ ap (λ (a : StepAnswer). numbersAfter a numbers) (s .answer));
+        countsThen = rw t (g ∙ ap (λ (a : StepAnswer). countsAfter a counts) (s .answer));
+      }
 
-    module _ {a : StepAnswer} {answers′ work′ : List Float} (s : Steps b answers work a answers′ work′) {n : ℕ}
-        {counts′ : List ℕ} where
-      -- 0, 1, 2
-      pub done-to : {r : Report} {numbers′ : List Float} → a ≡ Done r → n ≡ endingNumber (r .ending)
-          → numbers′ ≡ sets numbers 0 (reportNumbers r) → counts′ ≡ set counts 0 (r .iterations)
-          → StepsTo (hasRoom numbers counts) b answers work numbers counts n answers′ work′ numbers′ counts′
-      unfolding choose stepCode numbersAfter countsAfter
-      done-to {r} q e f g =
-          let t : stepAnswer b (length answers) (length work) ≡ Done r = sym (s .answer) ∙ q in
-          record {
-            result = rw (room, t) e;
-            answersThen = rw room (s .answersThen);
-            workThen = rw room
-                (s .workThen);
-            numbersThen = rw (room, t) f;
-            countsThen = rw (room, t) g;
-          }
+-- the same with a lent index
+module _ (b : List ℕ) (answers work : List Float) (index : ℕ) (numbers : List Float) (counts : List ℕ) where
+  unchanged-lent : hasRoom numbers counts ≡ false
+      → LentTo (hasRoom numbers counts) b answers work index numbers counts tooShort answers work numbers counts
+  unfolding choose
+  unchanged-lent h =
+      record { result = rw h; answersThen = rw h; workThen = rw h; numbersThen = rw h; countsThen = rw h }
 
-      -- 100 + n
-      pub refused-to : {r : Refusal} → a ≡ Refused r → n ≡ refusedCode r → counts′ ≡ refusedCounts r counts
-          → StepsTo (hasRoom numbers counts) b answers work numbers counts n answers′ work′ numbers counts′
-      unfolding choose stepCode numbersAfter countsAfter
-      refused-to {r} q e g =
-          let t : stepAnswer b (length answers) (length work) ≡ Refused r = sym (s .answer) ∙ q in
-          record {
-            result = rw (room, t) e;
-            answersThen = rw room (s .answersThen);
-            workThen = rw room
-                (s .workThen);
-            numbersThen = rw (room, t);
-            countsThen = rw (room, t) g;
-          }
+  pub numbers-short-lent : length numbers < numbersNeeded
+      → LentTo (hasRoom numbers counts) b answers work index numbers counts tooShort answers work numbers counts
+  numbers-short-lent h = unchanged-lent (numbers-lack numbers counts h)
+
+  pub counts-short-lent : numbersNeeded ≤ length numbers → length counts < countsNeeded
+      → LentTo (hasRoom numbers counts) b answers work index numbers counts tooShort answers work numbers counts
+  counts-short-lent l h = unchanged-lent (counts-lack numbers counts l h)
+
+  module _ (l : numbersNeeded ≤ length numbers) (m : countsNeeded ≤ length counts) {x : LentAnswer}
+      {answers′ work′ : List Float} (s : StepsLent b answers work index x answers′ work′)
+      {n : ℕ} {counts′ : List ℕ} where
+    lent-to : {numbers′ : List Float} → n ≡ lentCode x → numbers′ ≡ numbersLent x numbers
+        → counts′ ≡ countsLent x counts
+        → LentTo (hasRoom numbers counts) b answers work index numbers counts n answers′ work′ numbers′ counts′
+    unfolding choose
+    lent-to e f g =
+        let t = room numbers counts l m in
+        record {
+          result = rw t (e ∙ ap lentCode (s .answer));
+          answersThen = rw t (s .answersThen);
+          workThen = rw t (s .workThen);
+          numbersThen = rw t (f ∙ ap (λ (a : LentAnswer). numbersLent a numbers) (s .answer));
+          countsThen = rw t (g ∙ ap (λ (a : LentAnswer). countsLent a counts) (s .answer));
+        }
+
+    pub answered-to : {a : StepAnswer} {numbers′ : List Float} → x ≡ Answered a → n ≡ stepCode a
+        → numbers′ ≡ numbersAfter a numbers → counts′ ≡ countsAfter a counts
+        → LentTo (hasRoom numbers counts) b answers work index numbers counts n answers′ work′ numbers′ counts′
+    unfolding lentCode numbersLent countsLent
+    answered-to q e f g = lent-to (rw q e) (rw q f) (rw q g)
+
+    pub short-to : {k : ℕ} → x ≡ ShortIndex k → n ≡ shortIndex → counts′ ≡ set counts 0 k
+        → LentTo (hasRoom numbers counts) b answers work index numbers counts n answers′ work′ numbers counts′
+    unfolding lentCode numbersLent countsLent
+    short-to q e g = lent-to (rw q e) (rw q) (rw q g)
 
 -- ---- whether a step would be refused
 

@@ -1,4 +1,5 @@
--- What `iisph_step` returns, and every element of its four lists afterwards. Definitions only.
+-- What `iisph_step` and `iisph_step_lent` return, and every element of their lists afterwards, but for the index, which
+-- is scratch. Definitions only.
 use Prim.Native.Nat.{ℕ}
 use mathlib.Core.Path.{_≡_}
 use mathlib.Core.Bool.{Bool, _&&_}
@@ -12,7 +13,10 @@ use Rattle.iisph_rules.specs.Answer.{stepAnswer, answersAfter, workAfter}
 use Rattle.iisph_rules.specs.Endings.{endingNumber}
 use Rattle.iisph_rules.specs.declared.StepAnswer.{StepAnswer}
 use Rattle.iisph_rules.specs.declared.StepAnswer.the-variants.{Done, Refused}
-use Rattle.iisph_codes.specs.Numbers.{tooShort, refusedCode, countsRoom, refusedCounts}
+use Rattle.iisph_solver.specs.Lent.{lacksIndex, lentAnswer}
+use Rattle.iisph_solver.specs.declared.lent.LentAnswer.{LentAnswer}
+use Rattle.iisph_solver.specs.declared.lent.LentAnswer.the-variants.{Answered, ShortIndex}
+use Rattle.iisph_codes.specs.Numbers.{tooShort, shortIndex, refusedCode, countsRoom, refusedCounts}
 use Rattle.iisph_codes.specs.Report.{numbersNeeded, reportNumbers}
 
 -- ---- by the step's answer
@@ -46,3 +50,36 @@ pub record StepsTo (room : Bool) (b : List ℕ) (answers work numbers : List Flo
   pub numbersThen : numbers′
       ≡ choose room (numbersAfter (stepAnswer b (length answers) (length work)) numbers) numbers
   pub countsThen : counts′ ≡ choose room (countsAfter (stepAnswer b (length answers) (length work)) counts) counts
+
+-- ---- by the answer of a step that is lent its index
+
+unfoldable pub lentCode : LentAnswer → ℕ
+lentCode (Answered a) = stepCode a
+lentCode (ShortIndex k) = shortIndex
+
+unfoldable pub numbersLent : LentAnswer → List Float → List Float
+numbersLent (Answered a) old = numbersAfter a old
+numbersLent (ShortIndex k) old = old
+
+-- the length needed at 0
+unfoldable pub countsLent : LentAnswer → List ℕ → List ℕ
+countsLent (Answered a) old = countsAfter a old
+countsLent (ShortIndex k) old = set old 0 k
+
+-- as `StepsTo`, with an index of this length
+pub record LentTo (room : Bool) (b : List ℕ) (answers work : List Float) (index : ℕ) (numbers : List Float)
+    (counts : List ℕ) (r : ℕ) (answers′ work′ numbers′ : List Float) (counts′ : List ℕ) : Type 0 where
+  pub result : r ≡ choose room (lentCode (lentAnswer b (length answers) (length work) index)) tooShort
+  pub answersThen : answers′
+      ≡ choose room
+      (choose (lacksIndex b (length answers) (length work) index) answers
+      (answersAfter b (length answers) (length work) answers))
+      answers
+  pub workThen : work′
+      ≡ choose room
+      (choose (lacksIndex b (length answers) (length work) index) work (workAfter b (length answers) (length work) work))
+      work
+  pub numbersThen : numbers′
+      ≡ choose room (numbersLent (lentAnswer b (length answers) (length work) index) numbers) numbers
+  pub countsThen : counts′
+      ≡ choose room (countsLent (lentAnswer b (length answers) (length work) index) counts) counts

@@ -4,23 +4,45 @@ use iisph_codes::COUNTS;
 use iisph_codes::NUMBERS;
 use iisph_codes::TOO_SHORT;
 use iisph_codes::advance_listed;
+use iisph_codes::write_index;
 use iisph_codes::write_kernel;
 use iisph_codes::write_lengths;
 use iisph_codes::write_refusal;
 use iisph_codes::write_report;
 use iisph_preparation::Readiness;
 use iisph_rules::StepAnswer;
+use iisph_solver::lent::LentAnswer;
 use scene_lengths::Needs;
 use scene_lengths::lengths_needed;
+ghost use mathlib.Core.Path.{_≡_};
+ghost use Prim.Native.Nat.{_≤_};
+ghost use lib.ListN.{length};
 ghost use Rattle.cubic_spline.specs.Shape.{weight, slope};
 ghost use Rattle.iisph_codes.specs.Kernel.{KernelTo};
-ghost use Rattle.iisph_c.specs.Step.{hasRoom, StepsTo};
+ghost use Rattle.iisph_codes.specs.Numbers.{countsNeeded};
+ghost use Rattle.iisph_codes.specs.Report.{numbersNeeded};
+ghost use Rattle.iisph_c.specs.Step.{stepCode, numbersAfter, countsAfter, hasRoom, StepsTo, LentTo};
 ghost use Rattle.iisph_c.specs.Keep.{KeepsTo};
 ghost use Rattle.iisph_c.specs.Needs.{NeedsTo};
 ghost use Rattle.iisph_c.specs.Validate.{ValidatesTo};
 
-// One step: 0 unswept, 1 settled, 2 ran out, 100 + n for refusal n, 99 where `numbers` or `counts` is too short. Takes
-// up to 1 MiB of stack.
+// A step's answer: 0 unswept, 1 settled, 2 ran out, 100 + n for refusal n.
+fn write_answer(answer: StepAnswer, numbers: &mut [f64], counts: &mut [u64]) -> u64
+    requires { ⌜ (numbersNeeded ≤ length (now numbers)) × (countsNeeded ≤ length (now counts)) ⌝ }
+    ensures { λ n. ⌜
+        (n ≡ stepCode answer)
+        × (now (numbers .exit) ≡ numbersAfter answer (now (numbers .entry)))
+        × (now (counts .exit) ≡ countsAfter answer (now (counts .entry)))
+        ⌝ }
+{
+    match answer {
+        StepAnswer::Done(report) => write_report(report, numbers, counts),
+        StepAnswer::Refused(refusal) => write_refusal(refusal, counts),
+    }
+}
+
+// One step: what `write_answer` says, 99 where `numbers` or `counts` is too short. Takes up to 1 MiB of stack, by the
+// size of the scene.
 #[no_mangle]
 pub extern "C" fn iisph_step(
     scene: &[u8],
@@ -41,9 +63,35 @@ pub extern "C" fn iisph_step(
     if counts.len() < COUNTS {
         return TOO_SHORT;
     }
-    match iisph_solver::step::step(scene, answers, work) {
-        StepAnswer::Done(report) => write_report(report, numbers, counts),
-        StepAnswer::Refused(refusal) => write_refusal(refusal, counts),
+    let answer = iisph_solver::step::step(scene, answers, work);
+    write_answer(answer, numbers, counts)
+}
+
+// The same with an index that is lent: 98 where that is too short. Takes less than 16 KiB of stack.
+#[no_mangle]
+pub extern "C" fn iisph_step_lent(
+    scene: &[u8],
+    answers: &mut [f64],
+    work: &mut [f64],
+    index: &mut [usize],
+    numbers: &mut [f64],
+    counts: &mut [u64],
+) -> u64
+    ensures { λ r. ⌜
+        LentTo (hasRoom (now (numbers .entry)) (now (counts .entry))) (now (scene .entry)) (now (answers .entry))
+        (now (work .entry)) (length (now (index .entry))) (now (numbers .entry)) (now (counts .entry)) r
+        (now (answers .exit)) (now (work .exit)) (now (numbers .exit)) (now (counts .exit))
+        ⌝ }
+{
+    if numbers.len() < NUMBERS {
+        return TOO_SHORT;
+    }
+    if counts.len() < COUNTS {
+        return TOO_SHORT;
+    }
+    match iisph_solver::lent::step_lent(scene, answers, work, index) {
+        LentAnswer::Answered(answer) => write_answer(answer, numbers, counts),
+        LentAnswer::ShortIndex(needed) => write_index(needed, counts),
     }
 }
 
@@ -88,8 +136,8 @@ pub extern "C" fn iisph_needed(scene: &[u8], counts: &mut [u64]) -> u64
     }
 }
 
-// Whether a step with a long enough answer list would be refused: 0 if not, 100 + n or 99 as there. Takes up to 1 MiB
-// of stack.
+// Whether a step with a long enough answer list would be refused: 0 if not, 100 + n or 99 as there. Takes as much stack
+// as `iisph_step`.
 #[no_mangle]
 pub extern "C" fn iisph_validate(scene: &[u8], work: &mut [f64], counts: &mut [u64]) -> u64
     ensures { λ r. ⌜

@@ -11,6 +11,10 @@ use Rattle.scene_format.specs.declared.Refusal.{Refusal}
 abbrev pub tooShort : ℕ
 tooShort = 99
 
+-- the lent index is too short
+abbrev pub shortIndex : ℕ
+shortIndex = 98
+
 -- refusal n, 1 to 12
 abbrev pub refusedBy : ℕ → ℕ
 refusedBy n = 100 + n

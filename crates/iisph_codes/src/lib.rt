@@ -16,12 +16,15 @@ ghost use lib.Seq.{sets};
 ghost use Rattle.iisph_rules.specs.Endings.{endingNumber};
 ghost use Rattle.timestep_manager.specs.Clock.{advanced};
 ghost use Rattle.iisph_codes.specs.ClockList.{clockNeeded, clockNumbers, clockOf};
-ghost use Rattle.iisph_codes.specs.Numbers.{countsNeeded, refusedCode, refusedCounts};
+ghost use Rattle.iisph_codes.specs.Numbers.{shortIndex, countsNeeded, refusedCode, refusedCounts};
 ghost use Rattle.iisph_codes.specs.Report.{numbersNeeded, reportNumbers};
 ghost use Rattle.iisph_codes.specs.Kernel.{refusalCode, Gives};
 
 // What a call returns that a list is too short for.
 pub const TOO_SHORT: u64 = 99;
+
+// What a call returns whose index is too short.
+const SHORT_INDEX: u64 = 98;
 
 // How many elements `counts` and `numbers` must have.
 pub const COUNTS: usize = 2;
@@ -43,6 +46,15 @@ pub fn write_refusal(refusal: Refusal, counts: &mut [u64]) -> u64
 {
     counts[1] = scene_format::place(refusal) as u64;
     REFUSED + scene_format::number(refusal) as u64
+}
+
+// How long the index must be.
+pub fn write_index(needed: usize, counts: &mut [u64]) -> u64
+    requires { ⌜ countsNeeded ≤ length (now counts) ⌝ }
+    ensures { λ n. ⌜ (n ≡ shortIndex) × (now (counts .exit) ≡ set (now (counts .entry)) 0 needed) ⌝ }
+{
+    counts[0] = needed as u64;
+    SHORT_INDEX
 }
 
 // How long the lists must be.

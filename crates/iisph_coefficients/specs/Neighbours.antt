@@ -1,6 +1,6 @@
 -- What a contact names, as the code reads it: its mass and its velocity, by the kind of particle; the sums over a list
--- of contacts; and a particle's coefficients as the code has them and as the work list holds them. Scaffolding: no promise
--- rests on it. Definitions only.
+-- of contacts; and a particle's coefficients as the code has them and as the work list holds them. Scaffolding: no
+-- promise rests on it. Definitions only.
 use Prim.Native.Nat.{ℕ}
 use mathlib.Core.Path.{_≡_}
 use mathlib.Core.List.{List, [], _∷_, _++_}

@@ -54,7 +54,7 @@ fn fluid_changes(
         let j = target_of(scene, index, Kind::Fluid, c);
         let row = ROW * j;
         let m = work[row + MASS];
-        let share = work[row + SHARE];
+        let share = work[SHARE * n + j];
         change = change.sub(read::vector(scene, c + CONTACT_GRADIENT).scale(
             dt * m * (own + share),
         ));

@@ -1,4 +1,5 @@
--- What a pass leaves in the work list: its slots, beside other slots and the volumes, and all else as it was; and what the pass at hand finds there. From the laws of stores, for every pass at once. Assumes nothing.
+-- What a pass leaves in the work list: its slots, beside other slots and the volumes, and all else as it was; and
+-- what the pass at hand finds there. From the laws of stores, for every pass at once. Assumes nothing.
 use Prim.Native.Nat.{ℕ, _+_, _<_, _≤_}
 use mathlib.Core.Path.{_≡_, subst}
 use mathlib.Core.List.{List}

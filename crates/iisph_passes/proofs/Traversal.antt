@@ -1,7 +1,7 @@
--- The passes over the fluid particles, case by case: how many values each stores of a particle, and that what it needs of
--- the list stays while it stores, since it stores other slots. Each case cites the laws of stores. Assumes nothing.
+-- The passes over the fluid particles, case by case: how many values each stores of a particle, and that what it needs
+-- of the list stays while it stores, since it stores other slots. Each case cites the laws of stores. Assumes nothing.
 use Prim.Native.Nat.{ℕ, _+_, _*_, _<_, _≤_}
-use mathlib.Core.Path.{_≡_, refl, sym, ap, _∙_}
+use mathlib.Core.Path.{_≡_, refl, ap, _∙_}
 use mathlib.Core.Logic.{_⊎_, inl, inr, ⊎-elim}
 use mathlib.Core.List.{List, [], _∷_}
 use native.Mathlib.Omega.{arith}

@@ -48,8 +48,8 @@ module _ (n i : ℕ) where
       ap (λ (k : ℕ). sets (set l (rowAt i + pressureSlot axes) p) k d) next
       ∙ sym (row-set n i (pressureSlot axes) (p ∷ d) l (omega arith))
 
-  pub coefficients-set : (p : Float) (d : Vector) (x y z : Float) (l : List Float) {after : List Float} → length d ≡ axes
-      → after ≡ sets (set l (rowAt i + pressureSlot axes) p) (rowAt i + diiSlot axes) d
+  pub coefficients-set : (p : Float) (d : Vector) (x y z : Float) (l : List Float) {after : List Float}
+      → length d ≡ axes → after ≡ sets (set l (rowAt i + pressureSlot axes) p) (rowAt i + diiSlot axes) d
       → set (set (set after (densitySlot axes * n + i) x) (predictedSlot axes * n + i) y) (aiiSlot axes * n + i) z
       ≡ setSlots n i (pressureSlot axes) (p ∷ (d ++ (x ∷ y ∷ z ∷ []))) l
   coefficients-set p d x y z l {after} long e =

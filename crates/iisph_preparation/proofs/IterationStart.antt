@@ -1,8 +1,9 @@
 -- The work list before the iterations holds what they need: each coefficient in its slot, the first pressures, masses
--- and volumes. What the coefficients' pass stores is taken apart slot by slot; all else stays while it is stored. Assumes nothing.
+-- and volumes. What the coefficients' pass stores is taken apart slot by slot; all else stays while it is stored.
+-- Assumes nothing.
 use Prim.Native.Nat.{ℕ, suc, _+_, _<_, _≤_}
 use mathlib.Core.Path.{_≡_, refl, sym}
-use mathlib.Core.List.{List, [], _∷_, _++_}
+use mathlib.Core.List.{List, [], _∷_}
 use mathlib.Core.Logic.{inl}
 use native.Mathlib.Omega.{arith}
 use lib.Ieee.{Float, nan}

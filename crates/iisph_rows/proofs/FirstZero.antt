@@ -1,5 +1,5 @@
--- The first zero of a list of doubles: what a loop knows after some elements. By induction on the elements passed. Assumes
--- nothing.
+-- The first zero of a list of doubles: what a loop knows after some elements. By induction on the elements passed.
+-- Assumes nothing.
 use Prim.Native.Nat.{ℕ, zero, suc, _<_}
 use mathlib.Core.Path.{_≡_, refl, ap}
 use mathlib.Core.Bool.{Bool, true, false}

@@ -1,5 +1,5 @@
--- Where the work list's stores go: slots within a row are a run of elements, a slot that is a column is one element; and
--- no two slots stand in one place. Each is the law of the addressing, at the width of a row. Assumes nothing.
+-- Where the work list's stores go: slots within a row are a run of elements, a slot that is a column is one element;
+-- and no two slots stand in one place. Each is the law of the addressing, at the width of a row. Assumes nothing.
 use Prim.Native.Nat.{ℕ, _+_, _*_, _<_, _≤_}
 use mathlib.Core.Path.{_≡_, ap, _∙_}
 use mathlib.Core.List.{List, [], _∷_}

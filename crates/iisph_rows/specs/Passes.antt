@@ -1,5 +1,5 @@
--- What a pass may rely on and what the first passes store in the work list, by the rules. Scaffolding: no promise rests on
--- it. Definitions only.
+-- What a pass may rely on and what the first passes store in the work list, by the rules. Scaffolding: no promise rests
+-- on it. Definitions only.
 use Prim.Native.Nat.{ℕ, _+_, _≤_}
 use mathlib.Core.Path.{_≡_}
 use mathlib.Core.List.{List, [], _∷_}

@@ -1,5 +1,5 @@
--- The work list of a step: for each of n fluid particles a row of doubles, what a contact reads together of the particle
--- that it names; then columns of n doubles, each of which is read alone; then the volume of each boundary particle. A
+-- The work list of a step: for each of n fluid particles a row of doubles, what a contact reads together of the
+-- particle that it names; then columns of n doubles, each read alone; then the volume of each boundary particle. A
 -- pass stores some slots of every particle, one particle after the other; what later passes need of the list is said
 -- slot by slot. Scaffolding: no promise rests on it. Definitions only.
 use Prim.Native.Nat.{ℕ, _+_, _*_}

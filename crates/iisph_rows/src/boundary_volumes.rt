@@ -91,7 +91,9 @@ pub fn compute_boundary_volumes(
 )
     requires { ⌜ Indexed (now scene) (now index) × Passed (now scene) layout ⌝ }
     requires { ⌜ (n ≡ fluidSize (sceneOf (now scene))) × Room (sceneOf (now scene)) n (now work) ⌝ }
-    ensures { λ _. ⌜ now (work .exit) ≡ sets (now (work .entry)) (volumesAt n) (volumes (sceneOf (now (scene .entry)))) ⌝ }
+    ensures { λ _. ⌜
+        now (work .exit) ≡ sets (now (work .entry)) (volumesAt n) (volumes (sceneOf (now (scene .entry))))
+        ⌝ }
 {
     let boundaries = layout.boundaries;
     let starts = boundaries.starts;

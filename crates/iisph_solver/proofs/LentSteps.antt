@@ -10,16 +10,13 @@ use lib.Ieee.{Float}
 use lib.ListN.{length}
 use borrow.Author.Tests.{lt-ltb, le-ltb, ltb-true, lt-leb}
 use Rattle.lists.specs.Lists.{choose}
-use Rattle.scene_check.specs.Check.{Passed}
 use Rattle.scene_check.specs.Walk.{checked}
 use Rattle.scene_check.proofs.Early.{refused-early}
 use Rattle.scene_format.specs.Refusals.{numberOf}
 use Rattle.scene_format.specs.declared.Refusal.{Refusal}
 use Rattle.scene_format.specs.declared.Refusal.the-variants.{ShortList}
 use Rattle.scene_format.specs.declared.Walk.the-variants as walk
-use Rattle.scene_index.specs.Index.{indexNeeded, longestIndex}
-use Rattle.scene_index.proofs.Indexes.{index-few}
-use Rattle.scene_layout.specs.declared.Layout.{Layout}
+use Rattle.scene_index.specs.Index.{indexNeeded}
 use Rattle.iisph_rules.specs.Answer.{stepAnswer, LongEnough, answersAfter, clearsWork, workAfter}
 use Rattle.iisph_rules.specs.declared.StepAnswer.{StepAnswer}
 use Rattle.iisph_rules.specs.declared.StepAnswer.the-variants.{Refused}
@@ -145,6 +142,6 @@ module _ {b : List ℕ} {answers work : List Float} {index : ℕ} {l : LentAnswe
       let p = short e in
       rw (← p .2, ← p .3) s
 
-  -- the longest index is not too short
-  pub not-longest : {layout : Layout} → Passed b layout → {k : ℕ} → l ≡ ShortIndex k → longestIndex ≤ index → ⊥
-  not-longest passed e h = omega (arith, short e .1, index-few passed)
+  -- an index that is long enough is not too short
+  pub not-short : {k : ℕ} → l ≡ ShortIndex k → indexNeeded b ≤ index → ⊥
+  not-short e h = omega (arith, short e .1)

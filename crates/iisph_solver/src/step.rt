@@ -7,14 +7,11 @@ use iisph_rules::StepAnswer;
 use scene_check::Verdict;
 use scene_check::check;
 use scene_index::index::LONGEST_INDEX;
+use scene_index::index::MIDDLE_INDEX;
+use scene_index::index::SMALL_INDEX;
 use scene_layout::Layout;
 ghost use Rattle.scene_check.specs.Check.{Passed};
 ghost use Rattle.iisph_solver.specs.Step.{Steps};
-
-// For a hundred particles, and for two thousand.
-const SMALL_INDEX: usize = 256;
-
-const MIDDLE_INDEX: usize = 4096;
 
 // With the longest index, 770 KiB, which no accepted scene finds too short. A compiler puts no function that calls
 // itself in the place of its call; so this one stays apart, and its index takes no stack unless it is called.

@@ -6,10 +6,15 @@ use iisph_lines::lines::put_refused;
 use iisph_lines::lines::put_step;
 use iisph_rules::Report;
 use iisph_rules::StepAnswer;
-use iisph_solver::step::step_accepted;
+use iisph_solver::lent::LentAnswer;
+use iisph_solver::lent::step_accepted;
 use scene_check::Verdict;
 use scene_check::check;
 use scene_format::Kind;
+use scene_format::Refusal;
+use scene_format::format::MAX_MODELS;
+use scene_index::index::FLUID_BASES;
+use scene_index::index::MODEL_BLOCKS;
 use scene_layout::Layout;
 use scene_lengths::ANSWER_WIDTH;
 ghost use mathlib.Core.List.{_++_};
@@ -18,8 +23,14 @@ ghost use lib.ListN.{length};
 ghost use Rattle.iisph_lines.specs.Lines.{stepLine, clockLine, particlesText};
 ghost use Rattle.lists.specs.Stores.{Writes};
 ghost use Rattle.scene_check.specs.Check.{Passed};
+ghost use Rattle.iisph_solver.specs.Step.{Steps};
 ghost use Rattle.iisph_text.specs.Text.{mostBytes};
 ghost use Rattle.iisph_text.specs.Run.{textRoom, LinesReady, Runs};
+
+// Long enough for the index of every scene that is read: a particle takes no more numbers of it than it has answers.
+const MOST_ANSWERS: usize = 4096;
+
+const ENOUGH_INDEX: usize = FLUID_BASES + 2 * (MODEL_BLOCKS * MAX_MODELS) + MOST_ANSWERS;
 
 // The text of a step that is done on a scene with this layout, with its answers in front of the list.
 fn put_done(layout: Layout, answers: &[f64], report: Report, out: &mut [u8]) -> usize
@@ -45,6 +56,21 @@ fn put_done(layout: Layout, answers: &[f64], report: Report, out: &mut [u8]) -> 
     )
 }
 
+// A step on an accepted scene that is short enough, with an index of its own.
+fn step_short(scene: &[u8], layout: Layout, answers: &mut [f64], work: &mut [f64]) -> StepAnswer
+    requires { ⌜ Passed (now scene) layout × (length (now scene) ≤ mostBytes) ⌝ }
+    ensures { λ r. ⌜
+        Steps (now (scene .entry)) (now (answers .entry)) (now (work .entry)) r (now (answers .exit)) (now (work .exit))
+        ⌝ }
+{
+    let mut index = [0usize; ENOUGH_INDEX];
+    match step_accepted(scene, layout, answers, work, &mut index) {
+        LentAnswer::Answered(answer) => answer,
+        // Never: the index is long enough for every such scene.
+        LentAnswer::ShortIndex(_) => StepAnswer::Refused(Refusal::ShortList),
+    }
+}
+
 // The text of an accepted scene that is short enough.
 fn put_accepted(
     scene: &[u8],
@@ -60,7 +86,7 @@ fn put_accepted(
         r (now (answers .exit)) (now (work .exit)) (now (out .exit))
         ⌝ }
 {
-    let answer = step_accepted(scene, layout, answers, work);
+    let answer = step_short(scene, layout, answers, work);
     match answer {
         StepAnswer::Done(report) => put_done(layout, answers, report, out),
         StepAnswer::Refused(refusal) => put_refused(out, 0, refusal),

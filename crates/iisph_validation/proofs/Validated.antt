@@ -17,7 +17,11 @@ use Rattle.scene_format.specs.declared.Refusal.the-variants.{ShortList}
 use Rattle.scene_format.specs.declared.Walk.the-variants as walk
 use Rattle.iisph_rules.specs.Step.{sceneAnswer}
 use Rattle.iisph_preparation.specs.Prepare.{workPrepared, readiness}
-use Rattle.iisph_validation.specs.Validate.{Validates}
+use Rattle.scene_index.specs.Index.{indexNeeded}
+use Rattle.iisph_validation.specs.Validate.{Validates, ValidatesLent}
+use Rattle.iisph_validation.specs.declared.LentReadiness.{LentReadiness}
+use Rattle.iisph_validation.specs.declared.LentReadiness.the-variants.{Answered, ShortIndex}
+use Rattle.iisph_preparation.specs.declared.Readiness.{Readiness}
 use Rattle.iisph_preparation.specs.declared.Readiness.the-variants.{Ready, Refused}
 use Rattle.iisph_rules.proofs.Cases.{refused-answer, short-work, scene-answer, work-refused, work-short}
 use Rattle.iisph_rules.proofs.Cases.{work-cleared}
@@ -68,3 +72,22 @@ module _ (b : List ℕ) (work : List Float) where
           list = w ∙ rw (n, p, beyond b work Ready)
               (sym (work-cleared b (answersNeeded (sceneOf b)) (length work) s work));
         }
+
+-- ---- over one that is lent its index
+
+module _ {b : List ℕ} {work after : List Float} {index : ℕ} {l : LentReadiness}
+    (lent : ValidatesLent b work index l after) where
+  pub this-size : {r : Readiness} → l ≡ Answered r → Validates b work r after
+  unfolding ValidatesLent
+  this-size e = rw e at lent
+
+  short : l ≡ ShortIndex → (index < indexNeeded b) × (after ≡ work)
+  unfolding ValidatesLent
+  short e = rw e at lent
+
+  pub next-size : l ≡ ShortIndex → {r : Readiness} {after′ : List Float} → Validates b after r after′
+      → Validates b work r after′
+  next-size e v = rw (← short e .1) v
+
+  pub not-short : l ≡ ShortIndex → indexNeeded b ≤ index → ⊥
+  not-short e h = omega (arith, short e .0)

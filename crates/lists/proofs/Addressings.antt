@@ -1,5 +1,5 @@
--- Where the slots of rows stand: no two in one place, all within the elements of n rows of w slots. Shown of rows of one
--- width, and of rows with columns behind them for every width and number of rows, by dividing. Assumes nothing.
+-- Where the slots of rows stand: no two in one place, all within the elements of n rows of w slots. Shown of rows of
+-- one width, and of rows with columns behind them for every width and number of rows, by dividing. Assumes nothing.
 use Prim.Native.Nat.{ℕ, suc, _+_, _*_, _<_, _≤_}
 use mathlib.Core.Path.{_≡_, refl, sym, ap, _∙_}
 use mathlib.Core.Bool.{Bool, true, false}

@@ -157,7 +157,8 @@ module _ {A : Type 0} (d : A) (at : ℕ → ℕ → ℕ) (k : ℕ) (f : ℕ → 
         (λ q.
         ap (λ (x : ℕ). getD (setSlots (at n) k (f n) s) (at x (k + e)) d) q
         ∙ slots-in (at n) d w (λ x y hx hy u. places .apart m hx m hy u .1) (f n) s k e
-        (λ x hx. omega (arith, length-stored n, places .within m hx)) (omega (arith, wide n m)) (omega (arith, wide n m))
+        (λ x hx. omega (arith, length-stored n, places .within m hx)) (omega (arith, wide n m))
+        (omega (arith, wide n m))
         ∙ ap (λ (x : ℕ). getD (f x) e d) (sym q))
         (λ b. absurd (omega arith))
 

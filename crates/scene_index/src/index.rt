@@ -40,7 +40,11 @@ pub const BOUNDARY_RECORDS: usize = 3;
 
 pub const FLUID_BASES: usize = 4;
 
-// No accepted scene needs a longer index.
+// Three sizes for an index on the stack: for a hundred particles, for two thousand, and for every accepted scene.
+pub const SMALL_INDEX: usize = 256;
+
+pub const MIDDLE_INDEX: usize = 4096;
+
 pub const LONGEST_INDEX: usize = FLUID_BASES + 2 * (MODEL_BLOCKS * MAX_MODELS) + 3 * MAX_OF_A_KIND;
 
 // Where the sections of an index begin, and how long it is.

@@ -42,7 +42,8 @@ found-2 : (c : tie.After-known-told2)
     (c .before .predicted .given .0 .0)
 found-2 c = sym (c .before .predicted .given .1) ∙ c .before .before .before .first-zero2 .ensures
 
-nothing-2 : (c : tie.After-enum-told2) → None (Begin (c .before .before .before .before .before .before)) (predictedSlot axes)
+nothing-2 : (c : tie.After-enum-told2)
+    → None (Begin (c .before .before .before .before .before .before)) (predictedSlot axes)
 nothing-2 c = sym (c .enum-told2 .given .1) ∙ c .before .before .first-zero2 .ensures
 
 record-of-requires : tie.Need-record-of-requires

@@ -61,11 +61,14 @@ mul-m c = omega (arith, below c)
 shared-slice-read-m : tie.Need-shared-slice-read-m Inv-loop μ-loop
 shared-slice-read-m c = omega (arith, below (c .before))
 
+mul-share : tie.Need-mul-share Inv-loop μ-loop
+mul-share c = omega (arith, below (c .before))
+
 add-share : tie.Need-add-share Inv-loop μ-loop
 add-share c = omega (arith, below (c .before))
 
-mul-share : tie.Need-mul-share Inv-loop μ-loop
-mul-share c = omega (arith, below (c .before))
+mul-share-2 : tie.Need-mul-share-2 Inv-loop μ-loop
+mul-share-2 c = omega (arith, below (c .before))
 
 shared-slice-read-share : tie.Need-shared-slice-read-share Inv-loop μ-loop
 shared-slice-read-share c = omega (arith, below (c .before .before))
@@ -108,8 +111,9 @@ fluid-changes-spec =
     add-m
     mul-m
     shared-slice-read-m
-    add-share
     mul-share
+    add-share
+    mul-share-2
     shared-slice-read-share
     (λ c. search needs)
     vector-requires

@@ -62,8 +62,9 @@ returns c =
     let l = c .before .loop in
     let a = Begin (c .before .before) .args in
     l .inv .2
-    ∙ ap (λ (k : ℕ). storedAt (slotAt (a .n)) k (slotOf (a .pass)) (rowOf (sceneOf (now (a .scene))) (now (a .work)) (a .pass))
-    (now (a .work))) (le-antisymm (l .inv .0) (c .loop-test .left))
+    ∙ ap (λ (k : ℕ). storedAt (slotAt (a .n)) k (slotOf (a .pass))
+    (rowOf (sceneOf (now (a .scene))) (now (a .work)) (a .pass)) (now (a .work)))
+    (le-antisymm (l .inv .0) (c .loop-test .left))
 
 pub traverse-spec : {M : Type 1} → statement M
 traverse-spec =

@@ -36,7 +36,8 @@ slice-write-work-4 c =
 returns : tie.Need-returns
 returns c =
     let a = Begin (c .before .before .before) .args in
-    mass-stored (sceneOf (now (a .scene))) (a .n) (a .i) (now (a .work)) (c .before .enum-told .given .1) (c .mass-of .ensures)
+    mass-stored (sceneOf (now (a .scene))) (a .n) (a .i) (now (a .work)) (c .before .enum-told .given .1)
+    (c .mass-of .ensures)
 
 returns-2 : tie.Need-returns-2
 returns-2 c =
@@ -51,8 +52,8 @@ returns-3 c =
     let p = c .before .before .before .before in
     let k = p .before in
     let a = Begin (k .before .before .before .before) .args in
-    coefficients-stored (sceneOf (now (a .scene))) (a .n) (a .i) (now (a .work)) (k .before .before .enum-told3 .given .1)
-    (k .coefficients-of .ensures)
+    coefficients-stored (sceneOf (now (a .scene))) (a .n) (a .i) (now (a .work))
+    (k .before .before .enum-told3 .given .1) (k .coefficients-of .ensures)
     (p .first-pressure .ensures) (c .before .before .put-coefficients .ensures)
 
 returns-4 : tie.Need-returns-4

@@ -1,5 +1,5 @@
--- `iisph_rows::zeros::first_zero` meets its contract. The loop's invariant: no particle before i has a zero in the column.
--- Assumes nothing.
+-- `iisph_rows::zeros::first_zero` meets its contract. The loop's invariant: no particle before i has a zero in the
+-- column. Assumes nothing.
 use Prim.Native.Nat.{_+_, _*_, _≤_, _-_}
 use mathlib.Core.Path.{sym, _∙_}
 use native.Mathlib.Nat.{not-suc-le-zero}

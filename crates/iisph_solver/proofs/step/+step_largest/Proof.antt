@@ -1,12 +1,14 @@
 -- `iisph_solver::step::step_largest` meets its contract: its index is long enough for every accepted scene, so it does
 -- not call itself. Assumes nothing.
 use Prim.Native.Nat.{ℕ, _<_}
+use native.Mathlib.Omega.{arith}
 use borrow.Author.Needs.{needs}
 use borrow.Fn.Kinds.{In}
 use borrow.Fn.PlainCycle.{Measures, is, falls, and}
 use Rattle.iisph_preparation.proofs.Prepared.{long}
 use Rattle.scene_index.specs.Index.{longestIndex}
-use Rattle.iisph_solver.proofs.LentSteps.{this-size, not-longest}
+use Rattle.scene_index.proofs.Indexes.{index-few}
+use Rattle.iisph_solver.proofs.LentSteps.{this-size, not-short}
 use Rattle.iisph_solver.proofs.lent.step_accepted.Reads as step-accepted-reads
 use Rattle.iisph_solver.proofs.step.step_largest.Reads as step-largest
 use Rattle.iisph_solver.proofs.step.step_largest.Kinds as step-largest-kinds
@@ -36,7 +38,9 @@ step-largest-requires t c κs =
     let told = c .before .before in
     let s = told .before .before .before .before .before .before .before in
     let b = s .before .before .before .before .before .before .before in
-    absurd (not-longest (s .step-accepted .ensures) (b .pre .1) (told .enum-told .given .1) (long longestIndex))
+    absurd
+    (not-short (s .step-accepted .ensures) (told .enum-told .given .1)
+    (omega (arith, index-few (b .pre .1), long longestIndex)))
 
 returns : (t : ℕ)
     → lts.Need-returns
@@ -52,7 +56,9 @@ returns-2 t c =
     let told = c .before .before .before .before .before .before .before in
     let s = told .before .before .before .before .before .before .before in
     let b = s .before .before .before .before .before .before .before in
-    absurd (not-longest (s .step-accepted .ensures) (b .pre .1) (told .enum-told .given .1) (long longestIndex))
+    absurd
+    (not-short (s .step-accepted .ensures) (told .enum-told .given .1)
+    (omega (arith, index-few (b .pre .1), long longestIndex)))
 
 pub +step-largest-spec : {M : Type 1} → statement M
 +step-largest-spec =
