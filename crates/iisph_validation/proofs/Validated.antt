@@ -1,7 +1,7 @@
 -- Validating a scene answers and leaves the work list as a step does that is refused, or that is done: by the cases of
 -- `stepAnswer`. Refusals 1 to 8 leave the list alone, and what comes after them clears it. Assumes nothing.
 use Prim.Native.Nat.{ℕ, _≤_, _<_}
-use mathlib.Core.Path.{_≡_, sym, ap, _∙_}
+use mathlib.Core.Path.{_≡_, refl, sym, ap, subst, _∙_}
 use mathlib.Core.List.{List, _++_}
 use native.Mathlib.Omega.{arith}
 use lib.Ieee.{Float}
@@ -75,19 +75,23 @@ module _ (b : List ℕ) (work : List Float) where
 
 -- ---- over one that is lent its index
 
+module _ (b : List ℕ) (work : List Float) (index : ℕ) where
+  pub answered-lent : {x : Readiness} {after : List Float} → Validates b work x after
+      → ValidatesLent b work index (Answered x) after
+  answered-lent {x} {after} v =
+      record {
+        answered = λ r e. let q : x ≡ r = cc in subst (λ r. Validates b work r after) q v;
+        short = λ e. let z : _≡_ {A = ℕ} 0 1 = cc in absurd (omega arith);
+      }
+
+  pub short-lent : index < indexNeeded b → ValidatesLent b work index ShortIndex work
+  short-lent h =
+      record { answered = λ r e. let z : _≡_ {A = ℕ} 0 1 = cc in absurd (omega arith); short = λ e. (h, refl) }
+
 module _ {b : List ℕ} {work after : List Float} {index : ℕ} {l : LentReadiness}
-    (lent : ValidatesLent b work index l after) where
-  pub this-size : {r : Readiness} → l ≡ Answered r → Validates b work r after
-  unfolding ValidatesLent
-  this-size e = rw e at lent
+    (lent : ValidatesLent b work index l after) (e : l ≡ ShortIndex) where
+  pub next-size : {r : Readiness} {after′ : List Float} → Validates b after r after′ → Validates b work r after′
+  next-size {r} {after′} v = subst (λ w. Validates b w r after′) (lent .short e .1) v
 
-  short : l ≡ ShortIndex → (index < indexNeeded b) × (after ≡ work)
-  unfolding ValidatesLent
-  short e = rw e at lent
-
-  pub next-size : l ≡ ShortIndex → {r : Readiness} {after′ : List Float} → Validates b after r after′
-      → Validates b work r after′
-  next-size e v = rw (← short e .1) v
-
-  pub not-short : l ≡ ShortIndex → indexNeeded b ≤ index → ⊥
-  not-short e h = omega (arith, short e .0)
+  pub not-short : indexNeeded b ≤ index → ⊥
+  not-short h = omega (arith, lent .short e .0)

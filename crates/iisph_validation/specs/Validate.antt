@@ -21,6 +21,7 @@ pub record Validates (b : List ℕ) (work : List Float) (r : Readiness) (after :
 
 -- ---- scaffolding: with an index of this length, which is too short or not
 
-unfoldable pub ValidatesLent : List ℕ → List Float → ℕ → LentReadiness → List Float → Type 0
-ValidatesLent b work index (Answered r) after = Validates b work r after
-ValidatesLent b work index ShortIndex after = (index < indexNeeded b) × (after ≡ work)
+pub record ValidatesLent (b : List ℕ) (work : List Float) (index : ℕ) (l : LentReadiness) (after : List Float)
+    : Type 0 where
+  pub answered : (r : Readiness) → l ≡ Answered r → Validates b work r after
+  pub short : l ≡ ShortIndex → (index < indexNeeded b) × (after ≡ work)

@@ -1,0 +1,35 @@
+-- `iisph_validation::validate_small` meets its contract: by whether the index was long enough. Assumes nothing.
+use borrow.Author.Needs.{needs}
+use Rattle.iisph_validation.proofs.Validated.{next-size}
+use Rattle.iisph_validation.proofs.validate_small.Statement.{statement}
+use Rattle.iisph_validation.proofs.validate_small.Tie as tie
+
+validate-middle-requires : tie.Need-validate-middle-requires
+validate-middle-requires c κs =
+    c .before .before .before .before .before .before .before .before .before .before .before .pre
+
+returns : tie.Need-returns
+returns c =
+    let a = c .before in
+    a .before .before .before .before .before .validate-accepted .ensures .answered _ (a .answer .given .1)
+
+returns-2 : tie.Need-returns-2
+returns-2 c =
+    let s = c .before .before in
+    let t = s .before .before in
+    next-size (t .before .before .before .before .before .validate-accepted .ensures) (t .enum-told .given .1)
+    (s .validate-middle .ensures)
+
+pub validate-small-spec : {M : Type 1} → statement M
+validate-small-spec =
+    tie.close
+    (tie.spec
+    (λ c. search needs)
+    (λ c κs. search needs)
+    (λ c. search needs)
+    (λ c. search needs)
+    validate-middle-requires
+    (λ c. search needs)
+    returns
+    (λ c. search needs)
+    returns-2)
