@@ -12,12 +12,16 @@ use borrow.Author.Tests.{le-ltb, ltb-false}
 use Rattle.lists.specs.Lists.{choose, sum}
 use Rattle.scene_format.specs.Bytes.{byteAt, Bytes}
 use Rattle.scene_format.specs.Format.{axes, maxPressureIterOffset}
-use Rattle.scene_format.specs.Scene.{Scene, BoundaryParticle, boundarySize}
+use Rattle.scene_format.specs.Scene.{Scene, BoundaryParticle, fluidSize, boundarySize}
 use Rattle.scene_format.specs.SceneOf.{headerOf, sceneOf}
 use Rattle.scene_format.specs.declared.Kind.the-variants.{Fluid, Boundary}
 use Rattle.scene_format.specs.declared.Walk.{Walk}
 use Rattle.scene_format.specs.declared.Walk.the-variants as walk
 use Rattle.scene_layout.specs.Layout.{layoutModels}
+use Rattle.scene_layout.specs.declared.Layout.{Layout}
+use Rattle.scene_index.specs.Index.{indexNeeded}
+use Rattle.scene_index.proofs.Indexes.{number-few}
+use Rattle.scene_check.specs.Check.{Passed}
 use Rattle.scene_check.specs.Walk.{checked}
 use Rattle.scene_lengths.specs.Lengths.{answerWidth, boundaryAnswerWidth, answersNeeded, workNeeded}
 use Rattle.scene_lengths.proofs.Needed.{work-needed}
@@ -34,7 +38,7 @@ use Rattle.iisph_lines.specs.Lines.{stepLine, clockLine, modelsText}
 use Rattle.iisph_words.proofs.Numbers.{few-digits}
 use Rattle.iisph_lines.proofs.Widths.{ending-most, length-step, length-clock}
 use Rattle.iisph_text.specs.Text.{answerText, tooLong, mostBytes, textWith, textOf}
-use Rattle.iisph_text.specs.Run.{enoughAnswers, enoughWork, Reported}
+use Rattle.iisph_text.specs.Run.{enoughAnswers, enoughWork, enoughIndex, Reported}
 use Rattle.iisph_text.proofs.Room.{particles-room, answers-few}
 
 -- ---- the first line
@@ -100,6 +104,22 @@ boundary-answers-least d (q ∷ qs) =
 needed-work : (b : List ℕ) → workNeeded (sceneOf b) ≤ 2 * answersNeeded (sceneOf b)
 unfolding answersNeeded sceneOf headerOf boundarySize
 needed-work b = omega (arith, work-needed b, boundary-answers-least axes (sceneOf b .boundaryParticles))
+
+-- of the index no more numbers than answers, beside the bases
+index-answers : (b : List ℕ) → 2 * fluidSize (sceneOf b) + boundarySize (sceneOf b) ≤ answersNeeded (sceneOf b)
+unfolding answersNeeded sceneOf headerOf boundarySize
+index-answers b = omega (arith, boundary-answers-least axes (sceneOf b .boundaryParticles))
+
+pub index-enough : {b : List ℕ} {layout : Layout} → Passed b layout → length b ≤ mostBytes
+    → indexNeeded b ≤ enoughIndex
+index-enough {b} passed short =
+    omega (
+      arith,
+      answers-few b (passed .walk) (passed .bytes),
+      index-answers b,
+      number-few passed Fluid,
+      number-few passed Boundary,
+    )
 
 module _ (b : List ℕ) (y : Bytes b) {answers work : ℕ} (a : enoughAnswers ≤ answers) (w : enoughWork ≤ work) where
   step-same : length b ≤ mostBytes → (v : Walk) → checked b ≡ v

@@ -11,7 +11,8 @@ use Rattle.scene_format.specs.SceneOf.{sceneOf}
 use Rattle.scene_format.specs.declared.Walk.the-variants.{At}
 use Rattle.scene_check.specs.Walk.{checked}
 use Rattle.iisph_lines.specs.Lines.{stepLine, clockLine, modelsText}
-use Rattle.scene_format.specs.Format.{axes, nameableModels}
+use Rattle.scene_format.specs.Format.{axes, mostModels, nameableModels}
+use Rattle.scene_index.specs.Index.{modelBlocks, startsLength}
 use Rattle.scene_format.specs.declared.Kind.the-variants.{Fluid, Boundary}
 use Rattle.scene_layout.specs.declared.Layout.{Layout}
 use Rattle.scene_lengths.specs.Lengths.{fluidAnswerWidth, answersIn}
@@ -30,6 +31,10 @@ enoughAnswers = 4096
 
 abbrev pub enoughWork : ℕ
 enoughWork = 2 * enoughAnswers
+
+-- and its index in one of this length: a particle takes no more numbers of it than it has answers
+abbrev pub enoughIndex : ℕ
+enoughIndex = startsLength + 2 * (modelBlocks * mostModels) + enoughAnswers
 
 -- nothing is written, and no step taken, where the list for the text is shorter
 unfoldable pub written : List ℕ → ℕ → ℕ → ℕ → List ℕ
