@@ -67,7 +67,7 @@ impl Size {
     fn row(&self, iterations: u8, repeats: usize) {
         let packed = self.packed(iterations);
         let scenes: Vec<Scene> = packed.iter().map(|bytes| read(bytes).ok().expect("a scene is accepted")).collect();
-        let (mut step, mut lent, mut rust) = (Ours::step(&packed), Ours::step_lent(&packed), Rusts::new(&scenes));
+        let (mut step, mut lent, mut rust) = (Ours::new(&packed), Ours::lent(&packed), Rusts::new(&scenes));
         let mut ways: Vec<&mut dyn Way> = vec![&mut rust, &mut step];
         ways.extend(lent.iter_mut().map(|way| way as &mut dyn Way));
         let times = Timer::new(matches!(self.scenes, Different(_))).best(&mut ways, repeats);

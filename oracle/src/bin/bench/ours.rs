@@ -83,20 +83,20 @@ pub struct Ours<'a> {
 
 impl<'a> Ours<'a> {
     /// By `iisph_step`. A row's scenes need equally long lists.
-    pub fn step(scenes: &'a [Vec<u8>]) -> Ours<'a> {
+    pub fn new(scenes: &'a [Vec<u8>]) -> Ours<'a> {
         let [answers, work] = needed(&scenes[0]);
         let (answers, work) = (vec![vec![0.0; answers]; scenes.len()], vec![0.0; work]);
         Ours { scenes, inputs: scenes.to_vec(), answers, work, index: None }
     }
 
     /// By `iisph_step_lent`, if there is one.
-    pub fn step_lent(scenes: &'a [Vec<u8>]) -> Option<Ours<'a>> {
+    pub fn lent(scenes: &'a [Vec<u8>]) -> Option<Ours<'a>> {
         if !cfg!(feature = "lent") {
             return None;
         }
-        let mut ours = Ours::step(scenes);
+        let mut ours = Ours::new(scenes);
         let (ending, length) = step_lent(&scenes[0], &mut ours.answers[0], &mut ours.work, &mut []);
-        assert!(ending == SHORT_INDEX, "no index is long enough");
+        assert!(ending == SHORT_INDEX, "no index is asked for");
         ours.index = Some(vec![0; length as usize]);
         Some(ours)
     }
@@ -107,7 +107,7 @@ impl Way for Ours<'_> {
         self.inputs.iter_mut().zip(self.scenes).for_each(|(input, scene)| input.copy_from_slice(scene));
     }
 
-    fn step(&mut self) {
+    fn step_all(&mut self) {
         for (input, answers) in self.inputs.iter().zip(&mut self.answers) {
             let ending = match &mut self.index {
                 None => step(input, answers, &mut self.work),

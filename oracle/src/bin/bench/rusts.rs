@@ -23,7 +23,7 @@ impl Way for Rusts<'_> {
         self.states.extend(self.scenes.iter().map(fill));
     }
 
-    fn step(&mut self) {
+    fn step_all(&mut self) {
         self.states.iter_mut().for_each(Filled::step);
     }
 }

@@ -13,7 +13,7 @@ pub trait Way {
     /// Writes a fresh input for each scene.
     fn fill(&mut self);
     /// Steps them all, one after the other.
-    fn step(&mut self);
+    fn step_all(&mut self);
 }
 
 /// Takes no time but the clock's own.
@@ -21,7 +21,7 @@ struct Nothing;
 
 impl Way for Nothing {
     fn fill(&mut self) {}
-    fn step(&mut self) {}
+    fn step_all(&mut self) {}
 }
 
 /// A timing has so many passes that it takes these seconds.
@@ -59,7 +59,7 @@ impl Timer {
             way.fill();
             self.walk.iter_mut().step_by(CACHE_LINE).for_each(|byte| *byte = black_box(byte.wrapping_add(1)));
             let began = Instant::now();
-            way.step();
+            way.step_all();
             sum += began.elapsed();
         }
         sum.as_secs_f64() / passes as f64 - self.look
