@@ -18,9 +18,6 @@ use Rattle.scene_format.specs.declared.Walk.the-variants as walk
 use Rattle.iisph_preparation.specs.Prepare.{readiness}
 use Rattle.iisph_preparation.specs.declared.Readiness.{Readiness}
 use Rattle.iisph_preparation.specs.declared.Readiness.the-variants as readiness
-use Rattle.iisph_rules.specs.Answer.{stepAnswer}
-use Rattle.iisph_rules.specs.Endings.{endingNumber}
-use Rattle.iisph_rules.specs.declared.Report.{Report}
 use Rattle.iisph_rules.specs.declared.StepAnswer.{StepAnswer}
 use Rattle.iisph_rules.specs.declared.StepAnswer.the-variants.{Done, Refused}
 use Rattle.scene_lengths.specs.Lengths.{lengthsNeeded, needsAfter, needsOf}

@@ -77,7 +77,8 @@ pub record LentTo (room : Bool) (b : List ℕ) (answers work : List Float) (inde
       answers
   pub workThen : work′
       ≡ choose room
-      (choose (lacksIndex b (length answers) (length work) index) work (workAfter b (length answers) (length work) work))
+      (choose (lacksIndex b (length answers) (length work) index) work
+      (workAfter b (length answers) (length work) work))
       work
   pub numbersThen : numbers′
       ≡ choose room (numbersLent (lentAnswer b (length answers) (length work) index) numbers) numbers

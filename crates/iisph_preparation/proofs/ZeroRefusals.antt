@@ -1,13 +1,13 @@
 -- What is answered before the iterations is the step's: the work list's columns are the rules' coefficients, so
 -- refusals 9 and 10 over them are the rules', and where they refuse the cleared list is that of the step. One
 -- law for both columns. Assumes nothing.
-use Prim.Native.Nat.{ℕ, _+_, _<_, _≤_}
-use mathlib.Core.Path.{_≡_, refl, sym, ap, _∙_}
+use Prim.Native.Nat.{ℕ, _+_, _≤_}
+use mathlib.Core.Path.{_≡_, refl, sym, _∙_}
 use mathlib.Core.Bool.{Bool, true, false}
 use mathlib.Core.List.{List, [], _∷_, _++_, map}
 use native.Mathlib.Omega.{arith}
 use lib.Ieee.{Float}
-use lib.ListN.{length, getD, drop, replicate}
+use lib.ListN.{length, drop, replicate}
 use lib.Seq.{sets, length-sets}
 use Rattle.math.specs.Real.{+0}
 use Rattle.lists.specs.Lists.{choose}

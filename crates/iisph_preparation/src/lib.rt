@@ -124,7 +124,9 @@ pub fn prepare(
     work: &mut [f64],
 ) -> Readiness
     requires { ⌜ Passed (now scene) layout × StepHeaderIs (sceneOf (now scene)) header ⌝ }
-    requires { ⌜ (indexNeeded (now scene) ≤ length (now index)) × (workNeeded (sceneOf (now scene)) ≤ length (now work)) ⌝ }
+    requires { ⌜
+        (indexNeeded (now scene) ≤ length (now index)) × (workNeeded (sceneOf (now scene)) ≤ length (now work))
+        ⌝ }
     ensures { λ r. ⌜ Prepares (now (scene .entry)) (now (work .entry)) r (now (index .exit)) (now (work .exit)) ⌝ }
 {
     let clock = header.clock;

@@ -14,10 +14,9 @@ use Rattle.scene_check.specs.Walk.{checked}
 use Rattle.scene_check.proofs.Early.{refused-early}
 use Rattle.scene_format.specs.Refusals.{numberOf}
 use Rattle.scene_format.specs.declared.Refusal.{Refusal}
-use Rattle.scene_format.specs.declared.Refusal.the-variants.{ShortList}
 use Rattle.scene_format.specs.declared.Walk.the-variants as walk
 use Rattle.scene_index.specs.Index.{indexNeeded}
-use Rattle.iisph_rules.specs.Answer.{stepAnswer, LongEnough, answersAfter, clearsWork, workAfter}
+use Rattle.iisph_rules.specs.Answer.{stepAnswer, LongEnough, clearsWork}
 use Rattle.iisph_rules.specs.declared.StepAnswer.{StepAnswer}
 use Rattle.iisph_rules.specs.declared.StepAnswer.the-variants.{Refused}
 use Rattle.iisph_rules.proofs.Cases.{scene-answer, scene-clears}
@@ -74,7 +73,8 @@ module _ (b : List ℕ) (answers work : List Float) (index : ℕ) where
   not-lacking : lacks ≡ false → {r : StepAnswer} {answers′ work′ : List Float} → Steps b answers work r answers′ work′
       → StepsLent b answers work index (Answered r) answers′ work′
   unfolding lentAnswer choose
-  not-lacking q s = record { answer = rw (q, s .answer); answersThen = rw q (s .answersThen); workThen = rw q (s .workThen) }
+  not-lacking q s =
+      record { answer = rw (q, s .answer); answersThen = rw q (s .answersThen); workThen = rw q (s .workThen) }
 
   -- with a long enough index, and where 1 to 8 refused
   pub steps-lent : indexNeeded b ≤ index → {r : StepAnswer} {answers′ work′ : List Float}

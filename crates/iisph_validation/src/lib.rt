@@ -53,9 +53,9 @@ fn validate_accepted(
     }
 }
 
-// As a step does (iisph_solver), with the smallest of three indexes on the stack that is long enough. The longest, which no
-// accepted scene finds too short, takes no stack unless it is called, since a compiler puts no function that calls
-// itself in the place of its call.
+// As a step does (iisph_solver), with the smallest of three indexes on the stack that is long enough. The longest,
+// which no accepted scene finds too short, takes no stack unless it is called, since a compiler puts no function that
+// calls itself in the place of its call.
 fn validate_largest(scene: &[u8], layout: Layout, work: &mut [f64]) -> Readiness
     requires { ⌜ Passed (now scene) layout ⌝ }
     ensures { λ r. ⌜ Validates (now (scene .entry)) (now (work .entry)) r (now (work .exit)) ⌝ }

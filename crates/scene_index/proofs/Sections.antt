@@ -136,7 +136,8 @@ module _ {b index : List ℕ} (ix : Indexed b index) where
   behind-bases = behind-meeting 0 (basesAt Boundary b) (kindBases Boundary b) _ behind-fluids (length-bases b Boundary)
 
   behind-records : Part 0 (headsAt b) (entriesOf Head Fluid b ++ entriesOf Offset Boundary b) index
-  behind-records = behind-meeting 0 (recordsAt Fluid b) (entriesOf Offset Fluid b) _ behind-bases (length-fluid b Offset)
+  behind-records =
+      behind-meeting 0 (recordsAt Fluid b) (entriesOf Offset Fluid b) _ behind-bases (length-fluid b Offset)
 
   pub bases-part : (κ : Kind) → Part 0 (basesAt κ b) (kindBases κ b) index
   bases-part Fluid = before-meeting 0 (basesAt Fluid b) _ _ behind-starts

@@ -108,14 +108,16 @@ module _ {b index : List ℕ} (ix : Indexed b index) where
   pub header-indexed : HeaderOk b
   header-indexed = accepted b (ix .accepted) .fields .header
 
-  pub record-at : (κ : Kind) (i : ℕ) → i < sizeOf κ (sceneOf b) → getD index (recordsAt κ b + i) 0 ≡ locationOf κ b i .at
+  record-at : (κ : Kind) (i : ℕ) → i < sizeOf κ (sceneOf b)
+      → getD index (recordsAt κ b + i) 0 ≡ locationOf κ b i .at
   unfolding entryOf
   record-at κ i h =
       section-entry Offset (recordsAt κ b) (locationsOf κ b) (records-part ix κ) i (rw (size-locations b κ) at h)
 
-  pub head-at : (i : ℕ) → i < fluidSize (sceneOf b) → getD index (headsAt b + i) 0 ≡ locationOf Fluid b i .head
+  head-at : (i : ℕ) → i < fluidSize (sceneOf b) → getD index (headsAt b + i) 0 ≡ locationOf Fluid b i .head
   unfolding entryOf sizeOf
-  head-at i h = section-entry Head (headsAt b) (locationsOf Fluid b) (heads-part ix) i (rw (size-locations b Fluid) at h)
+  head-at i h =
+      section-entry Head (headsAt b) (locationsOf Fluid b) (heads-part ix) i (rw (size-locations b Fluid) at h)
 
   -- ---- through where their sections begin
 

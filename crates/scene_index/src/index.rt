@@ -29,7 +29,8 @@ pub const MODEL_BLOCKS: usize = NAMEABLE_PARTICLES / BLOCK_SIZE;
 
 const MAX_OF_A_KIND: usize = MAX_MODELS * MAX_PARTICLES;
 
-// The first numbers of the index say where its sections begin, but for the bases of the fluids, which stand behind them.
+// The first numbers of the index say where its sections begin, but for the bases of the fluids, which stand right
+// behind them.
 pub const BOUNDARY_BASES: usize = 0;
 
 pub const RECORDS: usize = 1;

@@ -1,4 +1,5 @@
--- `iisph_text::step_short` meets its contract: the index is long enough for every scene of so few bytes. Assumes nothing.
+-- `iisph_text::step_short` meets its contract: the index is long enough for every scene of so few bytes. Assumes
+-- nothing.
 use Prim.Native.Nat.{ℕ, _≤_}
 use native.Mathlib.Omega.{arith}
 use lib.ListN.{length, replicate, length-replicate}

@@ -1,5 +1,5 @@
--- `iisph_validation::validate_largest` meets its contract: its index is long enough for every accepted scene, so it does
--- not call itself. Assumes nothing.
+-- `iisph_validation::validate_largest` meets its contract: its index is long enough for every accepted scene, so it
+-- does not call itself. Assumes nothing.
 use Prim.Native.Nat.{ℕ, _<_}
 use native.Mathlib.Omega.{arith}
 use borrow.Author.Needs.{needs}

@@ -1,5 +1,5 @@
--- `iisph_validation::validate_accepted` meets its contract: a list that is too short is 8, an index that is too short is
--- said; else the rows are prepared, and the list is cleared, by the preparation where it refuses. Assumes nothing.
+-- `iisph_validation::validate_accepted` meets its contract: a list that is too short is 8, an index that is too short
+-- is said; else the rows are prepared, and the list is cleared, by the preparation where it refuses. Assumes nothing.
 use Prim.Native.Nat.{_≤_}
 use mathlib.Core.Path.{_≡_, sym, ap, _∙_}
 use native.Mathlib.Omega.{arith}

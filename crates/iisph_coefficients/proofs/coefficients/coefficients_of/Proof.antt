@@ -3,7 +3,6 @@
 use Prim.Native.Nat.{_<_}
 use mathlib.Core.Path.{_∙_}
 use native.Mathlib.Omega.{arith}
-use borrow.Author.Needs.{needs}
 use denote.Ref.{now}
 use Rattle.scene_format.specs.Scene.{fluidSize, particle}
 use Rattle.scene_format.specs.SceneOf.{sceneOf}

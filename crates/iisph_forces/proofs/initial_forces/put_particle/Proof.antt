@@ -69,7 +69,8 @@ returns c =
           ∙ initial-kept s (a .j) (now (a .answers)) (a .at)
           (volume-behind s (a .n) (b .pre .0 .1 .volume) (a .j) (b .pre .1 .0))
           (kept t)
-          (v .vector .ensures ∙ force-here (b .pre .0 .0 .indexed) (a .j) (b .pre .1 .0) (kept t) (v .before .record-of .ensures)),
+          (v .vector .ensures
+          ∙ force-here (b .pre .0 .0 .indexed) (a .j) (b .pre .1 .0) (kept t) (v .before .record-of .ensures)),
     )
 
 returns-2 : tie.Need-returns-2

@@ -1,6 +1,6 @@
 -- `iisph_pressures::iteration::fluid_pressure_sum` meets its contract. The invariant: the sum is the rule's over the
 -- contacts passed; a turn takes in one more. The measure is the number of contacts left. Assumes nothing.
-use Prim.Native.Nat.{_+_, _*_, _-_, _<_, _≤_}
+use Prim.Native.Nat.{_+_, _*_, _-_, _≤_}
 use mathlib.Core.Path.{_≡_, refl, _∙_}
 use native.Mathlib.Nat.{le-antisymm}
 use native.Mathlib.Omega.{arith}

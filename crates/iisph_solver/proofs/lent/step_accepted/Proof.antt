@@ -1,7 +1,7 @@
 -- `iisph_solver::lent::step_accepted` meets its contract: lists that are too short are 8, an index that is too short is
 -- said before the passes begin, and else the step is taken. Assumes nothing.
 use Prim.Native.Nat.{_≤_}
-use mathlib.Core.Path.{_≡_, refl, sym, ap, _∙_}
+use mathlib.Core.Path.{_≡_, refl, ap}
 use native.Mathlib.Omega.{arith}
 use denote.Ref.{now}
 use lib.ListN.{length}

@@ -49,7 +49,8 @@ returns c =
     let s = Begin (Header p) in
     let b = now (s .args .scene) in
     let w = now (s .args .work) in
-    zero-steps b (now (s .args .answers)) w (s .pre .0 .0 .walk) (s .pre .0 .1 .enoughAnswers) (s .pre .0 .1 .enoughWork)
+    let lists = s .pre .0 .1 in
+    zero-steps b (now (s .args .answers)) w (s .pre .0 .0 .walk) (lists .enoughAnswers) (lists .enoughWork)
     (sym (r .readiness .given .1) ∙ p .prepare .ensures .answer)
     (p .prepare .ensures .list ∙ ap (λ (x : Readiness). workPrepared b x w) (r .readiness .given .1))
 
@@ -61,7 +62,8 @@ returns-2 c =
     let s = Begin (Header p) in
     let b = now (s .args .scene) in
     let w = now (s .args .work) in
-    done-steps b (now (s .args .answers)) w (s .pre .0 .0 .walk) (s .pre .0 .1 .enoughAnswers) (s .pre .0 .1 .enoughWork)
+    let lists = s .pre .0 .1 in
+    done-steps b (now (s .args .answers)) w (s .pre .0 .0 .walk) (lists .enoughAnswers) (lists .enoughWork)
     (sym (t .enum-told .given .1) ∙ p .prepare .ensures .answer)
     (p .prepare .ensures .list ∙ ap (λ (x : Readiness). workPrepared b x w) (t .enum-told .given .1))
     (f .finish .ensures)

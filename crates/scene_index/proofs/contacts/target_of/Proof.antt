@@ -25,7 +25,8 @@ fluid : (c : tie.After-enum-told)
     let p = k .contact-name .result .particle .0 in
     let x = basesAt Fluid (now (a .scene)) + (modelBlocks * k .contact-name .result .model .0 + p / blockSize) in
     (x < length (now (a .index)))
-    × (getD (now (a .index)) x 0 + p % blockSize ≡ targetAt (startsOf (a .kind) (now (a .scene))) (now (a .scene)) (a .at))
+    × (getD (now (a .index)) x 0 + p % blockSize
+    ≡ targetAt (startsOf (a .kind) (now (a .scene))) (now (a .scene)) (a .at))
 fluid c =
     let k = c .before .before in
     let s = Begin k in
@@ -38,7 +39,8 @@ boundary : (c : tie.After-enum-told2)
     let p = k .contact-name .result .particle .0 in
     let x = getD (now (a .index)) 0 0 + (modelBlocks * k .contact-name .result .model .0 + p / blockSize) in
     (x < length (now (a .index)))
-    × (getD (now (a .index)) x 0 + p % blockSize ≡ targetAt (startsOf (a .kind) (now (a .scene))) (now (a .scene)) (a .at))
+    × (getD (now (a .index)) x 0 + p % blockSize
+    ≡ targetAt (startsOf (a .kind) (now (a .scene))) (now (a .scene)) (a .at))
 boundary c =
     let k = c .before .before in
     let s = Begin k in

@@ -45,4 +45,12 @@ returns c =
 pub sections-of-spec : {M : Type 1} → statement M
 sections-of-spec =
     tie.close
-    (tie.spec mul-boundary-bases add-boundary-bases mul-records add-records add-heads add-boundary-records add-end returns)
+    (tie.spec
+    mul-boundary-bases
+    add-boundary-bases
+    mul-records
+    add-records
+    add-heads
+    add-boundary-records
+    add-end
+    returns)

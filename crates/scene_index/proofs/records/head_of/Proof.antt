@@ -1,4 +1,5 @@
--- `scene_index::records::head_of` meets its contract: the section of heads begins where the index says. Assumes nothing.
+-- `scene_index::records::head_of` meets its contract: the section of heads begins where the index says. Assumes
+-- nothing.
 use native.Mathlib.Omega.{arith}
 use Rattle.scene_index.proofs.Targets.{head-found}
 use Rattle.scene_index.proofs.records.head_of.Statement.{statement}
