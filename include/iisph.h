@@ -7,8 +7,8 @@
    Every function is total: it takes any bytes, any doubles and any lengths, and ends. A list of n
    elements is passed as a pointer and n; the pointer may be null if n is 0, and is aligned for its
    type. Lists that a call writes must not overlap each other or the scene. Nothing is allocated and
-   nothing is kept between calls, so calls with lists of their own may run at the same time.
-   iisph_step, iisph_step_keeping and iisph_validate take up to 1 MiB of stack.
+   nothing is kept between calls, so calls with lists of their own may run at the same time. What
+   each takes of the stack is told below, as bindings/c/stack.c measures it.
 
    A packed scene has its fields most significant bit first, doubles as their 64 bits:
        header      version (4 bits, 1), fluids (4 bits, 0 to 8); boundaries (4 bits, 0 to 8), 4 zero
@@ -39,8 +39,9 @@
        12  a radius that is zero, negative or not finite
 
    What the functions return: 99 where a list is too short for what every answer writes, and then
-   nothing at all is written; 100 + n for refusal n, of a packed scene with its offset in counts[1];
-   otherwise what each says below. Elements that are not named are never touched. */
+   nothing at all is written; 98 where the index lent to iisph_step_lent is too short; 100 + n for
+   refusal n, of a packed scene with its offset in counts[1]; otherwise what each says below.
+   Elements that are not named are never touched. */
 #ifndef IISPH_H
 #define IISPH_H
 
@@ -61,13 +62,29 @@ extern "C" {
    the last iteration's error (+0 if there was none), numbers[1] dt, numbers[2] 1 / dt (0 for a dt
    of 0), numbers[3] the remaining time, and counts[0] the number of iterations.
    Refused by 1 to 10. Then answers, numbers and counts[0] are unchanged; the needed part of work is
-   all +0 after 9 and 10, and work is unchanged after 1 to 8. */
+   all +0 after 9 and 10, and work is unchanged after 1 to 8.
+   Takes some 40 KiB of stack where the scene's index, as iisph_step_lent has it, is of at most 4096
+   elements (one fluid of 2000 particles), and some 812 KiB where it is longer. */
 uint64_t iisph_step(const uint8_t *scene, size_t scene_len, double *answers, size_t answers_len,
                     double *work, size_t work_len, double *numbers, size_t numbers_len,
                     uint64_t *counts, size_t counts_len);
 
+/* One step that is lent its index, the list of where each record begins, which iisph_step takes of
+   the stack and clears: for threads with little stack, and for many steps.
+   index: scratch, at least 4 + 16 * (fluids + boundaries) + 2 * fluid particles + boundary
+       particles elements, which is at most 98564; what it holds before does not matter, and what it
+       holds afterwards is not told.
+   All else, and what is returned, is as for iisph_step, but that 98 is returned where the index is
+   too short. Then counts[0] is the length that it needs, and answers, work, numbers and counts[1]
+   are unchanged. 99 and refusals 1 to 8 come before that, 9 and 10 after it.
+   Takes less than 16 KiB of stack, whatever the scene. */
+uint64_t iisph_step_lent(const uint8_t *scene, size_t scene_len, double *answers,
+                         size_t answers_len, double *work, size_t work_len, uint64_t *index,
+                         size_t index_len, double *numbers, size_t numbers_len, uint64_t *counts,
+                         size_t counts_len);
+
 /* One step for a caller that keeps a clock. clock: at least 4 elements, the step length, dt, 1 / dt
-   and the remaining time. All else, and what is returned, is as for iisph_step.
+   and the remaining time. All else, what is returned and the stack are as for iisph_step.
    Where the step is done (0, 1, 2) the clock is moved on by its own step length: clock[1] is
    clock[0], clock[2] is 1 / clock[0] (0 for a zero of either sign), and clock[3] is less clock[0].
    Otherwise it is unchanged. The scene's own step length and remaining time are those of the step
@@ -79,19 +96,21 @@ uint64_t iisph_step_keeping(const uint8_t *scene, size_t scene_len, double *cloc
 
 /* How long the lists of a step must be. counts: at least 2 elements.
    Returns 0 with counts[0] the length that the answer list needs and counts[1] that of the work
-   list. Refused by 1 to 7; then counts[0] is unchanged. */
+   list. Refused by 1 to 7; then counts[0] is unchanged. Takes some 3 KiB of stack. */
 uint64_t iisph_needed(const uint8_t *scene, size_t scene_len, uint64_t *counts, size_t counts_len);
 
 /* Whether a step with a long enough answer list would be refused. counts: at least 2 elements.
    Returns 0 if not, with counts unchanged and the needed part of work all +0. Refused by 1 to 10,
-   as that step; then counts[0] is unchanged, and work is as that step leaves it. */
+   as that step; then counts[0] is unchanged, and work is as that step leaves it. Takes as much
+   stack as iisph_step. */
 uint64_t iisph_validate(const uint8_t *scene, size_t scene_len, double *work, size_t work_len,
                         uint64_t *counts, size_t counts_len);
 
 /* The cubic spline at the distance r with the radius h, and its derivative there. out: at least 1
    element.
    Returns 0 with out[0] the value. Refused by 11, then by 12; then out is unchanged.
-   Where h is so small that h * h * h rounds to 0, the value may be infinite or not a number. */
+   Where h is so small that h * h * h rounds to 0, the value may be infinite or not a number.
+   Both take less than 100 bytes of stack. */
 uint64_t iisph_weight(double r, double h, double *out, size_t out_len);
 uint64_t iisph_slope(double r, double h, double *out, size_t out_len);
 

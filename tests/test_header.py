@@ -1,4 +1,5 @@
-"""include/iisph.h declares the functions of crates/iisph_c, each list as a pointer and a length."""
+"""include/iisph.h declares the functions of crates/iisph_c, each list as a pointer and a length, and the Rust binding
+declares them alike."""
 import pathlib
 import re
 import unittest
@@ -6,15 +7,22 @@ import unittest
 ROOT = pathlib.Path(__file__).resolve().parent.parent
 HEADER = (ROOT / "include/iisph.h").read_text()
 IN_C = {"&[u8]": ["const uint8_t *", "size_t "], "&mut [f64]": ["double *", "size_t "],
-        "&mut [u64]": ["uint64_t *", "size_t "], "f64": ["double "], "u64": ["uint64_t "]}
+        "&mut [u64]": ["uint64_t *", "size_t "], "&mut [usize]": ["uint64_t *", "size_t "],
+        "f64": ["double "], "u64": ["uint64_t "]}
+RUST_IN_C = {"*const u8": "const uint8_t *", "*mut f64": "double *", "*mut u64": "uint64_t *", "usize": "size_t ",
+             "f64": "double ", "u64": "uint64_t "}
+
+
+def typed(parameters):
+    """The types of parameters as Rattle and Rust write them."""
+    return [p.split(":")[1].strip() for p in parameters.split(",") if p.strip()]
 
 
 def exported():
     """Name, and types in C of the result and the parameters, of each exported function."""
     source = (ROOT / "crates/iisph_c/src/lib.rt").read_text()
     for name, parameters, result in re.findall(r'extern "C" fn (\w+)\((.*?)\) -> (\w+)', source, re.S):
-        types = [p.split(":")[1].strip() for p in parameters.split(",") if p.strip()]
-        yield name, IN_C[result] + [c for t in types for c in IN_C[t]]
+        yield name, IN_C[result] + [c for t in typed(parameters) for c in IN_C[t]]
 
 
 def declared():
@@ -23,10 +31,19 @@ def declared():
         yield name, [result] + [re.sub(r"\w+$", "", " ".join(p.split())) for p in parameters.split(",")]
 
 
+def bound():
+    source = (ROOT / "bindings/rust/src/c.rs").read_text()
+    for name, parameters, result in re.findall(r"pub fn (\w+)\((.*?)\) -> (\w+);", source, re.S):
+        yield name, [RUST_IN_C[t] for t in [result] + typed(parameters)]
+
+
 class Header(unittest.TestCase):
     def test_declares_what_is_exported(self):
-        self.assertEqual(len(dict(exported())), 6)
+        self.assertEqual(len(dict(exported())), 7)
         self.assertEqual(dict(declared()), dict(exported()))
+
+    def test_is_what_rust_declares(self):
+        self.assertEqual(dict(bound()), dict(declared()))
 
     def test_fits_in_100_columns(self):
         self.assertEqual([line for line in HEADER.splitlines() if len(line) > 100], [])

@@ -1,41 +1,65 @@
-/* Each function once through the archive, on scene A of docs/FORMAT.md. Prints `ok`, or the line of
+/* Each function through the archive, on scene A of docs/FORMAT.md. Prints `ok`, or the line of
    the first difference.
-     gcc -O2 -Wall -Wextra -Iinclude bindings/c/smoke.c target/staticlib/libiisph_c.a -o target/smoke && target/smoke */
+   gcc -O2 -Wall -Wextra -Iinclude bindings/c/smoke.c target/staticlib/libiisph_c.a -o target/smoke && target/smoke */
 #include "iisph.h"
+#include "packing.h"
 #include <math.h>
 #include <stdio.h>
-#include <string.h>
 
-static uint8_t scene[512];
-static size_t len;
+static void scene_a(void) { pack_scene(1, 0, 1); }
 
-static void byte(unsigned v) { scene[len++] = (uint8_t)v; }
-
-static void real(double v) {
-    uint64_t bits;
-    memcpy(&bits, &v, 8);
-    for (int k = 56; k >= 0; k -= 8) byte((unsigned)(bits >> k) & 255);
-}
-
-static void scene_a(void) {
-    len = 0;
-    byte(0x11); byte(0); byte(1); byte(50);
-    real(0.5); real(1); real(0.05); real(0); real(0); real(-4);
-    byte(0); byte(1); real(2);
-    for (int k = 0; k < 9; k++) real(0);
-    real(0.5); real(0); byte(1); byte(0);
-    byte(0); byte(0); real(2); real(0); real(0); real(0);
-}
+/* what a step on scene A writes, and a 7 behind it */
+static const double expected[8] = {0, 0, -1, 0, 0, -2, 0, 7};
+static const double expected_numbers[5] = {0, 0.5, 2, 0.5, 7};
 
 #define SAME(x) do { if (!(x)) { printf("%s:%d: %s\n", __FILE__, __LINE__, #x); return 1; } } while (0)
+
+static void sevens(double *list, int n) {
+    for (int k = 0; k < n; k++) list[k] = 7;
+}
+
+static int all_sevens(const double *list, int n) {
+    while (n > 0 && list[n - 1] == 7) n--;
+    return n == 0;
+}
+
+/* the step that is lent its index, first one that is too short, then one of the length told */
+static int lent_step(void) {
+    double answers[8], work[15], numbers[5];
+    uint64_t index[22], counts[3] = {7, 7, 7};
+    sevens(answers, 8); sevens(work, 15); sevens(numbers, 5);
+    SAME(iisph_step_lent(scene, len, answers, 8, work, 15, index, 22, numbers, 3, counts, 3) == 99);
+    SAME(iisph_step_lent(scene, len, answers, 8, work, 15, index, 22, numbers, 5, counts, 1) == 99);
+    SAME(counts[0] == 7 && counts[1] == 7);
+
+    /* 1 and 8 come before 98 */
+    SAME(iisph_step_lent(scene, 51, answers, 8, work, 15, NULL, 0, numbers, 5, counts, 3) == 101);
+    SAME(counts[0] == 7 && counts[1] == 44);
+    SAME(iisph_step_lent(scene, len, answers, 6, work, 15, NULL, 0, numbers, 5, counts, 3) == 108);
+    SAME(counts[0] == 7 && counts[1] == 0);
+
+    counts[1] = 7;
+    SAME(iisph_step_lent(scene, len, answers, 8, work, 15, NULL, 0, numbers, 5, counts, 3) == 98);
+    SAME(counts[0] == 4 + 16 * 1 + 2 * 1 && counts[0] == sizeof index / sizeof *index);
+    SAME(iisph_step_lent(scene, len, answers, 8, work, 15, index, counts[0] - 1, numbers, 5, counts, 3) == 98);
+    SAME(counts[0] == 22 && counts[1] == 7 && counts[2] == 7);
+    SAME(all_sevens(answers, 8) && all_sevens(work, 15) && all_sevens(numbers, 5));
+
+    SAME(iisph_step_lent(scene, len, answers, 8, work, 15, index, counts[0], numbers, 5, counts, 3) == 1);
+    SAME(memcmp(answers, expected, sizeof expected) == 0);
+    SAME(memcmp(numbers, expected_numbers, sizeof expected_numbers) == 0);
+    SAME(counts[0] == 2 && counts[1] == 7 && counts[2] == 7);
+    for (int k = 0; k < 14; k++) SAME(work[k] == 0 && !signbit(work[k]));
+    SAME(work[14] == 7);
+    return 0;
+}
 
 int main(void) {
     double answers[8], work[15], numbers[5], out[2] = {7, 7}, clock[5] = {0.25, 7, 7, 3, 7};
     uint64_t counts[3] = {7, 7, 7};
-    for (int k = 0; k < 15; k++) work[k] = 7;
-    for (int k = 0; k < 8; k++) answers[k] = 7;
-    for (int k = 0; k < 5; k++) numbers[k] = 7;
+    sevens(answers, 8); sevens(work, 15); sevens(numbers, 5);
     scene_a();
+    if (lent_step()) return 1;
 
     /* too short: nothing is written */
     SAME(iisph_step(scene, len, answers, 8, work, 15, numbers, 3, counts, 3) == 99);
@@ -65,9 +89,7 @@ int main(void) {
     SAME(iisph_validate(scene, len, work, 15, counts, 3) == 0 && work[0] == 0 && work[14] == 7);
     SAME(counts[0] == 7 && counts[1] == 14 && counts[2] == 7);
     SAME(iisph_step(scene, len, answers, 8, work, 15, numbers, 5, counts, 3) == 1);
-    static const double expected[8] = {0, 0, -1, 0, 0, -2, 0, 7};
     SAME(memcmp(answers, expected, sizeof expected) == 0);
-    static const double expected_numbers[5] = {0, 0.5, 2, 0.5, 7};
     SAME(memcmp(numbers, expected_numbers, sizeof expected_numbers) == 0);
     SAME(counts[0] == 2 && counts[1] == 14 && counts[2] == 7);
     for (int k = 0; k < 14; k++) SAME(work[k] == 0 && !signbit(work[k]));

@@ -14,6 +14,21 @@ extern "C" {
         counts_len: usize,
     ) -> u64;
     #[allow(clippy::too_many_arguments)]
+    pub fn iisph_step_lent(
+        scene: *const u8,
+        scene_len: usize,
+        answers: *mut f64,
+        answers_len: usize,
+        work: *mut f64,
+        work_len: usize,
+        index: *mut u64,
+        index_len: usize,
+        numbers: *mut f64,
+        numbers_len: usize,
+        counts: *mut u64,
+        counts_len: usize,
+    ) -> u64;
+    #[allow(clippy::too_many_arguments)]
     pub fn iisph_step_keeping(
         scene: *const u8,
         scene_len: usize,

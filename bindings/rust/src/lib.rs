@@ -4,7 +4,7 @@
 //! The specification's scene A, from its numbers to its answers:
 //!
 //! ```
-//! use iisph::{Contact, Fluid, FluidParticle, Scene};
+//! use iisph::{Contact, Fluid, FluidParticle, Scene, Solver};
 //!
 //! let itself = Contact { model: 0, particle: 0, weight: 2.0, gradient: [0.0; 3] };
 //! let drop = FluidParticle { volume: 0.5, fluid_contacts: vec![itself], ..Default::default() };
@@ -20,7 +20,7 @@
 //! let lengths = iisph::needed(&packed)?;
 //! let mut answers = vec![0.0; lengths.answers];
 //! let mut work = vec![0.0; lengths.work];
-//! let report = iisph::step(&packed, &mut answers, &mut work)?;
+//! let report = Solver::new().step(&packed, &mut answers, &mut work)?;
 //! assert_eq!(report.iterations, 2);
 //! for particle in answers.chunks_exact(7) {
 //!     assert_eq!(particle, [0.0, 0.0, -1.0, 0.0, 0.0, -2.0, 0.0]); // position, velocity, pressure
@@ -28,18 +28,22 @@
 //! # Ok::<(), Box<dyn std::error::Error>>(())
 //! ```
 //!
-//! [`step`], [`Clock::step`] and [`validate`] take up to 1 MiB of stack: give a thread of your own
-//! at least 2 MiB, the standard library's default.
+//! A step needs an index of the scene. [`Solver::step`] has it on the heap, and takes less than 16 KiB
+//! of stack on every scene. [`step`], [`Clock::step`] and [`validate`] have it on the stack: they take
+//! some 40 KiB where it has at most 4,096 numbers, as with one fluid of 2,000 particles, and some
+//! 812 KiB where it has more. A thread of the standard library's default, 2 MiB, has room for that.
 #![warn(missing_docs)]
 
 mod c;
 mod pack;
 mod refusals;
+mod solver;
 
 use refusals::refusal;
 
 pub use pack::{Boundary, BoundaryContact, BoundaryParticle, Contact, Fluid, FluidParticle, Misfit, Scene};
 pub use refusals::{KernelRefusal, Reason, Refusal};
+pub use solver::Solver;
 
 /// The lengths that the lists of a step must have at least.
 #[derive(Clone, Copy, Debug, PartialEq, Eq, Hash)]
@@ -107,6 +111,9 @@ pub fn validate(scene: &[u8], work: &mut [f64]) -> Result<(), Refusal> {
 /// pressure (7 doubles), then of each boundary particle the volume and, where forces are kept,
 /// the force; a refused call leaves it unchanged. The work list is scratch. Both lists keep what
 /// stands behind the lengths that [`needed`] tells.
+///
+/// Prefer [`Solver::step`], which answers the same: it needs little stack on every scene, and clears
+/// no index for each step.
 pub fn step(scene: &[u8], answers: &mut [f64], work: &mut [f64]) -> Result<Report, Refusal> {
     let mut numbers = [0f64; 4];
     let mut counts = [0u64; 2];

@@ -179,7 +179,7 @@ fn name(out: &mut Vec<u8>, model: usize, particle: usize) -> Result<(), Misfit> 
 }
 
 impl Scene {
-    /// The scene's bytes, for [`needed`](crate::needed) and [`step`](crate::step).
+    /// The scene's bytes, for [`needed`](crate::needed) and [`Solver::step`](crate::Solver::step).
     ///
     /// An error names the first count or number that does not fit. What fits is packed as it is: of
     /// a double that is not finite and of a contact that names nothing the step says where it

@@ -4,6 +4,7 @@ use super::*;
 
 mod fields;
 mod packing;
+mod solver;
 
 fn empty(most: usize) -> Scene {
     Scene { most_iterations: most, error_limit: 0.0, ..Default::default() }

@@ -2,7 +2,7 @@
 use super::fields::Fields;
 use super::*;
 
-const EXAMPLES: [&[u8]; 5] = [
+pub const EXAMPLES: [&[u8]; 5] = [
     include_bytes!("../../../../examples/scene-a.bin"),
     include_bytes!("../../../../examples/scene-b.bin"),
     include_bytes!("../../../../examples/chamber.bin"),
