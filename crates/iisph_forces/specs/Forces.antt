@@ -1,7 +1,6 @@
 -- The boundary part of the answer list: where each boundary particle's answers stand, and what the contacts make of the
 -- forces there, one after the other. Scaffolding: no promise rests on it. Definitions only.
 use Prim.Native.Nat.{ℕ, _+_, _*_, _<_, _≤_}
-use mathlib.Core.Path.{_≡_}
 use mathlib.Core.List.{List, [], _∷_}
 use lib.Dec.{eqb}
 use lib.Ieee.{Float}

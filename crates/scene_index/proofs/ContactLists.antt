@@ -1,7 +1,7 @@
 -- The contacts of a fluid particle: the record that the index finds is the particle's, and its two lists of contacts
 -- are those of the scene and may be read. From what an accepted scene gives of each particle. Assumes nothing.
 use Prim.Native.Nat.{ℕ, _+_, _*_, _<_, _≤_}
-use mathlib.Core.Path.{_≡_, refl, sym, ap, subst, _∙_}
+use mathlib.Core.Path.{_≡_, sym, ap, subst, _∙_}
 use mathlib.Core.List.{List}
 use native.Mathlib.Numerals.{add-one}
 use native.Mathlib.Omega.{arith}
