@@ -72,11 +72,11 @@ uint64_t iisph_step(const uint8_t *scene, size_t scene_len, double *answers, siz
 /* One step that is lent its index, the list of where each record begins, which iisph_step takes of
    the stack and clears: for threads with little stack, and for many steps.
    index: scratch, at least 4 + 16 * (fluids + boundaries) + 2 * fluid particles + boundary
-       particles elements, which is at most 98564; what it holds before does not matter, and what it
-       holds afterwards is not told.
+       particles elements, which is at most 98564; what it holds before does not matter.
    All else, and what is returned, is as for iisph_step, but that 98 is returned where the index is
-   too short. Then counts[0] is the length that it needs, and answers, work, numbers and counts[1]
-   are unchanged. 99 and refusals 1 to 8 come before that, 9 and 10 after it.
+   too short. Then counts[0] is the length that it needs, and nothing else is written. 99 and
+   refusals 1 to 8 come before that, and leave the index as it was; 9 and 10 come after it. Of an
+   index that was used it is not told what it holds.
    Takes less than 16 KiB of stack, whatever the scene. */
 uint64_t iisph_step_lent(const uint8_t *scene, size_t scene_len, double *answers,
                          size_t answers_len, double *work, size_t work_len, uint64_t *index,

@@ -21,7 +21,7 @@ use Rattle.iisph_preparation.specs.declared.Readiness.the-variants as readiness
 use Rattle.iisph_rules.specs.declared.StepAnswer.{StepAnswer}
 use Rattle.iisph_rules.specs.declared.StepAnswer.the-variants.{Done, Refused}
 use Rattle.scene_lengths.specs.Lengths.{lengthsNeeded, needsAfter, needsOf}
-use Rattle.iisph_solver.specs.Lent.{StepsLent}
+use Rattle.iisph_solver.specs.Lent.{StepsLent, IndexAfter}
 use Rattle.iisph_solver.specs.Step.{Steps}
 use Rattle.iisph_solver.specs.declared.lent.LentAnswer.{LentAnswer}
 use Rattle.iisph_solver.specs.declared.lent.LentAnswer.the-variants.{Answered, ShortIndex}
@@ -33,7 +33,7 @@ use Rattle.iisph_c.specs.Needs.{needsCode, lengthsAfter, NeedsTo}
 use Rattle.iisph_codes.specs.Numbers.{tooShort, shortIndex, countsNeeded, refusedCode, refusedCounts}
 use Rattle.iisph_codes.specs.Report.{numbersNeeded}
 use Rattle.iisph_c.specs.Step.{stepCode, numbersAfter, countsAfter, hasRoom, StepsTo}
-use Rattle.iisph_c.specs.Step.{lentCode, numbersLent, countsLent, LentTo}
+use Rattle.iisph_c.specs.Step.{lentCode, numbersLent, countsLent, LentTo, LentIndex}
 use Rattle.iisph_c.specs.Validate.{validateCode, validateCounts, ValidatesTo}
 
 -- ---- the step
@@ -127,6 +127,12 @@ module _ (b : List ℕ) (answers work : List Float) (index : ℕ) (numbers : Lis
         → LentTo (hasRoom numbers counts) b answers work index numbers counts n answers′ work′ numbers counts′
     unfolding lentCode numbersLent countsLent
     short-to q e g = lent-to (rw q e) (rw q) (rw q g)
+
+-- the index, where there is room
+pub index-after : (b : List ℕ) (answers work numbers : List Float) (counts index : List ℕ)
+    → numbersNeeded ≤ length numbers → countsNeeded ≤ length counts → {index′ : List ℕ}
+    → IndexAfter b answers work index index′ → LentIndex (hasRoom numbers counts) b answers work index index′
+index-after b answers work numbers counts index l m s q = s (rw (room numbers counts l m) at q)
 
 -- ---- whether a step would be refused
 

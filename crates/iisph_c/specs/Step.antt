@@ -1,8 +1,8 @@
--- What `iisph_step` and `iisph_step_lent` return, and every element of their lists afterwards, but for the index, which
--- is scratch. Definitions only.
+-- What `iisph_step` and `iisph_step_lent` return, and every element of their lists afterwards; of the index, which is
+-- scratch, when it is untouched. Definitions only.
 use Prim.Native.Nat.{ℕ}
 use mathlib.Core.Path.{_≡_}
-use mathlib.Core.Bool.{Bool, _&&_}
+use mathlib.Core.Bool.{Bool, false, _&&_}
 use mathlib.Core.List.{List}
 use lib.Dec.{leb}
 use lib.Ieee.{Float}
@@ -13,7 +13,7 @@ use Rattle.iisph_rules.specs.Answer.{stepAnswer, answersAfter, workAfter}
 use Rattle.iisph_rules.specs.Endings.{endingNumber}
 use Rattle.iisph_rules.specs.declared.StepAnswer.{StepAnswer}
 use Rattle.iisph_rules.specs.declared.StepAnswer.the-variants.{Done, Refused}
-use Rattle.iisph_solver.specs.Lent.{lacksIndex, lentAnswer}
+use Rattle.iisph_solver.specs.Lent.{lacksIndex, lentAnswer, usesIndex}
 use Rattle.iisph_solver.specs.declared.lent.LentAnswer.{LentAnswer}
 use Rattle.iisph_solver.specs.declared.lent.LentAnswer.the-variants.{Answered, ShortIndex}
 use Rattle.iisph_codes.specs.Numbers.{tooShort, shortIndex, refusedCode, countsRoom, refusedCounts}
@@ -84,3 +84,8 @@ pub record LentTo (room : Bool) (b : List ℕ) (answers work : List Float) (inde
       ≡ choose room (numbersLent (lentAnswer b (length answers) (length work) index) numbers) numbers
   pub countsThen : counts′
       ≡ choose room (countsLent (lentAnswer b (length answers) (length work) index) counts) counts
+
+-- and when the index is untouched: unless there is room and the passes begin
+abbrev pub LentIndex : Bool → List ℕ → List Float → List Float → List ℕ → List ℕ → Type 0
+LentIndex room b answers work index index′ =
+    room && usesIndex b (length answers) (length work) (length index) ≡ false → index′ ≡ index

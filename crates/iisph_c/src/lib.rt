@@ -22,6 +22,7 @@ ghost use Rattle.iisph_codes.specs.Kernel.{KernelTo};
 ghost use Rattle.iisph_codes.specs.Numbers.{countsNeeded};
 ghost use Rattle.iisph_codes.specs.Report.{numbersNeeded};
 ghost use Rattle.iisph_c.specs.Step.{stepCode, numbersAfter, countsAfter, hasRoom, StepsTo, LentTo};
+ghost use Rattle.iisph_c.specs.Step.{LentIndex};
 ghost use Rattle.iisph_c.specs.Keep.{KeepsTo};
 ghost use Rattle.iisph_c.specs.Needs.{NeedsTo};
 ghost use Rattle.iisph_c.specs.Validate.{ValidatesTo};
@@ -81,6 +82,10 @@ pub extern "C" fn iisph_step_lent(
         LentTo (hasRoom (now (numbers .entry)) (now (counts .entry))) (now (scene .entry)) (now (answers .entry))
         (now (work .entry)) (length (now (index .entry))) (now (numbers .entry)) (now (counts .entry)) r
         (now (answers .exit)) (now (work .exit)) (now (numbers .exit)) (now (counts .exit))
+        ⌝ }
+    ensures { λ _. ⌜
+        LentIndex (hasRoom (now (numbers .entry)) (now (counts .entry))) (now (scene .entry)) (now (answers .entry))
+        (now (work .entry)) (now (index .entry)) (now (index .exit))
         ⌝ }
 {
     if numbers.len() < NUMBERS {

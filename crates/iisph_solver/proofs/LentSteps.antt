@@ -8,7 +8,7 @@ use native.Mathlib.Omega.{arith}
 use lib.Dec.{ltb}
 use lib.Ieee.{Float}
 use lib.ListN.{length}
-use borrow.Author.Tests.{lt-ltb, le-ltb, ltb-true, lt-leb}
+use borrow.Author.Tests.{lt-ltb, le-ltb, ltb-true, le-leb, lt-leb}
 use Rattle.lists.specs.Lists.{choose}
 use Rattle.scene_check.specs.Walk.{checked}
 use Rattle.scene_check.proofs.Early.{refused-early}
@@ -20,7 +20,7 @@ use Rattle.iisph_rules.specs.Answer.{stepAnswer, LongEnough, clearsWork}
 use Rattle.iisph_rules.specs.declared.StepAnswer.{StepAnswer}
 use Rattle.iisph_rules.specs.declared.StepAnswer.the-variants.{Refused}
 use Rattle.iisph_rules.proofs.Cases.{scene-answer, scene-clears}
-use Rattle.iisph_solver.specs.Lent.{lacksIndex, lentAnswer, StepsLent}
+use Rattle.iisph_solver.specs.Lent.{lacksIndex, lentAnswer, StepsLent, usesIndex}
 use Rattle.iisph_solver.specs.Step.{Steps}
 use Rattle.iisph_solver.specs.declared.lent.LentAnswer.{LentAnswer}
 use Rattle.iisph_solver.specs.declared.lent.LentAnswer.the-variants.{Answered, ShortIndex}
@@ -55,6 +55,16 @@ module _ (b : List ℕ) (answers work index : ℕ) where
   lacking-short : lacksIndex b answers work index ≡ true → index < indexNeeded b
   unfolding lacksIndex
   lacking-short e = and-last (clearsWork (stepAnswer b answers work)) e
+
+-- ---- whether the index is used
+
+module _ (b : List ℕ) (answers work : ℕ) where
+  pub used : {e : ℕ} → checked b ≡ walk.At e → LongEnough b answers work → (index : ℕ) → indexNeeded b ≤ index
+      → usesIndex b answers work index ≡ true
+  unfolding usesIndex
+  used w long index h =
+      let a = scene-answer b answers work w (long .enoughAnswers) (long .enoughWork) in
+      rw (a, scene-clears b, le-leb (indexNeeded b) index h)
 
 -- 1 to 7 come before the passes
 pub refused-clears : (b : List ℕ) {r : Refusal} → checked b ≡ walk.Refused r → clearsWork (Refused r) ≡ false

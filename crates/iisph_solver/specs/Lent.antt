@@ -1,10 +1,10 @@
--- The contract of a step that is lent its index: what it answers, and every element of both lists afterwards, for all
--- bytes, lists and lengths of the index. Definitions only.
+-- The contract of a step that is lent its index: what it answers, every element of both lists afterwards, and when the
+-- index is untouched, for all bytes, lists and indexes. Definitions only.
 use Prim.Native.Nat.{ℕ}
 use mathlib.Core.Path.{_≡_}
-use mathlib.Core.Bool.{Bool, _&&_}
+use mathlib.Core.Bool.{Bool, false, _&&_}
 use mathlib.Core.List.{List}
-use lib.Dec.{ltb}
+use lib.Dec.{leb, ltb}
 use lib.Ieee.{Float}
 use lib.ListN.{length}
 use Rattle.lists.specs.Lists.{choose}
@@ -32,3 +32,12 @@ pub record StepsLent (b : List ℕ) (answers work : List Float) (index : ℕ) (r
   pub workThen : work′
       ≡ choose (lacksIndex b (length answers) (length work) index) work
       (workAfter b (length answers) (length work) work)
+
+-- whether the passes begin, with an index of this length
+unfoldable pub usesIndex : List ℕ → ℕ → ℕ → ℕ → Bool
+usesIndex b answers work index = clearsWork (stepAnswer b answers work) && leb (indexNeeded b) index
+
+-- then it is scratch; else it is as it was
+abbrev pub IndexAfter : List ℕ → List Float → List Float → List ℕ → List ℕ → Type 0
+IndexAfter b answers work index index′ =
+    usesIndex b (length answers) (length work) (length index) ≡ false → index′ ≡ index

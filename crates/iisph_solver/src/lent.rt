@@ -29,7 +29,7 @@ ghost use Rattle.scene_check.specs.Check.{Passed};
 ghost use Rattle.scene_format.specs.SceneOf.{sceneOf};
 ghost use Rattle.scene_index.specs.Index.{indexNeeded};
 ghost use Rattle.scene_lengths.specs.Lengths.{answersNeeded};
-ghost use Rattle.iisph_solver.specs.Lent.{StepsLent};
+ghost use Rattle.iisph_solver.specs.Lent.{StepsLent, IndexAfter};
 ghost use Rattle.iisph_solver.specs.Step.{Steps, Finishes};
 
 // What a step answers that is lent its index.
@@ -115,6 +115,10 @@ pub fn step_accepted(
         StepsLent (now (scene .entry)) (now (answers .entry)) (now (work .entry)) (length (now (index .entry))) r
         (now (answers .exit)) (now (work .exit))
         ⌝ }
+    ensures { λ _. ⌜
+        IndexAfter (now (scene .entry)) (now (answers .entry)) (now (work .entry)) (now (index .entry))
+        (now (index .exit))
+        ⌝ }
 {
     let needed = lengths_of(layout);
     if answers.len() < needed.answers {
@@ -141,6 +145,10 @@ pub fn step_lent(
     ensures { λ r. ⌜
         StepsLent (now (scene .entry)) (now (answers .entry)) (now (work .entry)) (length (now (index .entry))) r
         (now (answers .exit)) (now (work .exit))
+        ⌝ }
+    ensures { λ _. ⌜
+        IndexAfter (now (scene .entry)) (now (answers .entry)) (now (work .entry)) (now (index .entry))
+        (now (index .exit))
         ⌝ }
 {
     let found = check(scene);

@@ -141,6 +141,7 @@ fn a_short_index_is_told_and_nothing_is_touched() {
         assert_eq!(call(&mut index[..length]), 98);
     }
     assert_eq!(counts, [needed as u64, 7, 7]);
+    assert!(index.iter().all(|x| *x == 7));
     assert!(answers.iter().chain(&work).chain(&numbers).all(|x| *x == 7.0));
 }
 

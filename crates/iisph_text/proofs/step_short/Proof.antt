@@ -19,14 +19,14 @@ step-accepted-requires c κs = c .before .before .before .before .before .before
 returns : tie.Need-returns
 returns c =
     let a = c .before in
-    this-size (a .before .before .before .before .before .before .before .step-accepted .ensures) (a .answer .given .1)
+    this-size (a .before .before .before .before .before .before .before .step-accepted .ensures .0) (a .answer .given .1)
 
 returns-2 : tie.Need-returns-2
 returns-2 c =
     let s = c .before .before .before .before .before .before .before in
     let p = s .before .before .before .before .before .before .before .pre in
     absurd
-    (not-short (s .step-accepted .ensures) (c .enum-told .given .1)
+    (not-short (s .step-accepted .ensures .0) (c .enum-told .given .1)
     (omega (arith, index-enough (p .0) (p .1), long)))
 
 pub step-short-spec : {M : Type 1} → statement M

@@ -1,7 +1,8 @@
 -- `iisph_solver::lent::step_accepted` meets its contract: lists that are too short are 8, an index that is too short is
 -- said before the passes begin, and else the step is taken. Assumes nothing.
-use Prim.Native.Nat.{_≤_}
-use mathlib.Core.Path.{_≡_, refl, ap}
+use Prim.Native.Nat.{ℕ, _≤_}
+use mathlib.Core.Path.{_≡_, refl, sym, ap, _∙_}
+use mathlib.Core.Bool.{true, false}
 use native.Mathlib.Omega.{arith}
 use denote.Ref.{now}
 use lib.ListN.{length}
@@ -11,10 +12,13 @@ use Rattle.scene_format.specs.SceneOf.{sceneOf}
 use Rattle.scene_index.specs.Index.{indexNeeded, sectionsOf}
 use Rattle.scene_lengths.proofs.Needed.{few-in}
 use Rattle.scene_lengths.specs.Lengths.{answersNeeded, lengthsNeeded}
-use Rattle.iisph_solver.proofs.LentSteps.{steps-lent, early-lent, short-lent}
+use Rattle.iisph_solver.proofs.LentSteps.{used, steps-lent, early-lent, short-lent}
 use Rattle.iisph_solver.proofs.Stepped.{short-answers-steps, short-work-steps}
 use Rattle.iisph_solver.proofs.lent.step_accepted.Statement.{statement}
 use Rattle.iisph_solver.proofs.lent.step_accepted.Tie as tie
+
+unequal : true ≡ false → ⊥
+unequal e = let z : _≡_ {A = ℕ} 0 1 = cc in omega arith
 
 abbrev Begin : tie.After-lengths-of → tie.Start
 Begin c = c .before .before .before .before .before
@@ -30,9 +34,14 @@ unfolding clearsWork
 returns c =
     let l = c .before .before in
     let s = Begin l in
-    early-lent (now (s .args .scene)) (now (s .args .answers)) (now (s .args .work)) _ refl
-    (short-answers-steps (now (s .args .scene)) (now (s .args .answers)) (now (s .args .work)) (s .pre .walk)
-    (omega (arith, c .if1 .taken, ap (λ n. n .answers) (needed l))))
+    let scene = now (s .args .scene) in
+    let answers = now (s .args .answers) in
+    let work = now (s .args .work) in (
+      early-lent scene answers work _ refl
+          (short-answers-steps scene answers work (s .pre .walk)
+          (omega (arith, c .if1 .taken, ap (λ n. n .answers) (needed l)))),
+      λ _. refl,
+    )
 
 abbrev Asked : tie.Else1 → tie.After-lengths-of
 Asked c = c .before .before
@@ -47,9 +56,14 @@ unfolding clearsWork
 returns-2 c =
     let e = c .before .before in
     let s = Begin (Asked e) in
-    early-lent (now (s .args .scene)) (now (s .args .answers)) (now (s .args .work)) _ refl
-    (short-work-steps (now (s .args .scene)) (now (s .args .answers)) (now (s .args .work)) (s .pre .walk) (enough e)
-    (omega (arith, c .if2 .taken, ap (λ n. n .work) (needed (Asked e)))))
+    let scene = now (s .args .scene) in
+    let answers = now (s .args .answers) in
+    let work = now (s .args .work) in (
+      early-lent scene answers work _ refl
+          (short-work-steps scene answers work (s .pre .walk) (enough e)
+          (omega (arith, c .if2 .taken, ap (λ n. n .work) (needed (Asked e))))),
+      λ _. refl,
+    )
 
 abbrev Start-of : tie.Else2 → tie.Start
 Start-of c = Begin (Asked (c .before .before))
@@ -75,10 +89,12 @@ index-needed c = ap (λ s. s .end) (c .sections-of .ensures)
 returns-3 : tie.Need-returns-3
 returns-3 c =
     let i = c .before in
-    let s = Start-of (i .before) in
-    rw (index-needed i)
-    (short-lent (now (s .args .scene)) (now (s .args .answers)) (now (s .args .work)) _ (s .pre .walk)
-    (long (i .before)) (omega (arith, c .if3 .taken, index-needed i)))
+    let s = Start-of (i .before) in (
+      rw (index-needed i)
+          (short-lent (now (s .args .scene)) (now (s .args .answers)) (now (s .args .work)) _ (s .pre .walk)
+          (long (i .before)) (omega (arith, c .if3 .taken, index-needed i))),
+      λ _. refl,
+    )
 
 -- the index is long enough
 room : (c : tie.Else3)
@@ -96,8 +112,14 @@ returns-4 : tie.Need-returns-4
 returns-4 c =
     let t = c .before .before .before .before .before .before in
     let e = t .before .before .before .before in
-    let s = Start-of (e .before .before) in
-    steps-lent (now (s .args .scene)) (now (s .args .answers)) (now (s .args .work)) _ (room e) (t .step-long .ensures)
+    let l = e .before .before in
+    let s = Start-of l in
+    let scene = now (s .args .scene) in
+    let answers = now (s .args .answers) in
+    let work = now (s .args .work) in (
+      steps-lent scene answers work _ (room e) (t .step-long .ensures),
+      λ q. absurd (unequal (sym (used scene (length answers) (length work) (s .pre .walk) (long l) _ (room e)) ∙ q)),
+    )
 
 pub step-accepted-spec : {M : Type 1} → statement M
 step-accepted-spec =

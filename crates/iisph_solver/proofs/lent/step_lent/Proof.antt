@@ -1,4 +1,5 @@
 -- `iisph_solver::lent::step_lent` meets its contract: by the verdict of the check. Assumes nothing.
+use mathlib.Core.Path.{refl}
 use native.Mathlib.Omega.{arith}
 use denote.Ref.{now}
 use borrow.Author.Needs.{needs}
@@ -27,8 +28,10 @@ returns c =
     let k = v .before .before .before in
     let a = Begin k .args in
     let q = verdict-refused _ (k .check .ensures) (v .verdict .given .1) in
-    early-lent (now (a .scene)) (now (a .answers)) (now (a .work)) _ (refused-clears (now (a .scene)) q)
-    (refused-steps (now (a .scene)) (now (a .answers)) (now (a .work)) q)
+    let scene = now (a .scene) in
+    let answers = now (a .answers) in
+    let work = now (a .work) in
+    (early-lent scene answers work _ (refused-clears scene q) (refused-steps scene answers work q), λ _. refl)
 
 pub step-lent-spec : {M : Type 1} → statement M
 step-lent-spec =

@@ -39,7 +39,7 @@ step-largest-requires t c κs =
     let s = told .before .before .before .before .before .before .before in
     let b = s .before .before .before .before .before .before .before in
     absurd
-    (not-short (s .step-accepted .ensures) (told .enum-told .given .1)
+    (not-short (s .step-accepted .ensures .0) (told .enum-told .given .1)
     (omega (arith, index-few (b .pre .1), long longestIndex)))
 
 returns : (t : ℕ)
@@ -47,7 +47,7 @@ returns : (t : ℕ)
     (step-accepted-reads.Asked, step-accepted-reads.Learnt, below t, step-largest.Post) (at t) step-largest.Post
 returns t c =
     let a = c .before in
-    this-size (a .before .before .before .before .before .before .before .step-accepted .ensures) (a .answer .given .1)
+    this-size (a .before .before .before .before .before .before .before .step-accepted .ensures .0) (a .answer .given .1)
 
 returns-2 : (t : ℕ)
     → lts.Need-returns-2
@@ -57,7 +57,7 @@ returns-2 t c =
     let s = told .before .before .before .before .before .before .before in
     let b = s .before .before .before .before .before .before .before in
     absurd
-    (not-short (s .step-accepted .ensures) (told .enum-told .given .1)
+    (not-short (s .step-accepted .ensures .0) (told .enum-told .given .1)
     (omega (arith, index-few (b .pre .1), long longestIndex)))
 
 pub +step-largest-spec : {M : Type 1} → statement M

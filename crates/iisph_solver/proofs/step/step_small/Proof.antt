@@ -12,13 +12,13 @@ step-middle-requires c κs =
 returns : tie.Need-returns
 returns c =
     let a = c .before in
-    this-size (a .before .before .before .before .before .before .before .step-accepted .ensures) (a .answer .given .1)
+    this-size (a .before .before .before .before .before .before .before .step-accepted .ensures .0) (a .answer .given .1)
 
 returns-2 : tie.Need-returns-2
 returns-2 c =
     let s = c .before .before .before .before in
     let t = s .before .before .before in
-    next-size (t .before .before .before .before .before .before .before .step-accepted .ensures)
+    next-size (t .before .before .before .before .before .before .before .step-accepted .ensures .0)
     (t .enum-told .given .1) (s .step-middle .ensures)
 
 pub step-small-spec : {M : Type 1} → statement M
