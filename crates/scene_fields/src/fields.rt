@@ -9,13 +9,10 @@ use scene_format::format::HALF_MODULUS;
 use scene_format::format::MAX_MODELS;
 use scene_format::format::MAX_PARTICLES;
 use scene_format::read::byte;
-use scene_format::read::exponent;
+use scene_format::read::non_finite;
 use scene_format::read::particles;
 ghost use mathlib.Core.Path.{_≡_};
 ghost use Rattle.scene_fields.specs.Fields as walk;
-
-// The exponent of infinities and of what is not a number.
-const NON_FINITE_EXPONENT: usize = 2047;
 
 // A field of k bytes with no rule of its own. Every other field is read only once it has passed this.
 pub fn plain(s: &[u8], k: usize, at: usize) -> Walk
@@ -38,7 +35,7 @@ pub fn double(s: &[u8], at: usize) -> Walk
     let Walk::At(next) = w else {
         return w;
     };
-    if exponent(s, at) == NON_FINITE_EXPONENT {
+    if non_finite(s, at) {
         return Walk::Refused(Refusal::NotFinite(at));
     }
     Walk::At(next)

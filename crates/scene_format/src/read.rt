@@ -21,7 +21,9 @@ ghost use mathlib.Core.Path.{_≡_};
 ghost use Prim.Native.Nat.{_+_, _≤_, _<_};
 ghost use lib.ListN.{length};
 ghost use Rattle.math.specs.Vector.{coordinates};
+ghost use lib.Dec.{eqb};
 ghost use Rattle.scene_format.specs.Bytes.{byteAt, be16At, be32At, be64At, doubleWidth, exponentAt, doubleAt};
+ghost use Rattle.scene_format.specs.Bytes.{nonFiniteExponent};
 ghost use Rattle.scene_format.specs.Bytes.{vectorAt, FiniteAt, AllFinite};
 ghost use Rattle.scene_format.specs.Format.{axes, countWidth, keepsAt, nameWidth, particlesAt, firstRecord};
 ghost use Rattle.scene_format.specs.Format.{nextRecord, countModulus, minPressureIterOffset, modelNumber};
@@ -74,6 +76,24 @@ pub fn exponent(s: &[u8], at: usize) -> usize
     ensures { λ r. ⌜ r ≡ exponentAt (now (s .entry)) at ⌝ }
 {
     be16(s, at) / FRONT_MODULUS % EXPONENT_MODULUS
+}
+
+// The exponent of infinities and of what is not a number, and its part in the first byte, behind the sign.
+const NON_FINITE_EXPONENT: usize = 2047;
+
+const SIGN_MODULUS: usize = 128;
+
+const NON_FINITE_FRONT: usize = 127;
+
+// Whether a double is infinite or not a number. The first byte alone tells it of all but the largest numbers.
+pub fn non_finite(s: &[u8], at: usize) -> bool
+    requires { ⌜ at + doubleWidth ≤ length (now s) ⌝ }
+    ensures { λ r. ⌜ r ≡ eqb (exponentAt (now (s .entry)) at) nonFiniteExponent ⌝ }
+{
+    if byte(s, at) % SIGN_MODULUS != NON_FINITE_FRONT {
+        return false;
+    }
+    exponent(s, at) == NON_FINITE_EXPONENT
 }
 
 // In this form one load and a byte swap, once compiled.

@@ -1,6 +1,5 @@
 -- `scene_fields::fields::double` meets its contract: present or not, then finite or not. Assumes nothing.
 use mathlib.Core.Path.{sym, _∙_}
-use borrow.Author.Tests.{eq-eqb, ne-eqb}
 use borrow.Author.Needs.{needs}
 use Rattle.lists.specs.Lists.{choose}
 use Rattle.scene_fields.specs.Fields.{refusedIf, double}
@@ -13,8 +12,8 @@ returns : tie.Need-returns
 unfolding double
 returns c = field-refused _ _ _ _ (c .before .before .plain .ensures) (c .enum-told .given .1)
 
-exponent-requires : tie.Need-exponent-requires
-exponent-requires c κs = let p =
+non-finite-requires : tie.Need-non-finite-requires
+non-finite-requires c κs = let p =
     c .before in plain-steps _ _ _ _ (sym (p .before .before .plain .ensures) ∙ p .w .given .1) .1
 
 returns-2 : tie.Need-returns-2
@@ -22,14 +21,14 @@ unfolding double refusedIf choose
 returns-2 c =
     let p = c .before .before .before in
     let h = plain-steps _ _ _ _ (sym (p .before .before .plain .ensures) ∙ p .w .given .1) in
-    rw (field-there _ _ _ _ (h .1), ← c .before .exponent .ensures, eq-eqb _ _ (c .if1 .taken))
+    rw (field-there _ _ _ _ (h .1), ← c .before .non-finite .ensures, c .if1 .taken)
 
 returns-3 : tie.Need-returns-3
 unfolding double refusedIf choose
 returns-3 c =
     let p = c .before .before .before in
     let h = plain-steps _ _ _ _ (sym (p .before .before .plain .ensures) ∙ p .w .given .1) in
-    rw (field-there _ _ _ _ (h .1), ← c .before .exponent .ensures, ne-eqb _ _ (c .if1 .left), h .0)
+    rw (field-there _ _ _ _ (h .1), ← c .before .non-finite .ensures, c .if1 .left, h .0)
 
 pub double-spec : {M : Type 1} → statement M
 double-spec =
@@ -39,6 +38,6 @@ double-spec =
     (λ c. search needs)
     (λ c. search needs)
     returns
-    exponent-requires
+    non-finite-requires
     returns-2
     returns-3)
