@@ -45,10 +45,6 @@ module _ (b : List ℕ) {n : ℕ} (size : n ≡ fluidSize (sceneOf b)) (pass : P
       → Behind n xs (stored n (slotOf pass) (rowOf (sceneOf b) l pass) l)
   pass-part q = volumes-kept b size pass n (omega arith) l q
 
-  pub room-kept : (m : ℕ) {x : List Float} → volumesAt n + m ≤ length l
-      → x ≡ stored n (slotOf pass) (rowOf (sceneOf b) l pass) l → volumesAt n + m ≤ length x
-  room-kept m h e = rw (e, length-kept b size pass n (omega arith) l) h
-
   pub pass-beyond : (j : ℕ) → volumesAt n ≤ j → getD (stored n (slotOf pass) (rowOf (sceneOf b) l pass) l) j nan
       ≡ getD l j nan
   pass-beyond j h =

@@ -29,14 +29,13 @@ use Rattle.iisph_pressures.specs.IterationRows.{IterationReady}
 use Rattle.lists.proofs.Stores.{length-stored, stored-other, rows-kept, part-kept}
 use Rattle.iisph_passes.specs.Traverse.{slotOf, rowOf, Ready, nextList}
 use Rattle.iisph_passes.specs.declared.traverse.Pass.{Pass}
-use Rattle.iisph_passes.specs.declared.traverse.Pass.the-variants.{Masses, Advected, Coefficients, Quotients}
+use Rattle.iisph_passes.specs.declared.traverse.Pass.the-variants.{Advection, Coefficients, Quotients}
 use Rattle.iisph_passes.specs.declared.traverse.Pass.the-variants.{DijPjl, NextPressures, Exchange, Shares}
 
 -- ---- how many values a pass stores of a particle
 
 abbrev pub rowLength : Pass → ℕ
-rowLength Masses = 1
-rowLength Advected = axes
+rowLength Advection = 1 + axes
 rowLength Coefficients = 4 + axes
 rowLength Quotients = 1
 rowLength DijPjl = axes
@@ -46,8 +45,7 @@ rowLength Shares = 1
 
 pub row-fits : (pass : Pass) → slotOf pass + rowLength pass ≤ workWidth axes
 unfolding slotOf
-row-fits Masses = omega arith
-row-fits Advected = omega arith
+row-fits Advection = omega arith
 row-fits Coefficients = omega arith
 row-fits Quotients = omega arith
 row-fits DijPjl = omega arith
@@ -68,8 +66,7 @@ Beside pass k c = (k + c ≤ slotOf pass) ⊎ (slotOf pass + rowLength pass ≤ 
 module _ (b : List ℕ) {n : ℕ} (size : n ≡ fluidSize (sceneOf b)) where
   pub row-length : (l : List Float) (pass : Pass) (i : ℕ) → i < n → length (rowOf (sceneOf b) l pass i) ≡ rowLength pass
   unfolding rowOf coefficientRow coefficientsOf
-  row-length l Masses i h = refl
-  row-length l Advected i h = length-advected b i (omega arith)
+  row-length l Advection i h = omega (arith, length-advected b i (omega arith))
   row-length l Coefficients i h =
       simp length-append (omega (arith, length-dii b i (omega arith) (density (sceneOf b) (particle (sceneOf b) i))))
   row-length l Quotients i h = refl
@@ -140,8 +137,7 @@ module _ (b : List ℕ) {n : ℕ} (size : n ≡ fluidSize (sceneOf b)) where
 
     pub row-kept : (pass : Pass) → rowOf (sceneOf b) (during pass i h l) pass j ≡ rowOf (sceneOf b) l pass j
     unfolding rowOf slotOf
-    row-kept Masses = refl
-    row-kept Advected = refl
+    row-kept Advection = refl
     row-kept Coefficients = refl
     row-kept Quotients =
         ap (λ (x : Float). x ∷ [])
@@ -228,8 +224,7 @@ module _ (b : List ℕ) {n : ℕ} (size : n ≡ fluidSize (sceneOf b)) where
     pub ready-kept : (pass : Pass) {work : List Float} → work ≡ during pass i h l → Ready (sceneOf b) n l pass
         → Ready (sceneOf b) n work pass
     unfolding Ready slotOf
-    ready-kept Masses e q = tt
-    ready-kept Advected e q = tt
+    ready-kept Advection e q = tt
     ready-kept Coefficients e q = rw e (ready-coefficients q)
     ready-kept Quotients e q = tt
     ready-kept DijPjl e q =

@@ -1,6 +1,6 @@
 -- A turn of a pass, case by case: the stores that the code makes one after the other are the slots of the particle that
 -- the pass is to store. By where slots stand. Assumes nothing.
-use Prim.Native.Nat.{ℕ, suc, _+_, _*_}
+use Prim.Native.Nat.{ℕ, suc, _+_, _*_, _≤_}
 use mathlib.Core.Path.{_≡_, sym, ap, _∙_}
 use mathlib.Core.List.{List, [], _∷_, _++_}
 use native.Mathlib.Omega.{arith}
@@ -13,8 +13,8 @@ use Rattle.scene_format.specs.Format.{axes}
 use Rattle.scene_format.specs.Scene.{Scene, fluidSize, particle}
 use Rattle.iisph_rules.specs.Coefficients.{particleMass, advectedVelocity, coefficientsOf, coefficients}
 use Rattle.iisph_rules.specs.Iteration.{dijPjl, nextPressure}
-use Rattle.iisph_rows.specs.Rows.{rowAt, slotAt, setSlots, massSlot, dijSlot, pressureSlot, diiSlot, densitySlot}
-use Rattle.iisph_rows.specs.Rows.{predictedSlot, aiiSlot, quotientSlot, nextPressureSlot}
+use Rattle.iisph_rows.specs.Rows.{rowAt, rowWidth, slotAt, setSlots, massSlot, dijSlot, pressureSlot, diiSlot}
+use Rattle.iisph_rows.specs.Rows.{densitySlot, predictedSlot, aiiSlot, quotientSlot, nextPressureSlot}
 use Rattle.iisph_rows.specs.Passes.{firstPressure}
 use Rattle.iisph_rows.proofs.RowStores.{row-set, column-set, column-first}
 use Rattle.iisph_coefficients.specs.Neighbours.{coefficientRow, CoefficientsAre}
@@ -23,12 +23,21 @@ use Rattle.iisph_pressures.specs.IterationRows.{pressuresIn, dijsIn, rowQuotien
 use Rattle.iisph_pressures.specs.declared.iteration.Next.{Next}
 use Rattle.iisph_passes.specs.Traverse.{slotOf, rowOf, coefficientList, rowNext}
 use Rattle.iisph_passes.specs.declared.traverse.Pass.{Pass}
-use Rattle.iisph_passes.specs.declared.traverse.Pass.the-variants.{Masses, Advected, Coefficients, Quotients}
+use Rattle.iisph_passes.specs.declared.traverse.Pass.the-variants.{Advection, Coefficients, Quotients}
 use Rattle.iisph_passes.specs.declared.traverse.Pass.the-variants.{DijPjl, NextPressures, Exchange, Shares}
 
--- ---- coefficients: a pressure and a vector in the row, then three columns
+-- ---- several slots of one particle
 
 module _ (n i : ℕ) where
+  -- in the row a double, and a vector right behind it
+  row-part-set : (k : ℕ) (x : Float) (v : Vector) (l : List Float) → k + 1 + length v ≤ rowWidth axes
+      → sets (set l (rowAt i + k) x) (rowAt i + (k + 1)) v ≡ setSlots n i k (x ∷ v) l
+  row-part-set k x v l fits =
+      let next : rowAt i + (k + 1) ≡ suc (rowAt i + k) = omega arith in
+      ap (λ (j : ℕ). sets (set l (rowAt i + k) x) j v) next
+      ∙ sym (row-set n i k (x ∷ v) l (omega arith))
+
+  -- three columns
   columns-set : (x y z : Float) (l : List Float)
       → set (set (set l (densitySlot axes * n + i) x) (predictedSlot axes * n + i) y) (aiiSlot axes * n + i) z
       ≡ setSlots n i (densitySlot axes) (x ∷ y ∷ z ∷ []) l
@@ -40,14 +49,7 @@ module _ (n i : ℕ) where
       ∙ column-first n i (predictedSlot axes) y (z ∷ []) l₁ (omega arith)
       ∙ column-set n i (aiiSlot axes) z l₂ (omega arith))
 
-  row-part-set : (p : Float) (d : Vector) (l : List Float) → length d ≡ axes
-      → sets (set l (rowAt i + pressureSlot axes) p) (rowAt i + diiSlot axes) d
-      ≡ setSlots n i (pressureSlot axes) (p ∷ d) l
-  row-part-set p d l long =
-      let next : rowAt i + diiSlot axes ≡ suc (rowAt i + pressureSlot axes) = omega arith in
-      ap (λ (k : ℕ). sets (set l (rowAt i + pressureSlot axes) p) k d) next
-      ∙ sym (row-set n i (pressureSlot axes) (p ∷ d) l (omega arith))
-
+  -- the coefficients: a pressure and dii in the row, then the columns
   pub coefficients-set : (p : Float) (d : Vector) (x y z : Float) (l : List Float) {after : List Float}
       → length d ≡ axes → after ≡ sets (set l (rowAt i + pressureSlot axes) p) (rowAt i + diiSlot axes) d
       → set (set (set after (densitySlot axes * n + i) x) (predictedSlot axes * n + i) y) (aiiSlot axes * n + i) z
@@ -55,23 +57,20 @@ module _ (n i : ℕ) where
   coefficients-set p d x y z l {after} long e =
       let behind : densitySlot axes ≡ pressureSlot axes + length (p ∷ d) = omega arith in
       columns-set x y z after
-      ∙ ap (setSlots n i (densitySlot axes) (x ∷ y ∷ z ∷ [])) (e ∙ row-part-set p d l long)
+      ∙ ap (setSlots n i (densitySlot axes) (x ∷ y ∷ z ∷ []))
+      (e ∙ row-part-set (pressureSlot axes) p d l (omega arith))
       ∙ ap (λ (k : ℕ). setSlots n i k (x ∷ y ∷ z ∷ []) (setSlots n i (pressureSlot axes) (p ∷ d) l)) behind
       ∙ sym (slots-append (slotAt n i) (p ∷ d) (x ∷ y ∷ z ∷ []) l (pressureSlot axes))
 
 -- ---- each pass
 
 module _ (s : Scene) {pass : Pass} (n i : ℕ) (work : List Float) where
-  pub mass-stored : {m : Float} → pass ≡ Masses → m ≡ particleMass (particle s i)
-      → set work (rowAt i + massSlot) m ≡ setSlots n i (slotOf pass) (rowOf s work pass i) work
-  unfolding rowOf slotOf
-  mass-stored {m} e q = sym (row-set n i massSlot (m ∷ []) work (omega arith)) ∙ rw (e, q)
-
-  pub advected-stored : {v after : List Float} → pass ≡ Advected → v ≡ advectedVelocity s (particle s i)
-      → length v ≡ axes → after ≡ sets work (rowAt i + dijSlot) v
+  pub advection-stored : {m : Float} {v after : List Float} → pass ≡ Advection → m ≡ particleMass (particle s i)
+      → v ≡ advectedVelocity s (particle s i) → length v ≡ axes
+      → after ≡ sets (set work (rowAt i + massSlot) m) (rowAt i + dijSlot) v
       → after ≡ setSlots n i (slotOf pass) (rowOf s work pass i) work
   unfolding rowOf slotOf
-  advected-stored {v} e q long g = g ∙ sym (row-set n i dijSlot v work (omega arith)) ∙ rw (e, q)
+  advection-stored {m} {v} e q r long g = g ∙ row-part-set n i massSlot m v work (omega arith) ∙ rw (e, q, r)
 
   pub coefficients-stored : {c : CoefficientsOf} {p : Float} {after : List Float} → pass ≡ Coefficients
       → CoefficientsAre c (coefficientsOf s (particle s i)) → p ≡ firstPressure s i

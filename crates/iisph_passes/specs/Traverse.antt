@@ -15,9 +15,8 @@ use Rattle.math.specs.Vector.{coordinates}
 use Rattle.scene_format.specs.Format.{axes}
 use Rattle.scene_format.specs.Scene.{Scene, fluidSize, particle}
 use Rattle.iisph_passes.specs.declared.traverse.Pass.{Pass}
-use Rattle.iisph_passes.specs.declared.traverse.Pass.the-variants.{Masses, Advected, Coefficients}
-use Rattle.iisph_passes.specs.declared.traverse.Pass.the-variants.{Quotients, DijPjl, NextPressures, Exchange}
-use Rattle.iisph_passes.specs.declared.traverse.Pass.the-variants.{Shares}
+use Rattle.iisph_passes.specs.declared.traverse.Pass.the-variants.{Advection, Coefficients, Quotients}
+use Rattle.iisph_passes.specs.declared.traverse.Pass.the-variants.{DijPjl, NextPressures, Exchange, Shares}
 
 -- the coefficients of the code with a pressure, as `coefficientRow` has them
 abbrev pub coefficientList : CoefficientsOf → Float → List Float
@@ -33,8 +32,7 @@ abbrev pub rowNext : List Float → ℕ → ℕ → Float
 rowNext work n i = elementAt work (nextPressureSlot axes * n + i)
 
 unfoldable pub slotOf : Pass → ℕ
-slotOf Masses = massSlot
-slotOf Advected = dijSlot
+slotOf Advection = massSlot
 slotOf Coefficients = pressureSlot axes
 slotOf Quotients = quotientSlot axes
 slotOf DijPjl = dijSlot
@@ -44,8 +42,7 @@ slotOf Shares = quotientSlot axes
 
 -- from the list before the pass
 unfoldable pub rowOf : Scene → List Float → Pass → ℕ → List Float
-rowOf s work Masses i = massRow s i
-rowOf s work Advected i = advectedRow s i
+rowOf s work Advection i = massRow s i ++ advectedRow s i
 rowOf s work Coefficients i = coefficientRow s i
 rowOf s work Quotients i = rowQuotient work (fluidSize s) i ∷ []
 rowOf s work DijPjl i = dijPjl s (coefficients s) (pressuresIn (fluidSize s) work) (particle s i)
@@ -60,8 +57,7 @@ afterPass s p work = stored (fluidSize s) (slotOf p) (rowOf s work p) work
 
 -- of the list before the pass, of n particles
 unfoldable pub Ready : Scene → ℕ → List Float → Pass → Type 0
-Ready s n work Masses = Unit
-Ready s n work Advected = Unit
+Ready s n work Advection = Unit
 Ready s n work Coefficients = CoefficientsReady s n work
 Ready s n work Quotients = Unit
 Ready s n work DijPjl = DijReady s n work

@@ -35,10 +35,8 @@ ghost use Rattle.iisph_passes.specs.Traverse.{slotOf, rowOf, Ready, coef
 
 // What is stored of every particle.
 pub enum Pass {
-    // Fluid::particle_mass.
-    Masses,
-    // predict_advection, integrate_and_clear_accelerations.
-    Advected,
+    // Fluid::particle_mass; predict_advection, integrate_and_clear_accelerations.
+    Advection,
     // compute_densities, compute_predicted_densities, compute_dii, compute_aii; the first pressures.
     Coefficients,
     // ((-m) × p) / (rho × rho), which compute_dij_pjl takes of every contact.
@@ -87,12 +85,10 @@ fn update_row(
         ⌝ }
 {
     match pass {
-        Pass::Masses => {
+        Pass::Advection => {
             let m = mass_of(scene, index, n, i);
-            work[ROW * i + MASS] = m;
-        }
-        Pass::Advected => {
             let v = advected_of(scene, index, n, dt, gravity, i);
+            work[ROW * i + MASS] = m;
             put_vector(work, ROW * i + ADVECTED, v);
         }
         Pass::Coefficients => {

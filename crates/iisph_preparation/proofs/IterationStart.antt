@@ -25,7 +25,7 @@ use Rattle.iisph_passes.specs.Traverse.{slotOf}
 use Rattle.iisph_rows.specs.Rows.{Rows, Behind, volumesAt, massSlot}
 use Rattle.iisph_passes.specs.declared.traverse.Pass.the-variants.{Coefficients}
 use Rattle.lists.proofs.RowParts.{rows-part, rows-one}
-use Rattle.iisph_preparation.proofs.RowsFilled.{start, two, part-stored, prepared-two}
+use Rattle.iisph_preparation.proofs.RowsFilled.{start, afterAdvection, part-stored, advected-ready}
 use Rattle.iisph_passes.proofs.Passes.{pass-keeps, pass-part}
 use Rattle.iisph_preparation.proofs.RowsFilled.{length-prepared, coefficient-rows}
 use Rattle.iisph_rules.proofs.Sizes.{length-dii}
@@ -68,21 +68,22 @@ module _ (b : List ℕ) (i : ℕ) (h : i < fluidSize (sceneOf b)) where
 
 module _ (b : List ℕ) (l : List Float)
     (room : volumesAt (fluidSize (sceneOf b)) + boundarySize (sceneOf b) ≤ length l) where
-  two-prepared : CoefficientsReady (sceneOf b) (fluidSize (sceneOf b)) (two b l)
-  two-prepared =
+  coefficients-find : CoefficientsReady (sceneOf b) (fluidSize (sceneOf b)) (afterAdvection b l)
+  coefficients-find =
       let v : length (volumes (sceneOf b)) ≡ boundarySize (sceneOf b) = length-table (boundarySize (sceneOf b)) _ in
       let m = length-sets l (volumesAt (fluidSize (sceneOf b))) (volumes (sceneOf b)) in
-      prepared-two b refl (start b l) (omega arith)
-      (part-stored (volumesAt (fluidSize (sceneOf b))) (volumes (sceneOf b)) l (omega arith)) refl refl
+      advected-ready b refl (start b l) (omega arith)
+      (part-stored (volumesAt (fluidSize (sceneOf b))) (volumes (sceneOf b)) l (omega arith)) refl
 
   mass-kept : Rows (fluidSize (sceneOf b)) massSlot (massRow (sceneOf b)) (prepared (sceneOf b) l)
   unfolding prepared rowsFilled slotOf
-  mass-kept = pass-keeps b refl Coefficients (two b l) massSlot 1 (λ j h. refl) (omega arith) (inl (omega arith))
-      (two-prepared .mass)
+  mass-kept =
+      pass-keeps b refl Coefficients (afterAdvection b l) massSlot 1 (λ j h. refl) (omega arith) (inl (omega arith))
+      (coefficients-find .mass)
 
   volume-kept : Behind (fluidSize (sceneOf b)) (volumes (sceneOf b)) (prepared (sceneOf b) l)
   unfolding prepared rowsFilled
-  volume-kept = pass-part b refl Coefficients (two b l) (two-prepared .volume)
+  volume-kept = pass-part b refl Coefficients (afterAdvection b l) (coefficients-find .volume)
 
   pub iteration-ready : IterationReady (sceneOf b) (firstPressures (sceneOf b)) (fluidSize (sceneOf b))
       (prepared (sceneOf b) l)

@@ -1,28 +1,28 @@
--- What the passes before the iterations leave in the work list: each its slots, beside those of the earlier ones and
--- the boundary volumes, and all else as it was. Pass by pass, from the laws of one pass. Assumes
--- nothing.
-use Prim.Native.Nat.{ℕ, _+_, _≤_}
-use mathlib.Core.Path.{_≡_, refl, ap, _∙_}
-use mathlib.Core.List.{List}
-use mathlib.Core.Logic.{inl}
+-- What the two passes before the iterations leave in the work list: each its slots, beside those of the other and the
+-- boundary volumes, and all else as it was. Pass by pass, from the laws of one pass. Assumes nothing.
+use Prim.Native.Nat.{ℕ, suc, _+_, _≤_}
+use mathlib.Core.Path.{_≡_, refl, _∙_}
+use mathlib.Core.List.{List, _++_}
 use native.Mathlib.Omega.{arith}
 use lib.Ieee.{Float, nan}
 use lib.ListN.{length, getD, drop}
 use lib.Seq.{sets, length-sets}
 use Rattle.lists.specs.Stores.{Part}
 use Rattle.lists.proofs.Lists.{length-table}
-use Rattle.scene_format.specs.Scene.{fluidSize, boundarySize}
+use Rattle.scene_format.specs.Scene.{fluidSize, boundarySize, particle}
 use Rattle.scene_format.specs.SceneOf.{sceneOf}
+use Rattle.iisph_rules.specs.Coefficients.{particleMass}
 use Rattle.iisph_rows.specs.Passes.{massRow, advectedRow, volumes, CoefficientsReady}
 use Rattle.iisph_coefficients.specs.Neighbours.{coefficientRow}
 use Rattle.iisph_preparation.specs.Prepare.{rowsFilled, prepared}
 use Rattle.iisph_passes.specs.Traverse.{slotOf, rowOf, afterPass}
 use Rattle.iisph_rows.specs.Rows.{volumesAt, slotAt, stored, Rows, Behind}
-use Rattle.iisph_rows.specs.Rows.{pressureSlot, dijSlot, massSlot}
+use Rattle.iisph_rows.specs.Rows.{pressureSlot, massSlot}
 use Rattle.scene_format.specs.Format.{axes}
-use Rattle.iisph_passes.specs.declared.traverse.Pass.the-variants.{Masses, Advected, Coefficients}
+use Rattle.iisph_passes.specs.declared.traverse.Pass.the-variants.{Advection, Coefficients}
+use Rattle.lists.proofs.RowParts.{rows-part, rows-one}
 use Rattle.lists.proofs.Stores.{sets-in, sets-above, length-stored}
-use Rattle.iisph_passes.proofs.Passes.{drop-same, pass-rows, pass-keeps, pass-part, pass-beyond}
+use Rattle.iisph_passes.proofs.Passes.{drop-same, pass-rows, pass-part, pass-beyond}
 
 -- the volumes, once they are stored
 module _ (k : ℕ) (xs l : List Float) where
@@ -30,32 +30,30 @@ module _ (k : ℕ) (xs l : List Float) where
   part-stored room = record { holds = λ j h. sets-in nan xs l k j room h }
 
 module _ (b : List ℕ) {n : ℕ} (size : n ≡ fluidSize (sceneOf b)) where
-  -- ---- what the coefficients need, after the first two passes
+  -- ---- what the coefficients need, after the first pass
 
-  module _ (l : List Float) (room : volumesAt n + boundarySize (sceneOf b) ≤ length l)
-      (v : Behind n (volumes (sceneOf b)) l) where
-    pub prepared-two : {x y : List Float} → x ≡ stored n (slotOf Masses) (rowOf (sceneOf b) l Masses) l
-        → y ≡ stored n (slotOf Advected) (rowOf (sceneOf b) x Advected) x → CoefficientsReady (sceneOf b) n y
-    unfolding slotOf rowOf
-    prepared-two {x} {y} e q =
-        let s = sceneOf b in
-        let m : length x ≡ length l = ap length e
-        ∙ length-stored nan (slotAt n) massSlot (massRow s) l n in
-        rw q
-        record {
-          room = rw (length-stored nan (slotAt n) dijSlot (advectedRow s) x n) (omega arith);
-          mass = pass-keeps b size Advected x massSlot 1 (λ j h. refl) (omega arith) (inl (omega arith))
-              (rw e (pass-rows b size Masses l (omega arith)));
-          advected = pass-rows b size Advected x (omega arith);
-          volume = pass-part b size Advected x (rw e (pass-part b size Masses l v));
-        }
+  pub advected-ready : (l : List Float) → volumesAt n + boundarySize (sceneOf b) ≤ length l
+      → Behind n (volumes (sceneOf b)) l → {x : List Float}
+      → x ≡ stored n (slotOf Advection) (rowOf (sceneOf b) l Advection) l → CoefficientsReady (sceneOf b) n x
+  unfolding slotOf rowOf
+  advected-ready l room v e =
+      let s = sceneOf b in
+      let rows = pass-rows b size Advection l (omega arith) in
+      rw e
+      record {
+        room = rw (length-stored nan (slotAt n) massSlot (λ i. massRow s i ++ advectedRow s i) l n) room;
+        mass = rows-one rows 0 (λ i. particleMass (particle s i)) (λ i h. (omega arith, refl));
+        advected = rows-part rows 1 (advectedRow s)
+            (λ i h a c. let behind : 1 + a ≡ suc a = omega arith in (omega arith, rw behind refl));
+        volume = pass-part b size Advection l v;
+      }
 
-  pub rows-filled : (w : List Float) {x y z : List Float} → x ≡ stored n (slotOf Masses) (rowOf (sceneOf b) w Masses) w
-      → y ≡ stored n (slotOf Advected) (rowOf (sceneOf b) x Advected) x
-      → z ≡ stored n (slotOf Coefficients) (rowOf (sceneOf b) y Coefficients) y
-      → z ≡ rowsFilled (sceneOf b) w
+  pub rows-filled : (w : List Float) {x y : List Float}
+      → x ≡ stored n (slotOf Advection) (rowOf (sceneOf b) w Advection) w
+      → y ≡ stored n (slotOf Coefficients) (rowOf (sceneOf b) x Coefficients) x
+      → y ≡ rowsFilled (sceneOf b) w
   unfolding rowsFilled
-  rows-filled w p q r = rw (r, q, p, size)
+  rows-filled w p q = rw (q, p, size)
 
 -- ---- the whole list, for n fluid and m boundary particles
 
@@ -64,27 +62,27 @@ module _ (b : List ℕ) (l : List Float) where
   abbrev pub start : List Float
   start = sets l (volumesAt (fluidSize (sceneOf b))) (volumes (sceneOf b))
 
-  abbrev pub two : List Float
-  two = afterPass (sceneOf b) Advected (afterPass (sceneOf b) Masses start)
+  abbrev pub afterAdvection : List Float
+  afterAdvection = afterPass (sceneOf b) Advection start
 
-  length-two : length two ≡ length l
-  length-two =
-      length-stored nan (slotAt (fluidSize (sceneOf b))) _ _ _ (fluidSize (sceneOf b))
-      ∙ length-stored nan (slotAt (fluidSize (sceneOf b))) _ _ _ (fluidSize (sceneOf b))
+  length-after-advection : length afterAdvection ≡ length l
+  length-after-advection =
+      length-stored nan (slotAt (fluidSize (sceneOf b))) _ _ start (fluidSize (sceneOf b))
       ∙ length-sets l (volumesAt (fluidSize (sceneOf b))) (volumes (sceneOf b))
 
   pub length-prepared : length (prepared (sceneOf b) l) ≡ length l
   unfolding prepared rowsFilled
-  length-prepared = length-stored nan (slotAt (fluidSize (sceneOf b))) _ _ two (fluidSize (sceneOf b)) ∙ length-two
+  length-prepared =
+      length-stored nan (slotAt (fluidSize (sceneOf b))) _ _ afterAdvection (fluidSize (sceneOf b))
+      ∙ length-after-advection
 
   pub beyond-prepared : (j : ℕ) → volumesAt (fluidSize (sceneOf b)) + boundarySize (sceneOf b) ≤ j
       → getD (prepared (sceneOf b) l) j nan ≡ getD l j nan
   unfolding prepared rowsFilled
   beyond-prepared j h =
       let above : volumesAt (fluidSize (sceneOf b)) ≤ j = omega arith in
-      pass-beyond b refl Coefficients two j above
-      ∙ pass-beyond b refl Advected _ j above
-      ∙ pass-beyond b refl Masses start j above
+      pass-beyond b refl Coefficients afterAdvection j above
+      ∙ pass-beyond b refl Advection start j above
       ∙ sets-above nan (volumes (sceneOf b)) l (volumesAt (fluidSize (sceneOf b))) j
       (rw (length-table (boundarySize (sceneOf b))) h)
 
@@ -92,7 +90,7 @@ module _ (b : List ℕ) (l : List Float) where
     pub coefficient-rows : Rows (fluidSize (sceneOf b)) (pressureSlot axes) (coefficientRow (sceneOf b))
         (prepared (sceneOf b) l)
     unfolding prepared rowsFilled slotOf rowOf
-    coefficient-rows = pass-rows b refl Coefficients two (omega (arith, length-two))
+    coefficient-rows = pass-rows b refl Coefficients afterAdvection (omega (arith, length-after-advection))
 
   pub drop-prepared : (k : ℕ) → volumesAt (fluidSize (sceneOf b)) + boundarySize (sceneOf b) ≤ k
       → drop k (prepared (sceneOf b) l) ≡ drop k l

@@ -28,9 +28,9 @@ use Rattle.iisph_preparation.specs.declared.Readiness.the-variants.{Read
 
 -- ---- the list
 
--- masses, then advected velocities, then coefficients and first pressures
+-- masses and advected velocities, then coefficients and first pressures
 unfoldable pub rowsFilled : Scene → List Float → List Float
-rowsFilled s work = afterPass s pass.Coefficients (afterPass s pass.Advected (afterPass s pass.Masses work))
+rowsFilled s work = afterPass s pass.Coefficients (afterPass s pass.Advection work)
 
 -- behind rows and columns the boundary volumes
 unfoldable pub prepared : Scene → List Float → List Float

@@ -45,8 +45,7 @@ fn fill_rows(scene: &[u8], index: &[usize], n: usize, dt: f64, gravity: Vec3, wo
     requires { ⌜ Room (sceneOf (now scene)) n (now work) × Behind n (volumes (sceneOf (now scene))) (now work) ⌝ }
     ensures { λ _. ⌜ now (work .exit) ≡ rowsFilled (sceneOf (now (scene .entry))) (now (work .entry)) ⌝ }
 {
-    traverse(Pass::Masses, scene, index, n, dt, gravity, work);
-    traverse(Pass::Advected, scene, index, n, dt, gravity, work);
+    traverse(Pass::Advection, scene, index, n, dt, gravity, work);
     traverse(Pass::Coefficients, scene, index, n, dt, gravity, work);
 }
 

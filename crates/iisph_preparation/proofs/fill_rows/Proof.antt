@@ -1,12 +1,8 @@
--- `iisph_preparation::fill_rows` meets its contract: each pass finds what it needs, which the earlier ones stored.
--- Assumes nothing.
+-- `iisph_preparation::fill_rows` meets its contract: the first pass needs nothing of the list, and stores what the
+-- coefficients need. Assumes nothing.
 use denote.Ref.{now}
-use Rattle.scene_format.specs.Scene.{boundarySize}
-use Rattle.scene_format.specs.SceneOf.{sceneOf}
 use Rattle.iisph_passes.specs.Traverse.{Ready}
-use Rattle.iisph_passes.specs.declared.traverse.Pass.the-variants.{Masses}
-use Rattle.iisph_preparation.proofs.RowsFilled.{prepared-two, rows-filled}
-use Rattle.iisph_passes.proofs.Passes.{room-kept}
+use Rattle.iisph_preparation.proofs.RowsFilled.{advected-ready, rows-filled}
 use borrow.Author.Needs.{needs}
 use Rattle.iisph_preparation.proofs.fill_rows.Statement.{statement}
 use Rattle.iisph_preparation.proofs.fill_rows.Tie as tie
@@ -20,30 +16,17 @@ unfolding Ready
 traverse-requires-2 c κs =
     let t = c .before .before .before in
     let b = t .before .before .before .before .before in
-    let e = room-kept (now (b .args .scene)) (b .pre .0 .timed .over .size) Masses (now (b .args .work))
-    (boundarySize (sceneOf (now (b .args .scene)))) (b .pre .1 .0) (t .traverse .ensures) in
-    (b .pre .0, (e, tt))
-
-traverse-requires-3 : tie.Need-traverse-requires-3
-unfolding Ready
-traverse-requires-3 c κs =
-    let u = c .before .before .before in
-    let t = u .before .before .before .before in
-    let b = t .before .before .before .before .before in
-    let e = prepared-two (now (b .args .scene)) (b .pre .0 .timed .over .size) (now (b .args .work)) (b .pre .1 .0)
-    (b .pre .1 .1) (t .traverse .ensures) (u .traverse2 .ensures) in
+    let e = advected-ready (now (b .args .scene)) (b .pre .0 .timed .over .size) (now (b .args .work)) (b .pre .1 .0)
+    (b .pre .1 .1) (t .traverse .ensures) in
     (b .pre .0, (e .room, e))
 
 returns : tie.Need-returns
 returns c =
-    let v = c .before .before in
-    let u = v .before .before .before .before in
+    let u = c .before .before in
     let t = u .before .before .before .before in
     let b = t .before .before .before .before .before in
     rows-filled (now (b .args .scene)) (b .pre .0 .timed .over .size) (now (b .args .work)) (t .traverse .ensures)
-    (u .traverse2 .ensures) (v .traverse3 .ensures)
+    (u .traverse2 .ensures)
 
 pub fill-rows-spec : {M : Type 1} → statement M
-fill-rows-spec =
-    tie.close
-    (tie.spec traverse-requires traverse-requires-2 traverse-requires-3 (λ c. search needs) returns)
+fill-rows-spec = tie.close (tie.spec traverse-requires traverse-requires-2 (λ c. search needs) returns)
