@@ -2,10 +2,12 @@
 -- first byte all but its last four bits. Assumes nothing.
 use Prim.Native.Nat.{ℕ, _+_, _*_, _/_, _%_, _<_}
 use mathlib.Core.Path.{_≡_}
+use mathlib.Core.Bool.{true}
 use mathlib.Core.List.{List}
 use native.Mathlib.Omega.{arith}
+use borrow.Author.Tests.{not-true, eqb-false}
 use Rattle.scene_format.specs.Bytes.{Bytes, byteAt, be16At, be32At, be64At, exponentModulus, fractionModulus}
-use Rattle.scene_format.specs.Bytes.{exponentAt, nonFiniteExponent}
+use Rattle.scene_format.specs.Bytes.{exponentAt, nonFiniteExponent, signModulus, nonFiniteFront, plainlyFinite}
 
 -- of the fraction, how much stands in the first two bytes, and in the six behind them
 abbrev pub frontModulus : ℕ
@@ -37,5 +39,10 @@ exponent-front b at bytes =
     rw (same, front (be16At b at) rest below)
 
 -- behind the sign, the first byte's bits are those of the exponent
-pub first-byte : (b : List ℕ) (at : ℕ) → Bytes b → exponentAt b at ≡ nonFiniteExponent → byteAt b at % 128 ≡ 127
-first-byte b at bytes e = omega (arith, exponent-front b at bytes, bytes at, bytes (at + 1))
+pub plainly-finite : (b : List ℕ) (at : ℕ) → Bytes b → plainlyFinite b at ≡ true
+    → exponentAt b at ≡ nonFiniteExponent → ⊥
+unfolding plainlyFinite
+plainly-finite b at bytes h e =
+    let first : byteAt b at % signModulus ≡ nonFiniteFront =
+    omega (arith, exponent-front b at bytes, bytes at, bytes (at + 1)) in
+    eqb-false _ _ (not-true _ h) first

@@ -2,7 +2,9 @@
 -- only.
 use Prim.Native.Nat.{ℕ, _+_, _*_, _/_, _%_, _<_, _≤_}
 use mathlib.Core.Path.{_≡_}
+use mathlib.Core.Bool.{Bool, not}
 use mathlib.Core.List.{List}
+use lib.Dec.{eqb}
 use lib.ListN.{length, getD}
 use lib.Ieee.{Float}
 use Rattle.math.specs.Real.{bits}
@@ -57,6 +59,17 @@ pub record FiniteAt (b : List ℕ) (at : ℕ) : Type 0 where
 -- n doubles from an offset on are there and finite
 pub record AllFinite (b : List ℕ) (at n : ℕ) : Type 0 where
   pub each : (k : ℕ) → k < n → FiniteAt b (at + doubleWidth * k)
+
+-- whether the first byte alone tells that a double is finite: behind the sign, not every bit of it is set. Scaffolding
+-- of contracts
+abbrev pub signModulus : ℕ
+signModulus = 128
+
+abbrev pub nonFiniteFront : ℕ
+nonFiniteFront = 127
+
+unfoldable pub plainlyFinite : List ℕ → ℕ → Bool
+plainlyFinite b at = not (eqb (byteAt b at % signModulus) nonFiniteFront)
 
 -- ---- bytes
 

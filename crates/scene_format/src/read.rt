@@ -23,7 +23,7 @@ ghost use lib.ListN.{length};
 ghost use Rattle.math.specs.Vector.{coordinates};
 ghost use lib.Dec.{eqb};
 ghost use Rattle.scene_format.specs.Bytes.{byteAt, be16At, be32At, be64At, doubleWidth, exponentAt, doubleAt};
-ghost use Rattle.scene_format.specs.Bytes.{nonFiniteExponent};
+ghost use Rattle.scene_format.specs.Bytes.{nonFiniteExponent, plainlyFinite};
 ghost use Rattle.scene_format.specs.Bytes.{vectorAt, FiniteAt, AllFinite};
 ghost use Rattle.scene_format.specs.Format.{axes, countWidth, keepsAt, nameWidth, particlesAt, firstRecord};
 ghost use Rattle.scene_format.specs.Format.{nextRecord, countModulus, minPressureIterOffset, modelNumber};
@@ -85,12 +85,20 @@ const SIGN_MODULUS: usize = 128;
 
 const NON_FINITE_FRONT: usize = 127;
 
-// Whether a double is infinite or not a number. The first byte alone tells it of all but the largest numbers.
+// Whether the first byte alone tells that a double is finite. It does of all but the largest numbers.
+pub fn plainly_finite(s: &[u8], at: usize) -> bool
+    requires { ⌜ at < length (now s) ⌝ }
+    ensures { λ r. ⌜ r ≡ plainlyFinite (now (s .entry)) at ⌝ }
+{
+    byte(s, at) % SIGN_MODULUS != NON_FINITE_FRONT
+}
+
+// Whether a double is infinite or not a number.
 pub fn non_finite(s: &[u8], at: usize) -> bool
     requires { ⌜ at + doubleWidth ≤ length (now s) ⌝ }
     ensures { λ r. ⌜ r ≡ eqb (exponentAt (now (s .entry)) at) nonFiniteExponent ⌝ }
 {
-    if byte(s, at) % SIGN_MODULUS != NON_FINITE_FRONT {
+    if plainly_finite(s, at) {
         return false;
     }
     exponent(s, at) == NON_FINITE_EXPONENT
