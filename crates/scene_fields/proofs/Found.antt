@@ -22,7 +22,7 @@ use Rattle.scene_fields.proofs.Reached.{double-steps}
 use Rattle.scene_fields.proofs.Walks.{field-there}
 
 module _ (b : List ℕ) where
-  double-there : {at : ℕ} → FiniteAt b at → double b at ≡ At (at + doubleWidth)
+  pub double-there : {at : ℕ} → FiniteAt b at → double b at ≡ At (at + doubleWidth)
   unfolding double refusedIf choose
   double-there ok = field-there b _ _ _ (ok .present) ∙ rw (ne-eqb _ _ (ok .finite))
 

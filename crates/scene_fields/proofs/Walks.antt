@@ -1,10 +1,11 @@
--- What the functions of a walk cite: a field that is not there, and a loop of which some turns are done, where what
--- remains from here is the whole. By cases on the test of a field, and by the turns left. Assumes nothing.
-use Prim.Native.Nat.{ℕ, zero, suc, _+_, _-_, _≤_, _<_}
-use mathlib.Core.Path.{_≡_, refl, sym, _∙_, ap}
+-- What the functions of a walk cite: a field that is there or not, steps one after the other, and a loop of which some
+-- turns are done, where what remains from here is the whole. By cases on the test of a field, and by the turns left.
+-- Assumes nothing.
+use Prim.Native.Nat.{ℕ, zero, suc, _+_, _*_, _-_, _≤_, _<_}
+use mathlib.Core.Path.{_≡_, refl, sym, _∙_, ap, subst}
 use mathlib.Core.Bool.{Bool, true, false}
 use mathlib.Core.List.{List}
-use native.Mathlib.Nat.{sub-zero}
+use native.Mathlib.Nat.{sub-zero, zero-add, suc-add, add-zero, mul-zero, mul-suc}
 use native.Mathlib.Omega.{arith}
 use lib.Dec.{leb}
 use lib.ListN.{length}
@@ -27,6 +28,10 @@ module _ (b : List ℕ) (k : ℕ) (rule : ℕ → Walk) (at : ℕ) where
   pub field-missing : length b < at + k → field b k rule at ≡ Refused (MissingField at)
   unfolding field refusedIf choose
   field-missing h = rw (lt-leb _ _ h)
+
+pub plain-there : (b : List ℕ) (k at : ℕ) → at + k ≤ length b → plain b k at ≡ At (at + k)
+unfolding plain
+plain-there b k at h = field-there b k _ at h
 
 -- a field whose bytes are refused is refused so
 pub field-refused : (b : List ℕ) (k : ℕ) (rule : ℕ → Walk) (at : ℕ) {w : Walk} {r : Refusal}
@@ -53,6 +58,32 @@ gone-on f q e = rw q e
 -- a step from where w has come to, where w is v
 pub onward : {w v x : Walk} (f : ℕ → Walk) → x ≡ w ▹ f → w ≡ v → x ≡ v ▹ f
 onward f e q = e ∙ ap (λ (y : Walk). y ▹ f) q
+
+-- ---- steps one after the other
+
+-- a step h that is f and then g
+in-two : (w : Walk) (f g h : ℕ → Walk) → ((at : ℕ) → h at ≡ f at ▹ g) → w ▹ h ≡ w ▹ f ▹ g
+unfolding _▹_
+in-two (At at) f g h e = e at
+in-two (Refused r) f g h e = refl
+
+pub times-add : (n m : ℕ) (f : ℕ → Walk) (at : ℕ) → times (n + m) f at ≡ times n f at ▹ times m f
+unfolding times _▹_
+times-add zero m f at = rw (zero-add m)
+times-add (suc n) m f at = rw (suc-add n m) (in-two (f at) _ _ _ (times-add n m f))
+
+-- n steps of c bytes each, none of which is refused
+pub parts-there : (f : ℕ → Walk) (c n at : ℕ) → ((k : ℕ) → k < n → f (at + c * k) ≡ At (at + c * k + c))
+    → times n f at ≡ At (at + c * n)
+unfolding times _▹_
+parts-there f c zero at h = rw (mul-zero, add-zero)
+parts-there f c (suc n) at h =
+    rw (step 0 at (rw (mul-zero, add-zero)) (omega arith))
+    (parts-there f c n (at + c) (λ k l. step (suc k) _ (omega (arith, mul-suc c k)) (omega arith))
+    ∙ ap At (omega (arith, mul-suc c n)))
+  where
+    step : (k x : ℕ) → at + c * k ≡ x → k < suc n → f x ≡ At (x + c)
+    step k x e l = subst (λ (y : ℕ). f y ≡ At (y + c)) e (h k l)
 
 -- ---- loops
 
