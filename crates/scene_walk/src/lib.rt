@@ -13,6 +13,8 @@ use scene_format::format::AXES;
 use scene_format::format::BOUNDARY_CONTACT_DOUBLES;
 use scene_format::format::BOUNDARY_CONTACTS;
 use scene_format::format::CONTACT_DOUBLES;
+use scene_format::format::CONTACT_WIDTH;
+use scene_format::format::DOUBLE_WIDTH;
 use scene_format::format::FLUID_CONTACTS;
 use scene_format::format::HEADER_DOUBLES;
 use scene_format::format::NAME_WIDTH;
@@ -23,13 +25,15 @@ use scene_format::read::byte;
 use scene_format::read::keeps;
 use scene_format::read::model_number;
 use scene_format::read::particles;
+use scene_format::read::plainly_finite;
 ghost use mathlib.Core.Path.{_≡_};
-ghost use Prim.Native.Nat.{ℕ, _+_, _≤_, _<_};
+ghost use Prim.Native.Nat.{ℕ, _+_, _*_, _≤_, _<_};
 ghost use lib.ListN.{length};
 ghost use Rattle.scene_fields.specs.Fields.{_▹_, times};
 ghost use Rattle.scene_fields.specs.Fields as steps;
-ghost use Rattle.scene_format.specs.Bytes.{byteAt};
-ghost use Rattle.scene_format.specs.Format.{minPressureIterOffset, countWidth};
+ghost use Rattle.scene_format.specs.Bytes.{doubleWidth};
+ghost use Rattle.scene_format.specs.Format.{axes, contactDoubles, minPressureIterOffset, countWidth};
+ghost use Rattle.scene_walk.specs.Plainly.{contactBytes, doublesPlainlyFinite, contactsPlainlyFinite};
 ghost use Rattle.scene_walk.specs.Walk as walk;
 
 // A field of k bytes with no rule of its own, from where a walk has come to.
@@ -87,27 +91,65 @@ fn contacts(s: &[u8], d: usize, n: usize, from: usize) -> Walk
     Walk::At(at)
 }
 
-// The contacts of a record, from where a walk has come to: they have d doubles each, and their count stands at an
-// offset in the record, which the walk has passed.
-fn contacts_on(s: &[u8], d: usize, from: usize, count: usize, w: Walk) -> Walk
-    requires { ⌜ ((e : ℕ) → w ≡ Walk.At e → from + count < length (now s)) ⌝ }
-    ensures { λ r. ⌜ r ≡ w ▹ times (byteAt (now (s .entry)) (from + count)) (walk.contact d (now (s .entry))) ⌝ }
+// Whether of n doubles the first bytes alone tell that they are finite.
+fn doubles_plainly_finite(s: &[u8], n: usize, from: usize) -> bool
+    requires { ⌜ from + doubleWidth * n ≤ length (now s) ⌝ }
+    ensures { λ r. ⌜ r ≡ doublesPlainlyFinite (now (s .entry)) n from ⌝ }
 {
-    let Walk::At(at) = w else {
-        return w;
-    };
-    contacts(s, d, byte(s, from + count), at)
+    let mut i = 0;
+    while i < n {
+        if !plainly_finite(s, from + DOUBLE_WIDTH * i) {
+            return false;
+        }
+        i += 1;
+    }
+    true
 }
 
-// A fluid particle.
+// Whether they tell it of n contacts of d doubles each; the names are passed over.
+fn contacts_plainly_finite(s: &[u8], d: usize, n: usize, from: usize) -> bool
+    requires { ⌜ from + contactBytes d * n ≤ length (now s) ⌝ }
+    ensures { λ r. ⌜ r ≡ contactsPlainlyFinite (now (s .entry)) d n from ⌝ }
+{
+    let mut at = from;
+    let mut i = 0;
+    while i < n {
+        if !doubles_plainly_finite(s, d, at + NAME_WIDTH) {
+            return false;
+        }
+        at += NAME_WIDTH + DOUBLE_WIDTH * d;
+        i += 1;
+    }
+    true
+}
+
+// n contacts of a fluid record, as many as two bytes count. Nearly always they are there and plainly finite, which one
+// look at each double tells; where it does not hold of all, the walk goes from field to field.
+fn fluid_contacts(s: &[u8], n: usize, from: usize) -> Walk
+    requires { ⌜ n < 512 ⌝ }
+    ensures { λ r. ⌜ r ≡ times n (walk.contact (contactDoubles axes) (now (s .entry))) from ⌝ }
+{
+    let w = plain(s, CONTACT_WIDTH * n, from);
+    if let Walk::At(_) = w {
+        if contacts_plainly_finite(s, CONTACT_DOUBLES, n, from) {
+            return w;
+        }
+    }
+    contacts(s, CONTACT_DOUBLES, n, from)
+}
+
+// A fluid particle. Its contacts of both kinds are one list.
 fn fluid_record(s: &[u8], from: usize) -> Walk
     ensures { λ r. ⌜ r ≡ walk.fluidRecord (now (s .entry)) from ⌝ }
 {
     let own = doubles(s, RECORD_DOUBLES, from);
     let fluids = plain_on(s, 1, own);
     let boundaries = plain_on(s, 1, fluids);
-    let fluid_contacts = contacts_on(s, CONTACT_DOUBLES, from, FLUID_CONTACTS, boundaries);
-    contacts_on(s, CONTACT_DOUBLES, from, BOUNDARY_CONTACTS, fluid_contacts)
+    let Walk::At(at) = boundaries else {
+        return boundaries;
+    };
+    let n = byte(s, from + FLUID_CONTACTS) + byte(s, from + BOUNDARY_CONTACTS);
+    fluid_contacts(s, n, at)
 }
 
 // A boundary particle, of a boundary that keeps forces if k is 1.
@@ -117,8 +159,11 @@ fn boundary_record(s: &[u8], k: usize, from: usize) -> Walk
 {
     let own = doubles(s, AXES + AXES * k, from);
     let boundaries = plain_on(s, 1, own);
+    let Walk::At(at) = boundaries else {
+        return boundaries;
+    };
     let count = VECTOR_WIDTH + VECTOR_WIDTH * k;
-    contacts_on(s, BOUNDARY_CONTACT_DOUBLES, from, count, boundaries)
+    contacts(s, BOUNDARY_CONTACT_DOUBLES, byte(s, from + count), at)
 }
 
 // A record of the model whose head is at an offset.

@@ -1,11 +1,13 @@
 -- `scene_walk::boundary_record` meets its contract: field by field, each from where the walk has come to; the count is
 -- there once it is passed. Assumes nothing.
+use Prim.Native.Nat.{_+_, _≤_}
 use mathlib.Core.Path.{_≡_, sym, _∙_}
 use native.Mathlib.Omega.{arith}
+use lib.ListN.{length}
 use borrow.Author.Needs.{needs}
 use Rattle.scene_fields.specs.Fields.{_▹_, times, plain, double}
-use Rattle.scene_fields.proofs.Walks.{onward}
-use Rattle.scene_format.specs.Format.{axes, boundaryRecordDoubles}
+use Rattle.scene_fields.proofs.Walks.{stopped, gone-on, onward}
+use Rattle.scene_format.specs.Format.{axes, boundaryRecordDoubles, boundaryRecordWidth}
 use Rattle.scene_walk.specs.Walk.{boundaryRecord}
 use Rattle.scene_walk.proofs.Walked.{boundary-own-leads}
 use Rattle.scene_walk.proofs.boundary_record.Statement.{statement}
@@ -17,14 +19,30 @@ own : (c : tie.After-plain-on)
     c .plain-on .result ≡ times (boundaryRecordDoubles axes (a .k)) (double (a .s .now)) (a .from) ▹ plain (a .s .now) 1
 own c = onward _ (c .plain-on .ensures) (c .before .doubles .ensures)
 
-contacts-on-requires : tie.Need-contacts-on-requires
-contacts-on-requires c κs e q =
-    let a = c .before .before .before .args in
-    omega (arith, boundary-own-leads (a .s .now) (a .k) (a .from) e (sym (own c) ∙ q) .1 .1)
+count-there : (c : tie.After-known-told)
+    → let a = c .before .before .before .before .before .before .args in
+    a .from + boundaryRecordWidth axes (a .k) ≤ length (a .s .now)
+count-there c =
+    let p = c .before in
+    boundary-own-leads _ _ _ _ (sym (own (p .before .before)) ∙ p .boundaries .given .1) .1 .1
 
 returns : tie.Need-returns
 unfolding boundaryRecord
-returns c = onward _ (c .contacts-on .ensures) (own (c .before))
+returns c = onward _ (stopped _ (c .enum-told .given .1)) (own (c .before .before))
+
+add-byte : tie.Need-add-byte
+add-byte c = omega (arith, count-there c)
+
+byte-requires : tie.Need-byte-requires
+byte-requires c κs = omega (arith, count-there c)
+
+returns-2 : tie.Need-returns-2
+unfolding boundaryRecord
+returns-2 c =
+    let n = c .before in
+    let p = n .before .before in
+    onward _ (gone-on _ (p .boundaries .given .1) (rw (← n .byte .ensures .0) (c .contacts .ensures)))
+    (own (p .before .before))
 
 pub boundary-record-spec : {M : Type 1} → statement M
 boundary-record-spec =
@@ -36,5 +54,10 @@ boundary-record-spec =
     (λ c κs. search needs)
     (λ c. search needs)
     (λ c. search needs)
-    contacts-on-requires
-    returns)
+    returns
+    (λ c. search needs)
+    (λ c. search needs)
+    add-byte
+    byte-requires
+    (λ c κs. search needs)
+    returns-2)

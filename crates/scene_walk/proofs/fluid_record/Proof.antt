@@ -1,15 +1,13 @@
 -- `scene_walk::fluid_record` meets its contract: field by field, each from where the walk has come to; the counts are
--- there once they are passed. Assumes nothing.
-use Prim.Native.Nat.{ℕ, _+_, _≤_}
+-- there once they are passed, and their sum counts both lists of contacts. Assumes nothing.
+use Prim.Native.Nat.{_+_, _≤_}
 use mathlib.Core.Path.{_≡_, sym, _∙_}
 use native.Mathlib.Omega.{arith}
 use lib.ListN.{length}
 use borrow.Author.Needs.{needs}
 use Rattle.scene_fields.specs.Fields.{_▹_, times, plain, double}
-use Rattle.scene_fields.proofs.Reached.{both}
-use Rattle.scene_fields.proofs.Walks.{onward}
+use Rattle.scene_fields.proofs.Walks.{stopped, onward, times-add}
 use Rattle.scene_format.specs.Format.{axes, recordDoubles, recordWidth}
-use Rattle.scene_format.specs.declared.Walk.the-variants.{At}
 use Rattle.scene_walk.specs.Walk.{fluidRecord}
 use Rattle.scene_walk.proofs.Walked.{fluid-own-leads}
 use Rattle.scene_walk.proofs.fluid_record.Statement.{statement}
@@ -26,23 +24,42 @@ own c =
     let p = c .before in
     onward _ (c .plain-on2 .ensures) (onward _ (p .plain-on .ensures) (p .before .doubles .ensures))
 
-counts-there : (c : tie.After-plain-on2) {e : ℕ} → c .plain-on2 .result ≡ At e
-    → Begin c .args .from + recordWidth axes ≤ length (Begin c .args .s .now)
-counts-there c q = fluid-own-leads _ _ _ (sym (own c) ∙ q) .1 .1
-
-contacts-on-requires : tie.Need-contacts-on-requires
-contacts-on-requires c κs e q = omega (arith, counts-there c q)
-
-contacts-on-requires-2 : tie.Need-contacts-on-requires-2
-contacts-on-requires-2 c κs e q =
-    let (_, p, _) = both _ _ (sym (c .contacts-on .ensures) ∙ q) in
-    omega (arith, counts-there (c .before) p)
+counts-there : (c : tie.After-known-told)
+    → let a = Begin (c .before .before .before) .args in
+    a .from + recordWidth axes ≤ length (a .s .now)
+counts-there c =
+    let p = c .before in
+    fluid-own-leads _ _ _ (sym (own (p .before .before)) ∙ p .boundaries .given .1) .1 .1
 
 returns : tie.Need-returns
 unfolding fluidRecord
 returns c =
-    let f = c .before in
-    onward _ (c .contacts-on2 .ensures) (onward _ (f .contacts-on .ensures) (own (f .before)))
+    let q = c .enum-told .given .1 in
+    onward _ (stopped _ q) (onward _ (stopped _ q) (own (c .before .before)))
+
+add-byte : tie.Need-add-byte
+add-byte c = omega (arith, counts-there c)
+
+byte-requires : tie.Need-byte-requires
+byte-requires c κs = omega (arith, counts-there c)
+
+add-byte-2 : tie.Need-add-byte-2
+add-byte-2 c = omega (arith, counts-there (c .before))
+
+byte-requires-2 : tie.Need-byte-requires-2
+byte-requires-2 c κs = omega (arith, counts-there (c .before))
+
+returns-2 : tie.Need-returns-2
+unfolding fluidRecord _▹_
+returns-2 c =
+    let n = c .before in
+    let p = n .before .before .before in
+    rw (
+      sym (own (p .before .before)) ∙ p .boundaries .given .1,
+      ← n .before .byte .ensures .0,
+      ← n .byte2 .ensures .0,
+    )
+    (c .fluid-contacts .ensures ∙ times-add _ _ _ _)
 
 pub fluid-record-spec : {M : Type 1} → statement M
 fluid-record-spec =
@@ -51,6 +68,13 @@ fluid-record-spec =
     (λ c κs. search needs)
     (λ c κs. search needs)
     (λ c κs. search needs)
-    contacts-on-requires
-    contacts-on-requires-2
-    returns)
+    (λ c. search needs)
+    (λ c. search needs)
+    returns
+    add-byte
+    byte-requires
+    add-byte-2
+    byte-requires-2
+    (λ c. search needs)
+    (λ c κs. search needs)
+    returns-2)
