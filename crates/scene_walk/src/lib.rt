@@ -1,5 +1,5 @@
 // The walk through the fields of a packed scene: refusals 1 to 6. Each function is a step of specs/Walk.antt, and takes
-// any offset.
+// any offset; two more look ahead at contacts, by specs/Plainly.antt.
 use scene_fields::fields::Half;
 use scene_fields::fields::count;
 use scene_fields::fields::double;
