@@ -7,7 +7,7 @@ use mathlib.Core.List.{List, _++_}
 use native.Mathlib.Omega.{arith}
 use lib.Ieee.{Float}
 use lib.ListN.{drop, replicate}
-use borrow.Author.Tests.{lt-ltb, le-ltb, lt-leb}
+use borrow.Author.Tests.{le-ltb, lt-leb}
 use Rattle.math.specs.Real.{+0}
 use Rattle.lists.specs.Lists.{choose}
 use Rattle.scene_format.specs.Format.{locationOf}
@@ -20,7 +20,7 @@ use Rattle.scene_format.specs.declared.Refusal.{Refusal}
 use Rattle.scene_format.specs.declared.Refusal.the-variants.{ShortList}
 use Rattle.scene_format.specs.declared.Walk.the-variants as walk
 use Rattle.scene_check.proofs.Early.{refused-early}
-use Rattle.iisph_rules.specs.Answer.{afterCheck, stepAnswer, clearsWork, workAfter}
+use Rattle.iisph_rules.specs.Answer.{afterCheck, listsShort, stepAnswer, clearsWork, workAfter}
 use Rattle.iisph_rules.specs.Step.{sceneAnswer, unlessZero}
 use Rattle.iisph_rules.specs.declared.StepAnswer.{StepAnswer}
 use Rattle.iisph_rules.specs.declared.StepAnswer.the-variants.{Refused}
@@ -42,14 +42,9 @@ module _ (b : List ℕ) (answers work : ℕ) where
 
   module _ {e : ℕ} (q : checked b ≡ walk.At e) where
     -- 8
-    pub short-answers : answers < answersNeeded (sceneOf b) → stepAnswer b answers work ≡ Refused ShortList
+    pub short-answer : listsShort b answers work ≡ true → stepAnswer b answers work ≡ Refused ShortList
     unfolding stepAnswer afterCheck choose
-    short-answers h = rw (q, lt-ltb answers (answersNeeded (sceneOf b)) h)
-
-    pub short-work : answersNeeded (sceneOf b) ≤ answers → work < workNeeded (sceneOf b)
-        → stepAnswer b answers work ≡ Refused ShortList
-    unfolding stepAnswer afterCheck choose
-    short-work l h = rw (q, le-ltb answers (answersNeeded (sceneOf b)) l, lt-ltb work (workNeeded (sceneOf b)) h)
+    short-answer h = rw (q, h)
 
     pub scene-answer : answersNeeded (sceneOf b) ≤ answers → workNeeded (sceneOf b) ≤ work
         → stepAnswer b answers work ≡ sceneAnswer (λ i. locationOf Fluid b i .at) (sceneOf b)

@@ -23,8 +23,8 @@ use Rattle.scene_format.specs.SceneOf.{sceneOf}
 use Rattle.scene_lengths.specs.Lengths.{answersNeeded, workNeeded}
 use Rattle.scene_check.specs.Walk.{checked}
 use Rattle.iisph_rules.specs.Step.{answersOf, reportOf, unlessZero, sceneAnswer}
-use Rattle.iisph_rules.specs.Answer.{afterCheck, stepAnswer, LongEnough, isDone, answersAfter, clearsWork}
-use Rattle.iisph_rules.specs.Answer.{workAfter}
+use Rattle.iisph_rules.specs.Answer.{afterCheck, listsShort, stepAnswer, LongEnough, isDone, answersAfter}
+use Rattle.iisph_rules.specs.Answer.{clearsWork, workAfter}
 use Rattle.iisph_rules.specs.Locality.{AcceptedAnswered, DoneAccepted}
 use Rattle.iisph_rules.specs.declared.Report.{Report}
 use Rattle.iisph_rules.specs.declared.StepAnswer.{StepAnswer}
@@ -54,6 +54,14 @@ neither : (s t : Bool) → (s || t) ≡ false → (s ≡ false) × (t ≡ false)
 neither true t q = (q, let z : _≡_ {A = ℕ} 0 1 = cc in absurd (omega arith))
 neither false t q = (refl, q)
 
+pub long-lists : (b : List ℕ) (answers work : ℕ) → listsShort b answers work ≡ false → LongEnough b answers work
+long-lists b answers work e =
+    let n = neither (ltb answers (answersNeeded (sceneOf b))) (ltb work (workNeeded (sceneOf b))) e in
+    record {
+      enoughAnswers = ltb-false answers (answersNeeded (sceneOf b)) (n .0);
+      enoughWork = ltb-false work (workNeeded (sceneOf b)) (n .1);
+    }
+
 pub answers-refused : (b : List ℕ) (answers work : ℕ) {r : Refusal} → stepAnswer b answers work ≡ Refused r
     → (old : List Float) → answersAfter b answers work old ≡ old
 unfolding answersAfter isDone choose
@@ -73,15 +81,10 @@ module _ (b : List ℕ) (answers work : ℕ) {r : Report} (q : stepAnswer b answ
   step-done =
       let (e, p, h) = walked (checked b) _ q in
       let (short, k) = not-refused _ _ _ h in
-      let n = neither (ltb answers (answersNeeded (sceneOf b))) (ltb work (workNeeded (sceneOf b))) short in
       record {
         end = e;
         accepted = p;
-        long =
-            record {
-              enoughAnswers = omega (arith, ltb-false answers (answersNeeded (sceneOf b)) (n .0));
-              enoughWork = omega (arith, ltb-false work (workNeeded (sceneOf b)) (n .1));
-            };
+        long = long-lists b answers work short;
         scene = k;
         report = scene-done _ _ k;
       }

@@ -28,13 +28,15 @@ unfoldable pub afterCheck : Walk → StepAnswer → StepAnswer
 afterCheck (walk.At end) answer = answer
 afterCheck (walk.Refused r) answer = Refused r
 
+-- whether a list is too short
+abbrev pub listsShort : List ℕ → ℕ → ℕ → Bool
+listsShort b answers work = ltb answers (answersNeeded (sceneOf b)) || ltb work (workNeeded (sceneOf b))
+
 -- then 8, then 9 and 10
 unfoldable pub stepAnswer : List ℕ → ℕ → ℕ → StepAnswer
 stepAnswer b answers work =
     afterCheck (checked b)
-    (choose (ltb answers (answersNeeded (sceneOf b)) || ltb work (workNeeded (sceneOf b)))
-    (Refused ShortList)
-    (sceneAnswer (λ i. locationOf Fluid b i .at) (sceneOf b)))
+    (choose (listsShort b answers work) (Refused ShortList) (sceneAnswer (λ i. locationOf Fluid b i .at) (sceneOf b)))
 
 -- lists of these lengths are as long as a step needs them
 pub record LongEnough (b : List ℕ) (answers work : ℕ) : Type 0 where

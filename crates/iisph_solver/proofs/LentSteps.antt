@@ -135,23 +135,14 @@ module _ (b : List ℕ) (answers work : List Float) (index : ℕ) where
 
 -- ---- a step over one that is lent its index
 
-module _ {b : List ℕ} {answers work : List Float} {index : ℕ} {l : LentAnswer} {answers₁ work₁ : List Float}
-    (lent : StepsLent b answers work index l answers₁ work₁) where
-  pub this-size : {r : StepAnswer} → l ≡ Answered r → Steps b answers work r answers₁ work₁
+module _ {b : List ℕ} {answers work : List Float} {index : ℕ} {l : LentAnswer} {answers′ work′ : List Float}
+    (lent : StepsLent b answers work index l answers′ work′) where
+  pub this-size : {r : StepAnswer} → l ≡ Answered r → Steps b answers work r answers′ work′
   this-size e =
-      answered-steps b answers work index (subst (λ l. StepsLent b answers work index l answers₁ work₁) e lent)
-
-  short : {k : ℕ} → l ≡ ShortIndex k
-      → (k ≡ indexNeeded b) × (index < indexNeeded b) × (answers₁ ≡ answers) × (work₁ ≡ work)
-  short e = short-index b answers work index (subst (λ l. StepsLent b answers work index l answers₁ work₁) e lent)
-
-  -- with another index, the lists being untouched
-  pub next-size : {k : ℕ} → l ≡ ShortIndex k → {r : StepAnswer} {answers₂ work₂ : List Float}
-      → Steps b answers₁ work₁ r answers₂ work₂ → Steps b answers work r answers₂ work₂
-  next-size e {r} {answers₂} {work₂} s =
-      let p = short e in
-      rw (← p .2, ← p .3) s
+      answered-steps b answers work index (subst (λ l. StepsLent b answers work index l answers′ work′) e lent)
 
   -- an index that is long enough is not too short
   pub not-short : {k : ℕ} → l ≡ ShortIndex k → indexNeeded b ≤ index → ⊥
-  not-short e h = omega (arith, short e .1)
+  not-short e h =
+      let s = subst (λ l. StepsLent b answers work index l answers′ work′) e lent in
+      omega (arith, short-index b answers work index s .1)

@@ -15,15 +15,16 @@ use iisph_rules::StepAnswer;
 use scene_check::Verdict;
 use scene_check::check;
 use scene_format::Refusal;
-use scene_index::index::sections_of;
+use scene_index::index::index_needed;
 use scene_layout::Layout;
 use scene_lengths::lengths_of;
+ghost use mathlib.Core.Path.{_≡_};
 ghost use Prim.Native.Nat.{_≤_};
 ghost use lib.ListN.{length};
 ghost use Rattle.iisph_header.specs.Header.{StepHeaderIs};
 ghost use Rattle.iisph_pressures.specs.IterationRows.{IterationReady};
 ghost use Rattle.iisph_rows.specs.Passes.{PassOver};
-ghost use Rattle.iisph_rules.specs.Answer.{LongEnough};
+ghost use Rattle.iisph_rules.specs.Answer.{listsShort, LongEnough};
 ghost use Rattle.iisph_rules.specs.Step.{firstPressures};
 ghost use Rattle.scene_check.specs.Check.{Passed};
 ghost use Rattle.scene_format.specs.SceneOf.{sceneOf};
@@ -76,9 +77,18 @@ fn finish(
     }
 }
 
+// Whether a list is too short for a step on a scene that its caller has checked (8).
+pub fn lists_short(scene: &[u8], layout: Layout, answers: usize, work: usize) -> bool
+    requires { ⌜ Passed (now scene) layout ⌝ }
+    ensures { λ r. ⌜ r ≡ listsShort (now (scene .entry)) answers work ⌝ }
+{
+    let needed = lengths_of(layout);
+    answers < needed.answers || work < needed.work
+}
+
 // The passes before the iterations, refusals 9 and 10, and what follows, of a scene that its caller has checked, with
 // lists that are long enough.
-fn step_long(
+pub fn step_long(
     scene: &[u8],
     layout: Layout,
     answers: &mut [f64],
@@ -120,16 +130,12 @@ pub fn step_accepted(
         (now (index .exit))
         ⌝ }
 {
-    let needed = lengths_of(layout);
-    if answers.len() < needed.answers {
+    if lists_short(scene, layout, answers.len(), work.len()) {
         return LentAnswer::Answered(StepAnswer::Refused(Refusal::ShortList));
     }
-    if work.len() < needed.work {
-        return LentAnswer::Answered(StepAnswer::Refused(Refusal::ShortList));
-    }
-    let end = sections_of(scene, layout).end;
-    if index.len() < end {
-        return LentAnswer::ShortIndex(end);
+    let needed = index_needed(scene, layout);
+    if index.len() < needed {
+        return LentAnswer::ShortIndex(needed);
     }
     LentAnswer::Answered(step_long(scene, layout, answers, work, index))
 }

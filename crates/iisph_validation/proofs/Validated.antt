@@ -1,11 +1,12 @@
 -- Validating a scene answers and leaves the work list as a step does that is refused, or that is done: by the cases of
 -- `stepAnswer`. Refusals 1 to 8 leave the list alone, and what comes after them clears it. Assumes nothing.
 use Prim.Native.Nat.{ℕ, _≤_, _<_}
-use mathlib.Core.Path.{_≡_, refl, sym, ap, subst, _∙_}
+use mathlib.Core.Path.{_≡_, sym, ap, _∙_}
 use mathlib.Core.List.{List, _++_}
 use native.Mathlib.Omega.{arith}
 use lib.Ieee.{Float}
 use lib.ListN.{length, drop, replicate}
+use borrow.Author.Tests.{lt-ltb, le-ltb}
 use Rattle.math.specs.Real.{+0}
 use Rattle.scene_format.specs.Format.{locationOf}
 use Rattle.scene_format.specs.SceneOf.{sceneOf}
@@ -17,13 +18,10 @@ use Rattle.scene_format.specs.declared.Refusal.the-variants.{ShortList}
 use Rattle.scene_format.specs.declared.Walk.the-variants as walk
 use Rattle.iisph_rules.specs.Step.{sceneAnswer}
 use Rattle.iisph_preparation.specs.Prepare.{workPrepared, readiness}
-use Rattle.scene_index.specs.Index.{indexNeeded}
-use Rattle.iisph_validation.specs.Validate.{Validates, ValidatesLent}
-use Rattle.iisph_validation.specs.declared.LentReadiness.{LentReadiness}
-use Rattle.iisph_validation.specs.declared.LentReadiness.the-variants.{Answered, ShortIndex}
+use Rattle.iisph_validation.specs.Validate.{Validates}
 use Rattle.iisph_preparation.specs.declared.Readiness.{Readiness}
 use Rattle.iisph_preparation.specs.declared.Readiness.the-variants.{Ready, Refused}
-use Rattle.iisph_rules.proofs.Cases.{refused-answer, short-work, scene-answer, work-refused, work-short}
+use Rattle.iisph_rules.proofs.Cases.{refused-answer, short-answer, scene-answer, work-refused, work-short}
 use Rattle.iisph_rules.proofs.Cases.{work-cleared}
 use Rattle.iisph_preparation.proofs.Prepared.{beyond}
 
@@ -43,8 +41,9 @@ module _ (b : List ℕ) (work : List Float) where
     pub short-validates : length work < workNeeded (sceneOf b) → Validates b work (Refused ShortList) work
     unfolding readiness
     short-validates h =
-        let s = short-work b (answersNeeded (sceneOf b)) (length work) q (omega arith) h in
-        record { answer = rw s; list = sym (work-short b (answersNeeded (sceneOf b)) (length work) s work) }
+        let n = answersNeeded (sceneOf b) in
+        let s = short-answer b n (length work) q (rw (le-ltb n n (omega arith), lt-ltb (length work) _ h)) in
+        record { answer = rw s; list = sym (work-short b n (length work) s work) }
 
     -- 9 and 10, where the passes have cleared the list
     pub zero-validates : workNeeded (sceneOf b) ≤ length work → {r : Refusal} {x : List Float}
@@ -72,26 +71,3 @@ module _ (b : List ℕ) (work : List Float) where
           list = w ∙ rw (n, p, beyond b work Ready)
               (sym (work-cleared b (answersNeeded (sceneOf b)) (length work) s work));
         }
-
--- ---- over one that is lent its index
-
-module _ (b : List ℕ) (work : List Float) (index : ℕ) where
-  pub answered-lent : {x : Readiness} {after : List Float} → Validates b work x after
-      → ValidatesLent b work index (Answered x) after
-  answered-lent {x} {after} v =
-      record {
-        answered = λ r e. let q : x ≡ r = cc in subst (λ r. Validates b work r after) q v;
-        short = λ e. let z : _≡_ {A = ℕ} 0 1 = cc in absurd (omega arith);
-      }
-
-  pub short-lent : index < indexNeeded b → ValidatesLent b work index ShortIndex work
-  short-lent h =
-      record { answered = λ r e. let z : _≡_ {A = ℕ} 0 1 = cc in absurd (omega arith); short = λ e. (h, refl) }
-
-module _ {b : List ℕ} {work after : List Float} {index : ℕ} {l : LentReadiness}
-    (lent : ValidatesLent b work index l after) (e : l ≡ ShortIndex) where
-  pub next-size : {r : Readiness} {after′ : List Float} → Validates b after r after′ → Validates b work r after′
-  next-size {r} {after′} v = subst (λ w. Validates b w r after′) (lent .short e .1) v
-
-  pub not-short : indexNeeded b ≤ index → ⊥
-  not-short h = omega (arith, lent .short e .0)

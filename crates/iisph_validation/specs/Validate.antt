@@ -2,7 +2,7 @@
 -- Definitions only.
 use mathlib.Core.Path.{_≡_}
 use mathlib.Core.List.{List}
-use Prim.Native.Nat.{ℕ, _<_}
+use Prim.Native.Nat.{ℕ}
 use lib.Ieee.{Float}
 use lib.ListN.{length}
 use Rattle.scene_format.specs.SceneOf.{sceneOf}
@@ -10,18 +10,8 @@ use Rattle.scene_lengths.specs.Lengths.{answersNeeded}
 use Rattle.iisph_rules.specs.Answer.{stepAnswer, workAfter}
 use Rattle.iisph_preparation.specs.Prepare.{readiness}
 use Rattle.iisph_preparation.specs.declared.Readiness.{Readiness}
-use Rattle.scene_index.specs.Index.{indexNeeded}
-use Rattle.iisph_validation.specs.declared.LentReadiness.{LentReadiness}
-use Rattle.iisph_validation.specs.declared.LentReadiness.the-variants.{Answered, ShortIndex}
 
 -- of the bytes b and a work list, which is left as that step leaves it
 pub record Validates (b : List ℕ) (work : List Float) (r : Readiness) (after : List Float) : Type 0 where
   pub answer : r ≡ readiness (stepAnswer b (answersNeeded (sceneOf b)) (length work))
   pub list : after ≡ workAfter b (answersNeeded (sceneOf b)) (length work) work
-
--- ---- scaffolding: with an index of this length, which is too short or not
-
-pub record ValidatesLent (b : List ℕ) (work : List Float) (index : ℕ) (l : LentReadiness) (after : List Float)
-    : Type 0 where
-  pub answered : (r : Readiness) → l ≡ Answered r → Validates b work r after
-  pub short : l ≡ ShortIndex → (index < indexNeeded b) × (after ≡ work)

@@ -10,46 +10,32 @@ use scene_format::Refusal;
 use scene_index::index::LONGEST_INDEX;
 use scene_index::index::MIDDLE_INDEX;
 use scene_index::index::SMALL_INDEX;
-use scene_index::index::sections_of;
+use scene_index::index::index_needed;
 use scene_layout::Layout;
 use scene_lengths::lengths_of;
+ghost use Prim.Native.Nat.{_≤_};
 ghost use lib.ListN.{length};
 ghost use Rattle.scene_check.specs.Check.{Passed};
-ghost use Rattle.iisph_validation.specs.Validate.{Validates, ValidatesLent};
+ghost use Rattle.scene_format.specs.SceneOf.{sceneOf};
+ghost use Rattle.scene_index.specs.Index.{indexNeeded, smallIndex, middleIndex};
+ghost use Rattle.scene_lengths.specs.Lengths.{workNeeded};
+ghost use Rattle.iisph_validation.specs.Validate.{Validates};
 
-// The readiness of a scene, or that the lent index is too short for it.
-pub enum LentReadiness {
-    Answered(Readiness),
-    ShortIndex,
-}
-
-// The readiness of an accepted scene, with a lent index.
-fn validate_accepted(
-    scene: &[u8],
-    layout: Layout,
-    work: &mut [f64],
-    index: &mut [usize],
-) -> LentReadiness
-    requires { ⌜ Passed (now scene) layout ⌝ }
-    ensures { λ r. ⌜
-        ValidatesLent (now (scene .entry)) (now (work .entry)) (length (now (index .entry))) r (now (work .exit))
-        ⌝ }
+// The readiness of an accepted scene, with a work list and an index that are long enough.
+fn validate_long(scene: &[u8], layout: Layout, work: &mut [f64], index: &mut [usize]) -> Readiness
+    requires { ⌜ Passed (now scene) layout × (workNeeded (sceneOf (now scene)) ≤ length (now work)) ⌝ }
+    requires { ⌜ indexNeeded (now scene) ≤ length (now index) ⌝ }
+    ensures { λ r. ⌜ Validates (now (scene .entry)) (now (work .entry)) r (now (work .exit)) ⌝ }
 {
-    let needed = lengths_of(layout).work;
-    if work.len() < needed {
-        return LentReadiness::Answered(Readiness::Refused(Refusal::ShortList));
-    }
-    if index.len() < sections_of(scene, layout).end {
-        return LentReadiness::ShortIndex;
-    }
     let header = step_header(scene);
     let answer = prepare(scene, layout, header, index, work);
     match answer {
         Readiness::Ready => {
+            let needed = lengths_of(layout).work;
             clear(work, needed);
-            LentReadiness::Answered(Readiness::Ready)
+            Readiness::Ready
         }
-        Readiness::Refused(refusal) => LentReadiness::Answered(Readiness::Refused(refusal)),
+        Readiness::Refused(refusal) => Readiness::Refused(refusal),
     }
 }
 
@@ -57,38 +43,53 @@ fn validate_accepted(
 // which no accepted scene finds too short, takes no stack unless it is called, since a compiler puts no function that
 // calls itself in the place of its call.
 fn validate_largest(scene: &[u8], layout: Layout, work: &mut [f64]) -> Readiness
-    requires { ⌜ Passed (now scene) layout ⌝ }
+    requires { ⌜ Passed (now scene) layout × (workNeeded (sceneOf (now scene)) ≤ length (now work)) ⌝ }
     ensures { λ r. ⌜ Validates (now (scene .entry)) (now (work .entry)) r (now (work .exit)) ⌝ }
 {
     let mut index = [0usize; LONGEST_INDEX];
-    match validate_accepted(scene, layout, work, &mut index) {
-        LentReadiness::Answered(answer) => answer,
-        LentReadiness::ShortIndex => validate_largest(scene, layout, work),
+    let answer = validate_long(scene, layout, work, &mut index);
+    if LONGEST_INDEX < index_needed(scene, layout) {
+        return validate_largest(scene, layout, work);
     }
+    answer
 }
 
 // The middle one.
 fn validate_middle(scene: &[u8], layout: Layout, work: &mut [f64]) -> Readiness
-    requires { ⌜ Passed (now scene) layout ⌝ }
+    requires { ⌜ Passed (now scene) layout × (workNeeded (sceneOf (now scene)) ≤ length (now work)) ⌝ }
+    requires { ⌜ indexNeeded (now scene) ≤ middleIndex ⌝ }
     ensures { λ r. ⌜ Validates (now (scene .entry)) (now (work .entry)) r (now (work .exit)) ⌝ }
 {
     let mut index = [0usize; MIDDLE_INDEX];
-    match validate_accepted(scene, layout, work, &mut index) {
-        LentReadiness::Answered(answer) => answer,
-        LentReadiness::ShortIndex => validate_largest(scene, layout, work),
-    }
+    validate_long(scene, layout, work, &mut index)
 }
 
 // The small one.
 fn validate_small(scene: &[u8], layout: Layout, work: &mut [f64]) -> Readiness
-    requires { ⌜ Passed (now scene) layout ⌝ }
+    requires { ⌜ Passed (now scene) layout × (workNeeded (sceneOf (now scene)) ≤ length (now work)) ⌝ }
+    requires { ⌜ indexNeeded (now scene) ≤ smallIndex ⌝ }
     ensures { λ r. ⌜ Validates (now (scene .entry)) (now (work .entry)) r (now (work .exit)) ⌝ }
 {
     let mut index = [0usize; SMALL_INDEX];
-    match validate_accepted(scene, layout, work, &mut index) {
-        LentReadiness::Answered(answer) => answer,
-        LentReadiness::ShortIndex => validate_middle(scene, layout, work),
+    validate_long(scene, layout, work, &mut index)
+}
+
+// The readiness of an accepted scene: refusal 8, then with the first index that is long enough.
+fn validate_sized(scene: &[u8], layout: Layout, work: &mut [f64]) -> Readiness
+    requires { ⌜ Passed (now scene) layout ⌝ }
+    ensures { λ r. ⌜ Validates (now (scene .entry)) (now (work .entry)) r (now (work .exit)) ⌝ }
+{
+    if work.len() < lengths_of(layout).work {
+        return Readiness::Refused(Refusal::ShortList);
     }
+    let needed = index_needed(scene, layout);
+    if needed <= SMALL_INDEX {
+        return validate_small(scene, layout, work);
+    }
+    if needed <= MIDDLE_INDEX {
+        return validate_middle(scene, layout, work);
+    }
+    validate_largest(scene, layout, work)
 }
 
 // Whether the iterations of a step on this scene could begin. The work list's needed front part is then all +0, but for
@@ -101,6 +102,6 @@ pub fn validate(scene: &[u8], work: &mut [f64]) -> Readiness
     let layout = found.layout;
     match verdict {
         Verdict::Refused(refusal) => Readiness::Refused(refusal),
-        Verdict::Accepted => validate_small(scene, layout, work),
+        Verdict::Accepted => validate_sized(scene, layout, work),
     }
 }

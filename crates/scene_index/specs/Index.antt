@@ -59,6 +59,13 @@ indexNeeded b = recordsAt Boundary b + boundarySize (sceneOf b)
 abbrev pub longestIndex : ℕ
 longestIndex = startsLength + 2 * (modelBlocks * mostModels) + 3 * mostOfAKind
 
+-- two shorter ones, for scenes with fewer particles
+abbrev pub smallIndex : ℕ
+smallIndex = 128
+
+abbrev pub middleIndex : ℕ
+middleIndex = 4096
+
 unfoldable pub sectionsOf : List ℕ → Sections
 sectionsOf b =
     record {

@@ -41,8 +41,8 @@ pub const BOUNDARY_RECORDS: usize = 3;
 
 pub const FLUID_BASES: usize = 4;
 
-// Three sizes for an index on the stack: for a hundred particles, for two thousand, and for every accepted scene.
-pub const SMALL_INDEX: usize = 256;
+// Three sizes for an index on the stack: for a few dozen particles, for two thousand, and for every accepted scene.
+pub const SMALL_INDEX: usize = 128;
 
 pub const MIDDLE_INDEX: usize = 4096;
 
@@ -84,6 +84,14 @@ pub fn sections_of(scene: &[u8], layout: Layout) -> Sections
         boundary_records,
         end,
     }
+}
+
+// How long the index of a scene with this layout is.
+pub fn index_needed(scene: &[u8], layout: Layout) -> usize
+    requires { ⌜ Passed (now scene) layout ⌝ }
+    ensures { λ r. ⌜ r ≡ indexNeeded (now (scene .entry)) ⌝ }
+{
+    sections_of(scene, layout).end
 }
 
 // The numbers in front.

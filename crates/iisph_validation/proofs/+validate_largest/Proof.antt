@@ -8,8 +8,8 @@ use borrow.Fn.PlainCycle.{Measures, is, falls, and}
 use Rattle.iisph_preparation.proofs.Prepared.{long}
 use Rattle.scene_index.specs.Index.{longestIndex}
 use Rattle.scene_index.proofs.Indexes.{index-few}
-use Rattle.iisph_validation.proofs.Validated.{not-short}
-use Rattle.iisph_validation.proofs.validate_accepted.Reads as validate-accepted-reads
+use Rattle.scene_index.proofs.index.index_needed.Reads as index-needed-reads
+use Rattle.iisph_validation.proofs.validate_long.Reads as validate-long-reads
 use Rattle.iisph_validation.proofs.validate_largest.Reads as validate-largest
 use Rattle.iisph_validation.proofs.validate_largest.Kinds as validate-largest-kinds
 use Rattle.iisph_validation.proofs.+validate_largest.Lts-validate_largest as lts
@@ -26,56 +26,35 @@ at t = and 2 validate-largest-kinds.ps (is 2 validate-largest-kinds.ps μ t) val
 abbrev below : ℕ → In 2 validate-largest-kinds.ps
 below t = and 2 validate-largest-kinds.ps (falls 2 validate-largest-kinds.ps _<_ μ t) validate-largest.Pre
 
-validate-accepted-requires : (t : ℕ)
-    → lts.Need-validate-accepted-requires
-    (validate-accepted-reads.Asked, validate-accepted-reads.Learnt, below t, validate-largest.Post) (at t)
-    validate-largest.Post
-validate-accepted-requires t c κs = c .before .before .before .before .pre .1
-
-validate-largest-requires : (t : ℕ)
-    → lts.Need-validate-largest-requires
-    (validate-accepted-reads.Asked, validate-accepted-reads.Learnt, below t, validate-largest.Post) (at t)
-    validate-largest.Post
-validate-largest-requires t c κs =
-    let told = c .before in
-    let s = told .before .before .before .before .before in
-    let b = s .before .before .before .before .before in
-    absurd
-    (not-short (s .validate-accepted .ensures) (told .enum-told .given .1)
-    (omega (arith, index-few (b .pre .1), long longestIndex)))
-
-returns : (t : ℕ)
-    → lts.Need-returns
-    (validate-accepted-reads.Asked, validate-accepted-reads.Learnt, below t, validate-largest.Post) (at t)
-    validate-largest.Post
-returns t c =
-    let a = c .before in
-    a .before .before .before .before .before .validate-accepted .ensures .answered _ (a .answer .given .1)
-
-returns-2 : (t : ℕ)
-    → lts.Need-returns-2
-    (validate-accepted-reads.Asked, validate-accepted-reads.Learnt, below t, validate-largest.Post) (at t)
-    validate-largest.Post
-returns-2 t c =
-    let told = c .before .before .before .before in
-    let s = told .before .before .before .before .before in
-    let b = s .before .before .before .before .before in
-    absurd
-    (not-short (s .validate-accepted .ensures) (told .enum-told .given .1)
-    (omega (arith, index-few (b .pre .1), long longestIndex)))
-
 pub +validate-largest-spec : {M : Type 1} → statement M
 +validate-largest-spec =
     close μ
     (λ t.
-    lts.spec (validate-accepted-reads.Asked, validate-accepted-reads.Learnt, below t, validate-largest.Post) (at t)
-    validate-largest.Post
+    lts.spec (
+      validate-long-reads.Asked,
+      validate-long-reads.Learnt,
+      index-needed-reads.Asked,
+      index-needed-reads.Learnt,
+      below t,
+      validate-largest.Post,
+    )
+    (at t) validate-largest.Post
     (λ c. search needs)
-    (validate-accepted-requires t)
+    -- what `validate_long` asks for
+    (λ c κs.
+    let p = c .before .before .before .before .pre .1 in
+    (p, omega (arith, index-few (p .0), long longestIndex)))
+    (λ c κs. c .before .before .before .before .before .before .before .before .pre .1 .0)
+    -- the call of itself, and its return
+    (λ c κs.
+    let n = c .before .before in
+    let s = n .before .before .before .before .before .before .before .before .before in
+    absurd (omega (arith, index-few (s .pre .1 .0), c .before .if1 .taken, n .index-needed .ensures)))
     (λ c. search needs)
+    (λ c.
+    let i = c .before .before .before .before in
+    let n = i .before in
+    let s = n .before .before .before .before .before .before .before .before .before in
+    absurd (omega (arith, index-few (s .pre .1 .0), i .if1 .taken, n .index-needed .ensures)))
     (λ c. search needs)
-    (validate-largest-requires t)
-    (λ c. search needs)
-    (returns t)
-    (λ c. search needs)
-    (returns-2 t))
+    (λ c. c .before .before .before .before .before .validate-long .ensures))

@@ -11,8 +11,8 @@ use Rattle.iisph_validation.proofs.validate.Tie as tie
 bytes : (c : tie.After-check) → Bytes (now (c .before .before .before .args .scene))
 bytes c i = omega (arith, c .before .before .shared-slice-known .given i)
 
-validate-small-requires : tie.Need-validate-small-requires
-validate-small-requires c κs =
+validate-sized-requires : tie.Need-validate-sized-requires
+validate-sized-requires c κs =
     let k = c .before .before .before .before in
     let h = k .check .ensures in
     let a = c .before .enum-told .given .1 in
@@ -33,7 +33,7 @@ validate-spec =
     (λ c κs. search needs)
     (λ c. search needs)
     (λ c. search needs)
-    validate-small-requires
+    validate-sized-requires
     returns
     (λ c. search needs)
     (λ c. search needs))

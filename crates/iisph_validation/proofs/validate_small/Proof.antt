@@ -1,35 +1,16 @@
--- `iisph_validation::validate_small` meets its contract: by whether the index was long enough. Assumes nothing.
+-- `iisph_validation::validate_small` meets its contract: its index is as long as it is asked for. Assumes nothing.
+use native.Mathlib.Omega.{arith}
 use borrow.Author.Needs.{needs}
-use Rattle.iisph_validation.proofs.Validated.{next-size}
+use Rattle.iisph_preparation.proofs.Prepared.{long}
+use Rattle.scene_index.specs.Index.{smallIndex}
 use Rattle.iisph_validation.proofs.validate_small.Statement.{statement}
 use Rattle.iisph_validation.proofs.validate_small.Tie as tie
 
-validate-middle-requires : tie.Need-validate-middle-requires
-validate-middle-requires c κs =
-    c .before .before .before .before .before .before .before .before .before .before .before .pre
-
-returns : tie.Need-returns
-returns c =
-    let a = c .before in
-    a .before .before .before .before .before .validate-accepted .ensures .answered _ (a .answer .given .1)
-
-returns-2 : tie.Need-returns-2
-returns-2 c =
-    let s = c .before .before in
-    let t = s .before .before in
-    next-size (t .before .before .before .before .before .validate-accepted .ensures) (t .enum-told .given .1)
-    (s .validate-middle .ensures)
+validate-long-requires : tie.Need-validate-long-requires
+validate-long-requires c κs =
+    let p = c .before .before .before .before .pre in
+    (p .0, omega (arith, p .1, long smallIndex))
 
 pub validate-small-spec : {M : Type 1} → statement M
 validate-small-spec =
-    tie.close
-    (tie.spec
-    (λ c. search needs)
-    (λ c κs. search needs)
-    (λ c. search needs)
-    (λ c. search needs)
-    validate-middle-requires
-    (λ c. search needs)
-    returns
-    (λ c. search needs)
-    returns-2)
+    tie.close (tie.spec (λ c. search needs) validate-long-requires (λ c. search needs) (λ c. search needs))

@@ -49,8 +49,7 @@ returns c =
     let s = Begin (Header p) in
     let b = now (s .args .scene) in
     let w = now (s .args .work) in
-    let lists = s .pre .0 .1 in
-    zero-steps b (now (s .args .answers)) w (s .pre .0 .0 .walk) (lists .enoughAnswers) (lists .enoughWork)
+    zero-steps b (now (s .args .answers)) w (s .pre .0 .0 .walk) (s .pre .0 .1)
     (sym (r .readiness .given .1) ∙ p .prepare .ensures .answer)
     (p .prepare .ensures .list ∙ ap (λ (x : Readiness). workPrepared b x w) (r .readiness .given .1))
 
@@ -62,8 +61,7 @@ returns-2 c =
     let s = Begin (Header p) in
     let b = now (s .args .scene) in
     let w = now (s .args .work) in
-    let lists = s .pre .0 .1 in
-    done-steps b (now (s .args .answers)) w (s .pre .0 .0 .walk) (lists .enoughAnswers) (lists .enoughWork)
+    done-steps b (now (s .args .answers)) w (s .pre .0 .0 .walk) (s .pre .0 .1)
     (sym (t .enum-told .given .1) ∙ p .prepare .ensures .answer)
     (p .prepare .ensures .list ∙ ap (λ (x : Readiness). workPrepared b x w) (t .enum-told .given .1))
     (f .finish .ensures)

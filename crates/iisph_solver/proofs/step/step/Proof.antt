@@ -11,8 +11,8 @@ use Rattle.iisph_solver.proofs.step.step.Tie as tie
 bytes : (c : tie.After-check) → Bytes (now (c .before .before .before .before .args .scene))
 bytes c i = omega (arith, c .before .before .before .shared-slice-known .given i)
 
-step-small-requires : tie.Need-step-small-requires
-step-small-requires c κs =
+step-sized-requires : tie.Need-step-sized-requires
+step-sized-requires c κs =
     let t = c .before .before in
     let h = t .before .before .before .check .ensures in
     verdict-accepted _ h (bytes (t .before .before .before)) (t .enum-told .given .1)
@@ -32,7 +32,7 @@ step-spec =
     (λ c κs. search needs)
     (λ c. search needs)
     (λ c. search needs)
-    step-small-requires
+    step-sized-requires
     returns
     (λ c. search needs)
     (λ c. search needs)

@@ -1,0 +1,39 @@
+-- `iisph_solver::lent::lists_short` meets its contract: each list is held to its needed length. Assumes nothing.
+use mathlib.Core.Path.{_≡_, ap}
+use native.Mathlib.Omega.{arith}
+use denote.Ref.{now}
+use borrow.Author.Tests.{lt-ltb, le-ltb}
+use Rattle.scene_format.specs.SceneOf.{sceneOf}
+use Rattle.scene_lengths.proofs.Needed.{few-in}
+use Rattle.scene_lengths.specs.Lengths.{answersNeeded, lengthsNeeded}
+use Rattle.iisph_solver.proofs.lent.lists_short.Statement.{statement}
+use Rattle.iisph_solver.proofs.lent.lists_short.Tie as tie
+
+lengths-of-requires : tie.Need-lengths-of-requires
+lengths-of-requires c κs = few-in (c .before .pre)
+
+needed : (c : tie.After-lengths-of)
+    → c .lengths-of .result ≡ lengthsNeeded (sceneOf (now (c .before .before .args .scene)))
+needed c = c .lengths-of .ensures _ (c .before .before .pre)
+
+returns : tie.Need-returns
+returns c =
+    let l = c .before .before in
+    let a = l .before .before .args in
+    let least = answersNeeded (sceneOf (now (a .scene))) in
+    let e = ap (λ n. n .answers) (needed l) in
+    rw (e, lt-ltb (a .answers) least (omega (arith, c .if1 .taken, e)))
+
+returns-2 : tie.Need-returns-2
+returns-2 c =
+    let l = c .before .before .before in
+    let a = l .before .before .args in
+    let n = needed l in
+    let least = answersNeeded (sceneOf (now (a .scene))) in
+    rw (
+      ap (λ n. n .work) n,
+      le-ltb (a .answers) least (omega (arith, c .before .if1 .left, ap (λ n. n .answers) n)),
+    )
+
+pub lists-short-spec : {M : Type 1} → statement M
+lists-short-spec = tie.close (tie.spec lengths-of-requires returns returns-2)
