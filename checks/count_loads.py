@@ -25,7 +25,7 @@ EXPECTED = {
     # masses, advected, coefficients, dij_pjl, next pressures; names in nine sums, numbers of contacts
     "iisph_passes::traverse::traverse": (2 + 6 + 25 + 3 + 7, 9 * 2 + 5),
     # motion, gathered forces, given forces; two of the single bytes are answers, on the stack
-    "iisph_solver::lent::step_long": (16 + 4 + 3, 12),
+    "iisph_lent::step_long": (16 + 4 + 3, 12),
 }
 
 

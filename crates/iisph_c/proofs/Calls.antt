@@ -21,10 +21,10 @@ use Rattle.iisph_preparation.specs.declared.Readiness.the-variants as readiness
 use Rattle.iisph_rules.specs.declared.StepAnswer.{StepAnswer}
 use Rattle.iisph_rules.specs.declared.StepAnswer.the-variants.{Done, Refused}
 use Rattle.scene_lengths.specs.Lengths.{lengthsNeeded, needsAfter, needsOf}
-use Rattle.iisph_solver.specs.Lent.{StepsLent, IndexAfter}
-use Rattle.iisph_solver.specs.Step.{Steps}
-use Rattle.iisph_solver.specs.declared.lent.LentAnswer.{LentAnswer}
-use Rattle.iisph_solver.specs.declared.lent.LentAnswer.the-variants.{Answered, ShortIndex}
+use Rattle.iisph_lent.specs.Lent.{StepsLent, IndexAfter}
+use Rattle.iisph_lent.specs.Step.{Steps}
+use Rattle.iisph_lent.specs.declared.LentAnswer.{LentAnswer}
+use Rattle.iisph_lent.specs.declared.LentAnswer.the-variants.{Answered, ShortIndex}
 use Rattle.iisph_validation.specs.Validate.{Validates}
 use Rattle.scene_lengths.specs.declared.Lengths.{Lengths}
 use Rattle.scene_lengths.specs.declared.Needs.{Needs}

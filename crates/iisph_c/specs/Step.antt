@@ -13,9 +13,9 @@ use Rattle.iisph_rules.specs.Answer.{stepAnswer, answersAfter, workAfter}
 use Rattle.iisph_rules.specs.Endings.{endingNumber}
 use Rattle.iisph_rules.specs.declared.StepAnswer.{StepAnswer}
 use Rattle.iisph_rules.specs.declared.StepAnswer.the-variants.{Done, Refused}
-use Rattle.iisph_solver.specs.Lent.{lacksIndex, lentAnswer, usesIndex}
-use Rattle.iisph_solver.specs.declared.lent.LentAnswer.{LentAnswer}
-use Rattle.iisph_solver.specs.declared.lent.LentAnswer.the-variants.{Answered, ShortIndex}
+use Rattle.iisph_lent.specs.Lent.{lacksIndex, lentAnswer, usesIndex}
+use Rattle.iisph_lent.specs.declared.LentAnswer.{LentAnswer}
+use Rattle.iisph_lent.specs.declared.LentAnswer.the-variants.{Answered, ShortIndex}
 use Rattle.iisph_codes.specs.Numbers.{tooShort, shortIndex, refusedCode, countsRoom, refusedCounts}
 use Rattle.iisph_codes.specs.Report.{numbersNeeded, reportNumbers}
 

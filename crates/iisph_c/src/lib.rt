@@ -9,9 +9,9 @@ use iisph_codes::write_kernel;
 use iisph_codes::write_lengths;
 use iisph_codes::write_refusal;
 use iisph_codes::write_report;
+use iisph_lent::LentAnswer;
 use iisph_preparation::Readiness;
 use iisph_rules::StepAnswer;
-use iisph_solver::lent::LentAnswer;
 use scene_lengths::Needs;
 use scene_lengths::lengths_needed;
 ghost use mathlib.Core.Path.{_≡_};
@@ -94,7 +94,7 @@ pub extern "C" fn iisph_step_lent(
     if counts.len() < COUNTS {
         return TOO_SHORT;
     }
-    match iisph_solver::lent::step_lent(scene, answers, work, index) {
+    match iisph_lent::step_lent(scene, answers, work, index) {
         LentAnswer::Answered(answer) => write_answer(answer, numbers, counts),
         LentAnswer::ShortIndex(needed) => write_index(needed, counts),
     }

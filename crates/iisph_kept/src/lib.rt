@@ -5,7 +5,7 @@ use timestep_manager::Clock;
 use timestep_manager::advance_in_place;
 ghost use mathlib.Core.Path.{_≡_};
 ghost use Rattle.iisph_rules.specs.Answer.{isDone};
-ghost use Rattle.iisph_solver.specs.Step.{Steps};
+ghost use Rattle.iisph_lent.specs.Step.{Steps};
 ghost use Rattle.iisph_kept.specs.Kept.{clockAfter};
 
 // Whether a step was done.

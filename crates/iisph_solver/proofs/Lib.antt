@@ -1,4 +1,1 @@
-pub mod Finished
-pub mod Stepped
-pub mod LentSteps
 pub mod TwoSteps

@@ -18,7 +18,7 @@ use Rattle.iisph_rules.specs.Step.{answersOf}
 use Rattle.iisph_rules.specs.declared.Report.{Report}
 use Rattle.iisph_rules.specs.declared.StepAnswer.{StepAnswer}
 use Rattle.iisph_rules.specs.declared.StepAnswer.the-variants.{Done}
-use Rattle.iisph_solver.specs.Step.{Steps}
+use Rattle.iisph_lent.specs.Step.{Steps}
 
 -- a call on the bytes b that is done: its report, and both lists before and after
 pub record DoneCall (b : List ℕ) : Type 0 where

@@ -1,7 +1,7 @@
 // One pressure step with an index of its own: on the stack, of the smallest of three sizes that holds the scene's, so
 // that a small scene clears few numbers.
-use crate::lent::lists_short;
-use crate::lent::step_long;
+use iisph_lent::lists_short;
+use iisph_lent::step_long;
 use iisph_rules::StepAnswer;
 use scene_check::Verdict;
 use scene_check::check;
@@ -16,7 +16,7 @@ ghost use lib.ListN.{length};
 ghost use Rattle.iisph_rules.specs.Answer.{LongEnough};
 ghost use Rattle.scene_check.specs.Check.{Passed};
 ghost use Rattle.scene_index.specs.Index.{indexNeeded, smallIndex, middleIndex};
-ghost use Rattle.iisph_solver.specs.Step.{Steps};
+ghost use Rattle.iisph_lent.specs.Step.{Steps};
 
 // With the longest index, 770 KiB, which no accepted scene finds too short. A compiler puts no function that calls
 // itself in the place of its call; so this one stays apart, and its index takes no stack unless it is called.

@@ -26,7 +26,7 @@ use Rattle.iisph_rules.proofs.Reports.{step-done, answers-done}
 use Rattle.iisph_rules.proofs.Sizes.{length-answers, beyond-answers}
 use Rattle.iisph_lines.specs.Lines.{stepLine, clockLine, modelsText, particlesText}
 use Rattle.iisph_lines.proofs.Behind.{text-behind}
-use Rattle.iisph_solver.specs.Step.{Steps}
+use Rattle.iisph_lent.specs.Step.{Steps}
 use Rattle.iisph_text.specs.Text.{mostBytes, answerText}
 use Rattle.iisph_text.specs.Run.{textRoom, Reported, LinesReady, Runs}
 use Rattle.iisph_text.proofs.Ran.{scene-run}

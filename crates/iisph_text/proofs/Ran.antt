@@ -19,7 +19,7 @@ use Rattle.iisph_lines.specs.Lines.{stepLine, clockLine, modelsText, particlesT
 use Rattle.iisph_rules.specs.declared.Report.{Report}
 use Rattle.iisph_rules.specs.declared.StepAnswer.{StepAnswer}
 use Rattle.iisph_rules.specs.declared.StepAnswer.the-variants.{Refused}
-use Rattle.iisph_solver.specs.Step.{Steps}
+use Rattle.iisph_lent.specs.Step.{Steps}
 use Rattle.iisph_text.specs.Text.{mostBytes, tooLong, textWith, textOf, answerText}
 use Rattle.iisph_text.specs.Run.{textRoom, enoughAnswers, enoughWork, written, ifStepped, textIn, Runs, behind}
 use Rattle.iisph_text.proofs.Texts.{text-same}

@@ -1,13 +1,13 @@
 // The text of a packed scene that is short enough (FORMAT 4). `put_scene` is for the crate that runs the program on all
 // scenes, and shows that there is room.
+use iisph_lent::LentAnswer;
+use iisph_lent::step_accepted;
 use iisph_lines::lines::put_clock;
 use iisph_lines::lines::put_models;
 use iisph_lines::lines::put_refused;
 use iisph_lines::lines::put_step;
 use iisph_rules::Report;
 use iisph_rules::StepAnswer;
-use iisph_solver::lent::LentAnswer;
-use iisph_solver::lent::step_accepted;
 use scene_check::Verdict;
 use scene_check::check;
 use scene_format::Kind;
@@ -23,7 +23,7 @@ ghost use lib.ListN.{length};
 ghost use Rattle.iisph_lines.specs.Lines.{stepLine, clockLine, particlesText};
 ghost use Rattle.lists.specs.Stores.{Writes};
 ghost use Rattle.scene_check.specs.Check.{Passed};
-ghost use Rattle.iisph_solver.specs.Step.{Steps};
+ghost use Rattle.iisph_lent.specs.Step.{Steps};
 ghost use Rattle.iisph_text.specs.Text.{mostBytes};
 ghost use Rattle.iisph_text.specs.Run.{textRoom, LinesReady, Runs};
 

@@ -29,7 +29,7 @@ use Rattle.timestep_manager.proofs.Clock.Laws as T′
 use Rattle.iisph_rules.specs.declared.StepAnswer.{StepAnswer}
 use Rattle.iisph_rules.proofs.StepAnswer as S
 use Rattle.iisph_rules.proofs.StepAnswer.Laws as S′
-use Rattle.iisph_solver.specs.Step.{Steps}
+use Rattle.iisph_lent.specs.Step.{Steps}
 use Rattle.iisph_kept.specs.Kept.{clockAfter}
 use Rattle.iisph_kept.proofs.step_keeping as g
 use Rattle.iisph_kept.proofs.step_keeping.Symbol as g-def

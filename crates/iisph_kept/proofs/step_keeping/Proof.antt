@@ -31,7 +31,7 @@ use Rattle.iisph_rules.specs.Answer.{isDone}
 use Rattle.iisph_rules.specs.declared.StepAnswer.{StepAnswer}
 use Rattle.iisph_rules.proofs.StepAnswer as S
 use Rattle.iisph_rules.proofs.StepAnswer.Laws as S′
-use Rattle.iisph_solver.specs.Step.{Steps}
+use Rattle.iisph_lent.specs.Step.{Steps}
 use Rattle.iisph_solver.proofs.step.step as steps
 use Rattle.iisph_solver.proofs.step.step.Symbol as steps-def
 use Rattle.iisph_solver.proofs.step.step.Symbol.{name as #steps}

@@ -3,7 +3,7 @@ use mathlib.Core.Path.{refl}
 use native.Mathlib.Omega.{arith}
 use denote.Ref.{now}
 use borrow.Author.Needs.{needs}
-use Rattle.iisph_solver.proofs.Stepped.{refused-steps}
+use Rattle.iisph_lent.proofs.Stepped.{refused-steps}
 use Rattle.scene_check.proofs.Checks.{verdict-refused, verdict-accepted}
 use Rattle.iisph_text.proofs.Ran.{refused-run}
 use Rattle.iisph_text.proofs.put_scene.Statement.{statement}

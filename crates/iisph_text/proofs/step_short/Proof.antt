@@ -4,7 +4,7 @@ use Prim.Native.Nat.{ℕ, _≤_}
 use native.Mathlib.Omega.{arith}
 use lib.ListN.{length, replicate, length-replicate}
 use borrow.Author.Needs.{needs}
-use Rattle.iisph_solver.proofs.LentSteps.{this-size, not-short}
+use Rattle.iisph_lent.proofs.LentSteps.{this-size, not-short}
 use Rattle.iisph_text.specs.Run.{enoughIndex}
 use Rattle.iisph_text.proofs.Texts.{index-enough}
 use Rattle.iisph_text.proofs.step_short.Statement.{statement}

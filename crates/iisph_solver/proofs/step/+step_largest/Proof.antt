@@ -9,7 +9,7 @@ use Rattle.iisph_preparation.proofs.Prepared.{long}
 use Rattle.scene_index.specs.Index.{longestIndex}
 use Rattle.scene_index.proofs.Indexes.{index-few}
 use Rattle.scene_index.proofs.index.index_needed.Reads as index-needed-reads
-use Rattle.iisph_solver.proofs.lent.step_long.Reads as step-long-reads
+use Rattle.iisph_lent.proofs.step_long.Reads as step-long-reads
 use Rattle.iisph_solver.proofs.step.step_largest.Reads as step-largest
 use Rattle.iisph_solver.proofs.step.step_largest.Kinds as step-largest-kinds
 use Rattle.iisph_solver.proofs.step.+step_largest.Lts-step_largest as lts

@@ -4,7 +4,7 @@ use denote.Ref.{now}
 use borrow.Author.Needs.{needs}
 use Rattle.scene_format.specs.Bytes.{Bytes}
 use Rattle.scene_check.proofs.Checks.{verdict-refused, verdict-accepted}
-use Rattle.iisph_solver.proofs.Stepped.{refused-steps}
+use Rattle.iisph_lent.proofs.Stepped.{refused-steps}
 use Rattle.iisph_solver.proofs.step.step.Statement.{statement}
 use Rattle.iisph_solver.proofs.step.step.Tie as tie
 

@@ -8,7 +8,7 @@ use borrow.Author.Needs.{needs}
 use Rattle.iisph_rules.proofs.Reports.{long-lists}
 use Rattle.iisph_rules.specs.Answer.{LongEnough}
 use Rattle.scene_check.specs.Check.{Passed}
-use Rattle.iisph_solver.proofs.Stepped.{short-steps}
+use Rattle.iisph_lent.proofs.Stepped.{short-steps}
 use Rattle.iisph_solver.proofs.step.step_sized.Statement.{statement}
 use Rattle.iisph_solver.proofs.step.step_sized.Tie as tie
 

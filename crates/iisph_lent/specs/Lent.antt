@@ -10,8 +10,8 @@ use lib.ListN.{length}
 use Rattle.lists.specs.Lists.{choose}
 use Rattle.scene_index.specs.Index.{indexNeeded}
 use Rattle.iisph_rules.specs.Answer.{stepAnswer, answersAfter, clearsWork, workAfter}
-use Rattle.iisph_solver.specs.declared.lent.LentAnswer.{LentAnswer}
-use Rattle.iisph_solver.specs.declared.lent.LentAnswer.the-variants.{Answered, ShortIndex}
+use Rattle.iisph_lent.specs.declared.LentAnswer.{LentAnswer}
+use Rattle.iisph_lent.specs.declared.LentAnswer.the-variants.{Answered, ShortIndex}
 
 -- whether the passes, which begin unless 1 to 8 refused, lack an index: `index` is the length of the lent one
 unfoldable pub lacksIndex : List ℕ → ℕ → ℕ → ℕ → Bool

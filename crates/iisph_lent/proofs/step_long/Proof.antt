@@ -1,4 +1,4 @@
--- `iisph_solver::lent::step_long` meets its contract: the passes prepare the work list and may refuse, and what follows
+-- `iisph_lent::step_long` meets its contract: the passes prepare the work list and may refuse, and what follows
 -- finishes the step. Assumes nothing.
 use mathlib.Core.Path.{sym, ap, _∙_}
 use denote.Ref.{now}
@@ -7,9 +7,9 @@ use Rattle.iisph_preparation.specs.Prepare.{workPrepared}
 use Rattle.iisph_preparation.specs.declared.Readiness.{Readiness}
 use Rattle.iisph_preparation.proofs.Prepared.{prepared-ready}
 use Rattle.scene_lengths.proofs.Needed.{fluids-total}
-use Rattle.iisph_solver.proofs.Stepped.{zero-steps, done-steps}
-use Rattle.iisph_solver.proofs.lent.step_long.Statement.{statement}
-use Rattle.iisph_solver.proofs.lent.step_long.Tie as tie
+use Rattle.iisph_lent.proofs.Stepped.{zero-steps, done-steps}
+use Rattle.iisph_lent.proofs.step_long.Statement.{statement}
+use Rattle.iisph_lent.proofs.step_long.Tie as tie
 
 -- from the preparation back
 abbrev Header : tie.After-prepare → tie.After-step-header

@@ -20,10 +20,10 @@ use Rattle.iisph_rules.specs.Answer.{stepAnswer, LongEnough, clearsWork}
 use Rattle.iisph_rules.specs.declared.StepAnswer.{StepAnswer}
 use Rattle.iisph_rules.specs.declared.StepAnswer.the-variants.{Refused}
 use Rattle.iisph_rules.proofs.Cases.{scene-answer, scene-clears}
-use Rattle.iisph_solver.specs.Lent.{lacksIndex, lentAnswer, StepsLent, usesIndex}
-use Rattle.iisph_solver.specs.Step.{Steps}
-use Rattle.iisph_solver.specs.declared.lent.LentAnswer.{LentAnswer}
-use Rattle.iisph_solver.specs.declared.lent.LentAnswer.the-variants.{Answered, ShortIndex}
+use Rattle.iisph_lent.specs.Lent.{lacksIndex, lentAnswer, StepsLent, usesIndex}
+use Rattle.iisph_lent.specs.Step.{Steps}
+use Rattle.iisph_lent.specs.declared.LentAnswer.{LentAnswer}
+use Rattle.iisph_lent.specs.declared.LentAnswer.the-variants.{Answered, ShortIndex}
 
 -- ---- whether the index is lacking
 

@@ -1,4 +1,4 @@
--- `iisph_solver::lent::finish` meets its contract: each call finds what it needs in the work list, and what they leave
+-- `iisph_lent::finish` meets its contract: each call finds what it needs in the work list, and what they leave
 -- together is the rules'. Assumes nothing.
 use native.Mathlib.Omega.{arith}
 use lib.Ieee.{nan}
@@ -10,11 +10,11 @@ use Rattle.scene_lengths.specs.Lengths.{workNeeded}
 use Rattle.scene_format.specs.SceneOf.{sceneOf}
 use mathlib.Core.Path.{_≡_, ap}
 use denote.Ref.{now}
-use Rattle.iisph_solver.proofs.Finished.{first-pressures, first-ready, solved-ready, shared, finished}
-use Rattle.iisph_solver.proofs.Finished.{answers-room, report-made}
+use Rattle.iisph_lent.proofs.Finished.{first-pressures, first-ready, solved-ready, shared, finished}
+use Rattle.iisph_lent.proofs.Finished.{answers-room, report-made}
 use Rattle.iisph_preparation.proofs.Prepared.{driven}
-use Rattle.iisph_solver.proofs.lent.finish.Statement.{statement}
-use Rattle.iisph_solver.proofs.lent.finish.Tie as tie
+use Rattle.iisph_lent.proofs.finish.Statement.{statement}
+use Rattle.iisph_lent.proofs.finish.Tie as tie
 
 -- the calls, from the last back to the start
 abbrev Bound : tie.After-clear → tie.After-lengths-of

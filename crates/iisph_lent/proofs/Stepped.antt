@@ -19,7 +19,7 @@ use Rattle.iisph_rules.specs.declared.Report.{Report}
 use Rattle.iisph_rules.specs.declared.StepAnswer.the-variants.{Done, Refused}
 use Rattle.iisph_rules.proofs.Reports.{answers-refused, answers-done, work-done}
 use Rattle.iisph_preparation.specs.Prepare.{workPrepared, readiness}
-use Rattle.iisph_solver.specs.Step.{Steps, Finishes}
+use Rattle.iisph_lent.specs.Step.{Steps, Finishes}
 use Rattle.iisph_preparation.specs.declared.Readiness.the-variants as before
 use Rattle.iisph_rules.proofs.Cases.{refused-answer, short-answer, scene-answer, work-refused, work-short}
 use Rattle.iisph_rules.proofs.Cases.{work-cleared}

@@ -40,7 +40,7 @@ use Rattle.lists.proofs.Rows.{rows-next, length-rows}
 use Rattle.iisph_motion.specs.Changes.{ChangesReady}
 use Rattle.iisph_motion.proofs.Accelerations.{share-made}
 use Rattle.iisph_iterations.specs.PressureSolve.{iteratedTimes, Solves}
-use Rattle.iisph_solver.specs.Step.{Finishes}
+use Rattle.iisph_lent.specs.Step.{Finishes}
 use Rattle.iisph_passes.specs.Traverse.{slotOf, rowOf}
 use Rattle.iisph_iterations.specs.declared.«pressure_solve».Solved.{Solved}
 use Rattle.iisph_passes.specs.declared.traverse.Pass.the-variants.{Shares}

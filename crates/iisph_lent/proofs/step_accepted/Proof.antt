@@ -1,4 +1,4 @@
--- `iisph_solver::lent::step_accepted` meets its contract: lists that are too short are 8, an index that is too short is
+-- `iisph_lent::step_accepted` meets its contract: lists that are too short are 8, an index that is too short is
 -- said before the passes begin, and else the step is taken. Assumes nothing.
 use Prim.Native.Nat.{ℕ, _≤_}
 use mathlib.Core.Path.{_≡_, refl, sym, _∙_}
@@ -10,10 +10,10 @@ use borrow.Author.Needs.{needs}
 use Rattle.iisph_rules.proofs.Reports.{long-lists}
 use Rattle.iisph_rules.specs.Answer.{clearsWork, LongEnough}
 use Rattle.scene_index.specs.Index.{indexNeeded}
-use Rattle.iisph_solver.proofs.LentSteps.{used, steps-lent, early-lent, short-lent}
-use Rattle.iisph_solver.proofs.Stepped.{short-steps}
-use Rattle.iisph_solver.proofs.lent.step_accepted.Statement.{statement}
-use Rattle.iisph_solver.proofs.lent.step_accepted.Tie as tie
+use Rattle.iisph_lent.proofs.LentSteps.{used, steps-lent, early-lent, short-lent}
+use Rattle.iisph_lent.proofs.Stepped.{short-steps}
+use Rattle.iisph_lent.proofs.step_accepted.Statement.{statement}
+use Rattle.iisph_lent.proofs.step_accepted.Tie as tie
 
 unequal : true ≡ false → ⊥
 unequal e = let z : _≡_ {A = ℕ} 0 1 = cc in omega arith

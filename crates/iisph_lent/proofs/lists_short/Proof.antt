@@ -1,4 +1,4 @@
--- `iisph_solver::lent::lists_short` meets its contract: each list is held to its needed length. Assumes nothing.
+-- `iisph_lent::lists_short` meets its contract: each list is held to its needed length. Assumes nothing.
 use mathlib.Core.Path.{_≡_, ap}
 use native.Mathlib.Omega.{arith}
 use denote.Ref.{now}
@@ -6,8 +6,8 @@ use borrow.Author.Tests.{lt-ltb, le-ltb}
 use Rattle.scene_format.specs.SceneOf.{sceneOf}
 use Rattle.scene_lengths.proofs.Needed.{few-in}
 use Rattle.scene_lengths.specs.Lengths.{answersNeeded, lengthsNeeded}
-use Rattle.iisph_solver.proofs.lent.lists_short.Statement.{statement}
-use Rattle.iisph_solver.proofs.lent.lists_short.Tie as tie
+use Rattle.iisph_lent.proofs.lists_short.Statement.{statement}
+use Rattle.iisph_lent.proofs.lists_short.Tie as tie
 
 lengths-of-requires : tie.Need-lengths-of-requires
 lengths-of-requires c κs = few-in (c .before .pre)

@@ -1,14 +1,14 @@
--- `iisph_solver::lent::step_lent` meets its contract: by the verdict of the check. Assumes nothing.
+-- `iisph_lent::step_lent` meets its contract: by the verdict of the check. Assumes nothing.
 use mathlib.Core.Path.{refl}
 use native.Mathlib.Omega.{arith}
 use denote.Ref.{now}
 use borrow.Author.Needs.{needs}
 use Rattle.scene_format.specs.Bytes.{Bytes}
 use Rattle.scene_check.proofs.Checks.{verdict-refused, verdict-accepted}
-use Rattle.iisph_solver.proofs.LentSteps.{refused-clears, early-lent}
-use Rattle.iisph_solver.proofs.Stepped.{refused-steps}
-use Rattle.iisph_solver.proofs.lent.step_lent.Statement.{statement}
-use Rattle.iisph_solver.proofs.lent.step_lent.Tie as tie
+use Rattle.iisph_lent.proofs.LentSteps.{refused-clears, early-lent}
+use Rattle.iisph_lent.proofs.Stepped.{refused-steps}
+use Rattle.iisph_lent.proofs.step_lent.Statement.{statement}
+use Rattle.iisph_lent.proofs.step_lent.Tie as tie
 
 abbrev Begin : tie.After-check → tie.Start
 Begin c = c .before .before .before .before .before

@@ -1,5 +1,6 @@
 // One pressure step (the Rust's compute_densities and step) that is lent its index: refusals 1 to 10, the iterations,
-// then answers and forces.
+// then answers and forces. `step_lent` asks nothing of its caller; what else is public is for callers that have checked
+// the scene, and show so.
 use iisph_forces::boundary_answers;
 use iisph_header::StepHeader;
 use iisph_header::step_header;
@@ -30,8 +31,8 @@ ghost use Rattle.scene_check.specs.Check.{Passed};
 ghost use Rattle.scene_format.specs.SceneOf.{sceneOf};
 ghost use Rattle.scene_index.specs.Index.{indexNeeded};
 ghost use Rattle.scene_lengths.specs.Lengths.{answersNeeded};
-ghost use Rattle.iisph_solver.specs.Lent.{StepsLent, IndexAfter};
-ghost use Rattle.iisph_solver.specs.Step.{Steps, Finishes};
+ghost use Rattle.iisph_lent.specs.Lent.{StepsLent, IndexAfter};
+ghost use Rattle.iisph_lent.specs.Step.{Steps, Finishes};
 
 // What a step answers that is lent its index.
 pub enum LentAnswer {

@@ -1,0 +1,3 @@
+pub mod Finished
+pub mod Stepped
+pub mod LentSteps
