@@ -13,13 +13,14 @@ use scene_index::index::index_needed;
 use scene_layout::Layout;
 ghost use Prim.Native.Nat.{_≤_};
 ghost use lib.ListN.{length};
+ghost use Rattle.iisph_lent.specs.Step.{Steps};
 ghost use Rattle.iisph_rules.specs.Answer.{LongEnough};
 ghost use Rattle.scene_check.specs.Check.{Passed};
 ghost use Rattle.scene_index.specs.Index.{indexNeeded, smallIndex, middleIndex};
-ghost use Rattle.iisph_lent.specs.Step.{Steps};
 
-// With the longest index, 770 KiB, which no accepted scene finds too short. A compiler puts no function that calls
-// itself in the place of its call; so this one stays apart, and its index takes no stack unless it is called.
+// With the longest index, 770 KiB, which no accepted scene finds too short; so it never calls itself. But a compiler
+// puts no function that calls itself in the place of its call: this one stays apart, and its index takes no stack
+// unless it is called.
 fn step_largest(scene: &[u8], layout: Layout, answers: &mut [f64], work: &mut [f64]) -> StepAnswer
     requires { ⌜ Passed (now scene) layout × LongEnough (now scene) (length (now answers)) (length (now work)) ⌝ }
     ensures { λ r. ⌜

@@ -39,9 +39,9 @@ fn validate_long(scene: &[u8], layout: Layout, work: &mut [f64], index: &mut [us
     }
 }
 
-// As a step does (iisph_solver), with the smallest of three indexes on the stack that is long enough. The longest,
-// which no accepted scene finds too short, takes no stack unless it is called, since a compiler puts no function that
-// calls itself in the place of its call.
+// As a step does (iisph_solver), with the smallest of three indexes on the stack that is long enough. No accepted scene
+// finds the longest too short, so this never calls itself; but since a compiler puts no function that calls itself in
+// the place of its call, this index takes no stack unless it is called.
 fn validate_largest(scene: &[u8], layout: Layout, work: &mut [f64]) -> Readiness
     requires { ⌜ Passed (now scene) layout × (workNeeded (sceneOf (now scene)) ≤ length (now work)) ⌝ }
     ensures { λ r. ⌜ Validates (now (scene .entry)) (now (work .entry)) r (now (work .exit)) ⌝ }

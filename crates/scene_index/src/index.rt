@@ -66,7 +66,7 @@ enum Entry {
 }
 
 // The sections of the index of a scene with this layout.
-pub fn sections_of(scene: &[u8], layout: Layout) -> Sections
+fn sections_of(scene: &[u8], layout: Layout) -> Sections
     requires { ⌜ Passed (now scene) layout ⌝ }
     ensures { λ r. ⌜ r ≡ sectionsOf (now (scene .entry)) ⌝ }
 {

@@ -19,7 +19,8 @@ step-accepted-requires c κs = c .before .before .before .before .before .before
 returns : tie.Need-returns
 returns c =
     let a = c .before in
-    this-size (a .before .before .before .before .before .before .before .step-accepted .ensures .0) (a .answer .given .1)
+    let s = a .before .before .before .before .before .before .before in
+    this-size (s .step-accepted .ensures .0) (a .answer .given .1)
 
 returns-2 : tie.Need-returns-2
 returns-2 c =
