@@ -22,8 +22,8 @@ use Rattle.lists.proofs.Lists.{length-table, table-at, fold-same, fold-keeps, f
 use Rattle.lists.proofs.Numbering.{length-starts}
 use Rattle.math.specs.Vector.{Vector, _⊞_, _⊡_}
 use Rattle.scene_check.proofs.Accepted.{RecordNamed, accepted}
-use Rattle.scene_format.specs.Format.{axes, contactWidth, modelNumber, modelAt, numberAt}
-use Rattle.scene_format.specs.Format.{countsOf, startsOf, locationOf}
+use Rattle.scene_format.specs.Format.{axes, contactWidth, modelNumber, modelAt, numberAt, countsOf, keepsOf, startsOf}
+use Rattle.scene_format.specs.Format.{locationOf}
 use Rattle.scene_format.specs.Scene.{Scene, Contact, fluidSize, boundarySize, sizeOf, particle, boundary}
 use Rattle.scene_format.specs.SceneOf.{targetAt, contactAt, sceneOf}
 use Rattle.scene_format.specs.Within.{NameIs}
@@ -34,14 +34,12 @@ use Rattle.scene_index.specs.Index.{Indexed}
 use Rattle.scene_index.specs.declared.contacts.ContactList.{ContactList}
 use Rattle.scene_index.proofs.ContactLists.{contactsOf, contacts-are, over-list}
 use Rattle.scene_index.proofs.Runs.{run-keeps}
-use Rattle.scene_layout.specs.Layout.{layoutModels}
 use Rattle.scene_layout.proofs.Locations.{each-location, fluid-size, length-counts}
 use Rattle.scene_lengths.specs.Lengths.{keptAnswerWidth, answersNeeded}
 use Rattle.iisph_forces.specs.Forces.{answerOffset, forceStart, forceStarts}
 use Rattle.iisph_forces.specs.Forces.{ForcesKnown, ForceContact, ForceContacts}
 use Rattle.iisph_forces.specs.Forces.{gathered, stateGain, forceGain, gatheredFrom, gatheredAll}
-use Rattle.iisph_forces.proofs.Offsets.{offset-next, offset-even, offset-needed, width-kept}
-use Rattle.iisph_forces.proofs.Offsets.{layout-count, layout-start, indexed-run}
+use Rattle.iisph_forces.proofs.Offsets.{offset-next, offset-even, offset-needed, width-kept, indexed-run}
 
 -- ---- where the force stands that a contact names
 
@@ -63,24 +61,24 @@ module _ {b index : List ℕ} (ix : Indexed b index) {at : ℕ} (c : ForceContac
   unfolding sizeOf
   target-below = c .ready .target .below
 
-  target-is : named b at ≡ getD (layoutModels Boundary b .starts) (modelAt b at) 0 + numberAt b at
+  target-is : named b at ≡ getD (startsOf Boundary b) (modelAt b at) 0 + numberAt b at
   unfolding targetAt
-  target-is = rw (layout-start b (modelAt b at))
+  target-is = refl
 
   same : (p : ℕ) → p ≤ numberAt b at
-      → boundary (sceneOf b) (getD (layoutModels Boundary b .starts) (modelAt b at) 0 + p) .keepsForces
-      ≡ eqb (getD (layoutModels Boundary b .keeps) (modelAt b at) 0) 1
+      → boundary (sceneOf b) (getD (startsOf Boundary b) (modelAt b at) 0 + p) .keepsForces
+      ≡ eqb (getD (keepsOf Boundary b) (modelAt b at) 0) 1
   same p h =
-      run-keeps (indexed-run ix (modelAt b at) model-below) p (omega (arith, c .number, layout-count b (modelAt b at)))
+      run-keeps (indexed-run ix (modelAt b at) model-below) p (omega (arith, c .number))
 
   -- the boundary's entry says whether a force is kept, and where it stands
-  first-go : (t : Bool) → eqb (getD (layoutModels Boundary b .keeps) (modelAt b at) 0) 1 ≡ t
+  first-go : (t : Bool) → eqb (getD (keepsOf Boundary b) (modelAt b at) 0) 1 ≡ t
       → ForceAt b at
-      (choose t (answerOffset (sceneOf b) (getD (layoutModels Boundary b .starts) (modelAt b at) 0) + 1) 0)
+      (choose t (answerOffset (sceneOf b) (getD (startsOf Boundary b) (modelAt b at) 0) + 1) 0)
   unfolding choose
   first-go true e =
       let s = sceneOf b in
-      let start = getD (layoutModels Boundary b .starts) (modelAt b at) 0 in
+      let start = getD (startsOf Boundary b) (modelAt b at) 0 in
       let p = numberAt b at in
       record {
         kept = λ _. ap (λ (j : ℕ). boundary s j .keepsForces) target-is ∙ same p (omega arith) ∙ e;

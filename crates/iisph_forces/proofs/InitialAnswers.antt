@@ -5,7 +5,7 @@ use Prim.Native.Nat.{ℕ, zero, suc, _+_, _*_, _<_, _≤_}
 use mathlib.Core.Path.{_≡_, refl, sym, ap, subst, _∙_}
 use mathlib.Core.Bool.{Bool, true, false}
 use mathlib.Core.List.{List, flatten}
-use native.Mathlib.Nat.{add-zero, zero-add, le-antisymm}
+use native.Mathlib.Nat.{add-zero, le-antisymm}
 use native.Mathlib.Numerals.{add-one}
 use native.Mathlib.Omega.{arith}
 use lib.Dec.{eqb}
@@ -16,26 +16,26 @@ use borrow.Author.Tests.{eqb-true, eq-eqb, ne-eqb}
 use Rattle.iisph_rules.specs.Coefficients.{boundaryVolume}
 use Rattle.iisph_rules.proofs.Iterations.{chosen}
 use Rattle.lists.specs.Lists.{table, choose}
-use Rattle.lists.proofs.Fills.{sets-append, Filling, none-stored, one-more-stored, all-stored}
+use Rattle.lists.proofs.Fills.{sets-append, Filling, none-stored, one-more-in-front, all-stored}
 use Rattle.lists.proofs.Lists.{length-table}
 use Rattle.lists.proofs.Rows.{rows-next, rows-none, rows-add, length-rows}
 use Rattle.lists.proofs.Stores.{sets-in}
 use Rattle.math.specs.Vector.{Vector}
-use Rattle.scene_check.specs.Check.{Passed}
 use Rattle.scene_check.specs.Walk.{checked}
 use Rattle.scene_check.proofs.Accepted.{accepted-within}
 use Rattle.scene_check.proofs.Records.{boundary-particle-ok}
 use Rattle.scene_format.specs.Bytes.{AllFinite, vectorAt}
-use Rattle.scene_format.specs.Format.{axes, nameableModels, modelNumber, keepsAt, forceOffset, countsOf, locationOf}
+use Rattle.scene_format.specs.Format.{axes, nameableModels, modelNumber, particlesAt, keepsAt, forceOffset, countsOf}
+use Rattle.scene_format.specs.Format.{locationOf}
 use Rattle.scene_format.specs.Scene.{Scene, fluidSize, boundarySize, boundary}
 use Rattle.scene_format.specs.SceneOf.{forceAt, boundaryParticleAt, sceneOf}
 use Rattle.scene_format.specs.declared.Kind.the-variants.{Boundary}
 use Rattle.scene_format.specs.declared.Walk.the-variants.{At}
 use Rattle.scene_index.specs.Index.{Indexed}
-use Rattle.scene_index.proofs.Indexes.{boundaries-are}
-use Rattle.scene_index.proofs.Runs.{before, keeps-at, none-before, all-before, start-before, count-next, boundary-run}
-use Rattle.scene_layout.specs.declared.Layout.{Layout}
+use Rattle.scene_index.specs.Runs.{BoundaryRun}
+use Rattle.scene_index.proofs.Runs.{before, keeps-at, none-before, boundaries-before, start-before, count-next}
 use Rattle.scene_layout.proofs.Locations.{boundary-at}
+use Rattle.scene_layout.proofs.Turns.{Turn}
 use Rattle.scene_lengths.specs.Lengths.{fluidAnswerWidth, answerWidth, boundaryAnswerWidth, answersNeeded}
 use Rattle.iisph_forces.specs.Forces.{widthAt, answerOffset, forceStart, forceStarts, ForcesKnown}
 use Rattle.iisph_forces.specs.Forces.{boundaryWith, boundaryInitial}
@@ -151,79 +151,72 @@ module _ (b : List ℕ) (l : List Float) (first count : ℕ) where
 
 -- ---- boundary after boundary
 
--- of the boundaries the first w are stored in l, and where their forces begin in fs; this gave x and gs, and the next
--- boundary's element is `to`
-pub record InitialPut (b fs : List ℕ) (l : List Float) (w to : ℕ) (gs : List ℕ) (x : List Float) : Type 0 where
+-- of the boundaries the first w, which have `first` particles, are stored in l, and where their forces begin in fs; this
+-- gave x and gs, and the next boundary's element is `to`
+pub record InitialPut (b fs : List ℕ) (l : List Float) (first to w : ℕ) (gs : List ℕ) (x : List Float) : Type 0 where
+  pub start : first ≡ before (countsOf Boundary b) w
   pub long : length x ≡ length l
-  pub next : to ≡ answerOffset (sceneOf b) (before (countsOf Boundary b) w)
+  pub next : to ≡ answerOffset (sceneOf b) first
   pub starts : Filling fs 0 (forceStart b) (modelNumber Boundary b) w gs
   pub stored : x
       ≡ sets l (fluidAnswerWidth axes * fluidSize (sceneOf b))
       (flatten (table (before (countsOf Boundary b) w) (boundaryInitial (sceneOf b))))
 
 module _ (b fs : List ℕ) (l : List Float) where
-  pub no-boundaries : {to : ℕ} → to ≡ fluidAnswerWidth axes * fluidSize (sceneOf b) → InitialPut b fs l 0 to fs l
+  pub no-boundaries : {to : ℕ} → to ≡ fluidAnswerWidth axes * fluidSize (sceneOf b) → InitialPut b fs l 0 to 0 fs l
   no-boundaries e =
       record {
+        start = sym (none-before Boundary b);
         long = refl;
-        next = rw (none-before b) (e ∙ sym (offset-none (sceneOf b)));
+        next = e ∙ sym (offset-none (sceneOf b));
         starts = none-stored fs 0 (forceStart b) (modelNumber Boundary b);
-        stored = rw (none-before b, rows-none (boundaryInitial (sceneOf b)));
+        stored = rw (none-before Boundary b, rows-none (boundaryInitial (sceneOf b)));
       }
 
-  module _ {w to : ℕ} {gs : List ℕ} {x : List Float} (here : InitialPut b fs l w to gs x) where
-    module _ (h : w < modelNumber Boundary b) {layout : Layout} (passed : Passed b layout) where
-      -- the next boundary begins where the layout says, within what is needed
-      pub boundary-next : to ≡ answerOffset (sceneOf b) (getD (layout .boundaries .starts) w 0)
-      boundary-next = rw (start-before b (boundaries-are passed) w h) (here .next)
+  module _ {first to w : ℕ} {gs : List ℕ} {x : List Float} (here : InitialPut b fs l first to w gs x) where
+    -- the next boundary begins within what is needed
+    pub boundary-room : {count keeps : ℕ} → BoundaryRun b first count keeps → to ≤ answersNeeded (sceneOf b)
+    boundary-room run = omega (arith, here .next, offset-needed b first (omega (arith, run .within)))
 
-      pub boundary-room : to ≤ answersNeeded (sceneOf b)
-      boundary-room =
-          let run = boundary-run b (boundaries-are passed) w h passed in
-          let first = getD (layout .boundaries .starts) w 0 in
-          omega (arith, boundary-next, offset-needed b first (omega (arith, run .within)))
-
-      force-starts : {f : ℕ} → f ≡ choose (eqb (getD (layout .boundaries .keeps) w 0) 1) (to + 1) 0 → f ≡ forceStart b w
+    module _ (h : w < modelNumber Boundary b) {heads : List ℕ} (turn : Turn Boundary b heads w) where
+      force-starts : {keeps f : ℕ} → keeps ≡ keepsAt b (getD heads w 0) → f ≡ choose (eqb keeps 1) (to + 1) 0
+          → f ≡ forceStart b w
       unfolding forceStart
-      force-starts e = e ∙ rw (boundary-next, boundaries-are passed)
+      force-starts k e =
+          e ∙ rw (here .next, here .start, ← start-before Boundary b w h, k ∙ turn .keeps)
 
-      pub one-more-boundary : {f r : ℕ} {y : List Float}
-          → let models = layout .boundaries in
-          f ≡ choose (eqb (getD (models .keeps) w 0) 1) (to + 1) 0
-          → r ≡ answerOffset (sceneOf b) (getD (models .starts) w 0 + getD (models .counts) w 0)
-          → let initial : ℕ → List Float = λ p. boundaryInitial (sceneOf b) (getD (models .starts) w 0 + p) in
-          y ≡ sets x to (flatten (table (getD (models .counts) w 0) initial))
-          → InitialPut b fs l (w + 1) r (set gs w f) y
+      pub one-more-boundary : {e : ℕ} → checked b ≡ At e → {count keeps f r : ℕ} {y : List Float}
+          → BoundaryRun b first count keeps
+          → count ≡ particlesAt Boundary b (getD heads w 0)
+          → keeps ≡ keepsAt b (getD heads w 0)
+          → f ≡ choose (eqb keeps 1) (to + 1) 0
+          → r ≡ answerOffset (sceneOf b) (first + count)
+          → y ≡ sets x to (flatten (table count (λ p. boundaryInitial (sceneOf b) (first + p))))
+          → InitialPut b fs l (first + count) r (w + 1) (set gs w f) y
       unfolding answerOffset
-      one-more-boundary {f} {r} {y} fe re ye =
+      one-more-boundary q {count} {keeps} {f} {r} {y} run c k fe re ye =
           let s = sceneOf b in
-          let models = layout .boundaries in
-          let is = boundaries-are passed in
           let initial = boundaryInitial s in
           let done = before (countsOf Boundary b) w in
-          let count = getD (models .counts) w 0 in
-          let start : getD (models .starts) w 0 ≡ done = start-before b is w h in
-          let more : before (countsOf Boundary b) (suc w) ≡ done + count = count-next b is w h in
-          let long = length-rows done initial (widthAt s)
+          let more : before (countsOf Boundary b) (suc w) ≡ done + count =
+          rw (c ∙ turn .count) (count-next Boundary b w) in
+          let long = length-rows first initial (widthAt s)
           (λ j m.
-          with-length s (λ j. boundary s j .force) (initial-fits b (passed .walk)) j
-          (omega (arith, start, boundary-run b is w h passed .within))) in
-          let rows = flatten (table done initial) in
+          with-length s (λ j. boundary s j .force) (initial-fits b q) j (omega (arith, run .within))) in
+          let rows = flatten (table first initial) in
           let at : to ≡ fluidAnswerWidth axes * fluidSize s + length rows = omega (arith, here .next, long) in
-          let stores : y ≡ sets x to (flatten (table count (λ p. initial (done + p)))) =
-          ye ∙ ap (λ (k : ℕ). sets x to (flatten (table count (λ p. initial (k + p))))) start in
+          let done-stored : x ≡ sets l (fluidAnswerWidth axes * fluidSize s) rows = rw (here .start) (here .stored) in
           record {
-            long = ap length stores ∙ length-sets x to (flatten (table count (λ p. initial (done + p)))) ∙ here .long;
-            next = rw (add-one w, more) (re ∙ ap (λ (k : ℕ). answerOffset s (k + count)) start);
+            start = rw (add-one w) (omega (arith, here .start, more));
+            long = ap length ye ∙ length-sets x to (flatten (table count (λ p. initial (first + p)))) ∙ here .long;
+            next = re;
             starts =
-                subst (λ (k : ℕ). Filling fs 0 (forceStart b) (modelNumber Boundary b) (w + 1) (set gs k f))
-                (zero-add w)
-                (one-more-stored fs 0 (forceStart b) (modelNumber Boundary b) (here .starts) h (force-starts fe));
+                one-more-in-front fs (forceStart b) (modelNumber Boundary b) (here .starts) h (force-starts k fe);
             stored =
-                stores
-                ∙ rw (add-one w, more, rows-add done count initial, here .stored, at)
+                ye
+                ∙ rw (add-one w, more, ← here .start, rows-add first count initial, done-stored, at)
                 (sym
-                (sets-append (flatten (table done initial)) (flatten (table count (λ p. initial (done + p)))) l
+                (sets-append rows (flatten (table count (λ p. initial (first + p)))) l
                 (fluidAnswerWidth axes * fluidSize s)));
           }
 
@@ -236,7 +229,7 @@ module _ (b fs : List ℕ) (l : List Float) where
     all-boundaries h =
         let e = le-antisymm (here .starts .within) h in
         let starts = all-stored fs 0 (forceStart b) (modelNumber Boundary b) (here .starts) h refl in
-        (starts, rw (← all-before b, ← e) (here .stored))
+        (starts, rw (← boundaries-before b, ← e) (here .stored))
 
 -- ---- what gathering finds
 

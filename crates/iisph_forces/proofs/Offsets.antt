@@ -12,15 +12,14 @@ use Rattle.lists.specs.Lists.{choose, sum, table}
 use Rattle.lists.proofs.Lists.{table-map}
 use Rattle.lists.proofs.Numbering.{sum-next, sum-more}
 use Rattle.scene_check.specs.Check.{Passed}
-use Rattle.scene_format.specs.Format.{axes, modelNumber, countsOf, startsOf}
+use Rattle.scene_format.specs.Format.{axes, modelNumber, countsOf, keepsOf, startsOf}
 use Rattle.scene_format.specs.Scene.{Scene, noBoundaryParticle, fluidSize, boundarySize, boundary}
 use Rattle.scene_format.specs.SceneOf.{headerOf, sceneOf}
 use Rattle.scene_format.specs.declared.Kind.the-variants.{Boundary}
 use Rattle.scene_index.specs.Index.{Indexed}
 use Rattle.scene_index.specs.Runs.{BoundaryRun}
-use Rattle.scene_index.proofs.Runs.{boundary-run}
-use Rattle.scene_layout.specs.Layout.{layoutModels, layoutOf}
-use Rattle.scene_layout.proofs.Filled.{padded-at}
+use Rattle.scene_index.proofs.Runs.{start-before, boundary-run}
+use Rattle.scene_layout.specs.Layout.{layoutOf}
 use Rattle.scene_lengths.specs.Lengths.{fluidAnswerWidth, keptAnswerWidth, answerWidth}
 use Rattle.scene_lengths.specs.Lengths.{boundaryAnswerWidth, answersNeeded}
 use Rattle.iisph_forces.specs.Forces.{widthAt, answerOffset}
@@ -90,20 +89,10 @@ module _ (b : List ℕ) where
   pub offset-needed : (j : ℕ) → j ≤ boundarySize (sceneOf b) → answerOffset (sceneOf b) j ≤ answersNeeded (sceneOf b)
   offset-needed j h = omega (arith, offset-all, offset-more (sceneOf b) j (boundarySize (sceneOf b)) h)
 
--- ---- boundary w, as the layout has it
-
-module _ (b : List ℕ) (w : ℕ) where
-  pub layout-count : getD (layoutModels Boundary b .counts) w 0 ≡ getD (countsOf Boundary b) w 0
-  unfolding layoutModels
-  layout-count = padded-at (countsOf Boundary b) w
-
-  pub layout-start : getD (layoutModels Boundary b .starts) w 0 ≡ getD (startsOf Boundary b) w 0
-  unfolding layoutModels
-  layout-start = padded-at (startsOf Boundary b) w
+-- ---- boundary w, by the lists of its kind
 
 pub indexed-run : {b index : List ℕ} → Indexed b index → (w : ℕ) → w < modelNumber Boundary b
-    → let models = layoutModels Boundary b in
-    BoundaryRun b (getD (models .starts) w 0) (getD (models .counts) w 0) (getD (models .keeps) w 0)
+    → BoundaryRun b (getD (startsOf Boundary b) w 0) (getD (countsOf Boundary b) w 0) (getD (keepsOf Boundary b) w 0)
 indexed-run {b} ix w h =
     let passed : Passed b (layoutOf b) = record { bytes = ix .bytes; walk = ix .accepted; layoutIs = refl } in
-    boundary-run b refl w h passed
+    rw (start-before Boundary b w h) (boundary-run passed w h)

@@ -15,12 +15,12 @@ use Rattle.lists.specs.Lists.{fold, table, choose, sum}
 use Rattle.lists.specs.Stores.{Part}
 use Rattle.math.specs.Vector.{Vector, _⊞_, _⊡_}
 use Rattle.scene_format.specs.Format.{axes, nameableModels, contactWidth, modelNumber, modelAt, numberAt, countsOf}
+use Rattle.scene_format.specs.Format.{keepsOf, startsOf}
 use Rattle.scene_format.specs.Scene.{Scene, Contact, fluidSize, particle, boundary}
 use Rattle.scene_format.specs.SceneOf.{sceneOf}
 use Rattle.scene_format.specs.declared.Kind.the-variants.{Boundary}
 use Rattle.scene_index.specs.Contacts.{ContactReady}
 use Rattle.scene_index.specs.declared.contacts.ContactList.{ContactList}
-use Rattle.scene_layout.specs.Layout.{layoutModels}
 use Rattle.scene_lengths.specs.Lengths.{fluidAnswerWidth, boundaryAnswerWidth}
 
 -- ---- where answers stand
@@ -36,8 +36,7 @@ answerOffset s j = fluidAnswerWidth axes * fluidSize s + sum (table j (widthAt s
 -- where the force of boundary w's first particle stands, or 0 if the boundary keeps no forces
 unfoldable pub forceStart : List ℕ → ℕ → ℕ
 forceStart b w =
-    let models = layoutModels Boundary b in
-    choose (eqb (getD (models .keeps) w 0) 1) (answerOffset (sceneOf b) (getD (models .starts) w 0) + 1) 0
+    choose (eqb (getD (keepsOf Boundary b) w 0) 1) (answerOffset (sceneOf b) (getD (startsOf Boundary b) w 0) + 1) 0
 
 unfoldable pub forceStarts : List ℕ → List ℕ
 forceStarts b = table (modelNumber Boundary b) (forceStart b)

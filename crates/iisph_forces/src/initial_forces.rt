@@ -127,26 +127,18 @@ pub fn put_initial(
         ⌝ }
 {
     let boundaries = layout.boundaries;
-    let starts = boundaries.starts;
-    let counts = boundaries.counts;
-    let keeps = boundaries.keeps;
+    let heads = boundaries.heads;
     let number = boundaries.number;
     let mut to = ANSWER_WIDTH * n;
+    let mut first = 0usize;
     let mut m = 0usize;
     while m < number {
-        let kept = keeps[m];
+        let head = heads[m];
+        let count = read::particles(scene, Kind::Boundary, head);
+        let kept = read::keeps(scene, head);
         forces[m] = force_start(kept, to);
-        to = put_boundary(
-            scene,
-            index,
-            work,
-            n,
-            starts[m],
-            counts[m],
-            kept,
-            to,
-            answers,
-        );
+        to = put_boundary(scene, index, work, n, first, count, kept, to, answers);
+        first += count;
         m += 1;
     }
 }

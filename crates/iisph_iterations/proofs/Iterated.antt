@@ -7,21 +7,14 @@ use mathlib.Core.Logic.{inl, inr}
 use mathlib.Core.List.{List, [], _∷_, map}
 use native.Mathlib.Omega.{arith}
 use lib.Ieee.{Float}
-use lib.ListN.{length, take, drop}
-use lib.Seq.{take-at}
+use lib.ListN.{length, drop}
 use Rattle.math.specs.Real.{+0}
 use Rattle.math.specs.Vector.{Vector}
-use Rattle.lists.specs.Lists.{table, sum}
+use Rattle.lists.specs.Lists.{table}
 use Rattle.lists.proofs.Lists.{length-table, table-at, map-table}
-use Rattle.scene_format.specs.Format.{axes, nameableModels, modelNumber, countsOf}
-use Rattle.scene_layout.specs.Layout.{padded, layoutModels, layoutOf}
+use Rattle.scene_format.specs.Format.{axes}
 use Rattle.scene_format.specs.Scene.{fluidSize, boundarySize, particle}
 use Rattle.scene_format.specs.SceneOf.{sceneOf}
-use Rattle.scene_check.specs.Check.{Passed}
-use Rattle.scene_layout.specs.declared.Layout.{Layout}
-use Rattle.scene_format.specs.declared.Kind.the-variants.{Fluid}
-use Rattle.scene_check.proofs.Accepted.{accepted}
-use Rattle.scene_layout.proofs.Locations.{length-counts, scene-counts, fluid-size-sum}
 use Rattle.iisph_rules.specs.Coefficients.{coefficients}
 use Rattle.iisph_rules.specs.Iteration.{pressure, dijPjl, dijPjls, NextPressure, nextPressure, nextPressures, averages}
 use Rattle.iisph_rules.specs.Iteration.{errorOf, iteration}
@@ -229,35 +222,20 @@ length-times b (suc i) l = length-iterated b refl (iteratedTimes i (sceneOf b) l
 
 -- ---- the error
 
-module _ {b : List ℕ} {layout : Layout} (passed : Passed b layout) where
-  -- the layout's counts are the scene's
-  pub counts-taken : take (layout .fluids .number) (layout .fluids .counts) ≡ sceneOf b .fluidCounts
-  unfolding layoutOf layoutModels padded sceneOf
-  counts-taken = rw (passed .layoutIs) (take-at (countsOf Fluid b) _ (modelNumber Fluid b) (length-counts Fluid b))
-
-  pub few-fluids : layout .fluids .number ≤ nameableModels
-  unfolding layoutOf layoutModels
-  few-fluids = rw (passed .layoutIs) (omega (arith, accepted b (passed .walk) .fields .header .few Fluid))
-
-  pub counts-sum : {n : ℕ} → n ≡ fluidSize (sceneOf b) → sum (take (layout .fluids .number) (layout .fluids .counts))
-      ≡ n
-  counts-sum size = ap sum (counts-taken ∙ scene-counts b) ∙ sym (size ∙ fluid-size-sum b)
-
-  -- from the results of the four passes' calls and the error's
-  pub iterates-made : {n : ℕ} (size : n ≡ fluidSize (sceneOf b)) (l : List Float)
-      → IterationReady (sceneOf b) (pressuresIn n l) n l
-      → {x y z w : List Float} {r : Float} → x ≡ After b n Quotients l → y ≡ After b n DijPjl x
-      → z ≡ After b n NextPressures y → w ≡ After b n Exchange z
-      → r ≡ errorOf (averages (take (layout .fluids .number) (layout .fluids .counts)) (termsIn n w))
-      → Iterates (sceneOf b) l r w
-  unfolding iteration
-  iterates-made {n} size l ready {w = w} e f g k q =
-      record {
-        error =
-            q
-            ∙ ap (λ (cs : List ℕ). errorOf (averages cs (termsIn n w))) counts-taken
-            ∙ ap (λ (ts : List Float). errorOf (averages (sceneOf b .fluidCounts) ts))
-            (iterated-terms b size l ready e f g k)
-            ∙ ap (λ (j : ℕ). iteration (sceneOf b) (coefficients (sceneOf b)) (pressuresIn j l) .error) size;
-        list = iterated-made b size l ready e f g k;
-      }
+-- from the results of the four passes' calls and the error's
+pub iterates-made : (b : List ℕ) {n : ℕ} (size : n ≡ fluidSize (sceneOf b)) (l : List Float)
+    → IterationReady (sceneOf b) (pressuresIn n l) n l
+    → {x y z w : List Float} {r : Float} → x ≡ After b n Quotients l → y ≡ After b n DijPjl x
+    → z ≡ After b n NextPressures y → w ≡ After b n Exchange z
+    → r ≡ errorOf (averages (sceneOf b .fluidCounts) (termsIn n w))
+    → Iterates (sceneOf b) l r w
+unfolding iteration
+iterates-made b {n} size l ready {w = w} e f g k q =
+    record {
+      error =
+          q
+          ∙ ap (λ (ts : List Float). errorOf (averages (sceneOf b .fluidCounts) ts))
+          (iterated-terms b size l ready e f g k)
+          ∙ ap (λ (j : ℕ). iteration (sceneOf b) (coefficients (sceneOf b)) (pressuresIn j l) .error) size;
+      list = iterated-made b size l ready e f g k;
+    }

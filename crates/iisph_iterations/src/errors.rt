@@ -1,16 +1,19 @@
 // The error of an iteration, from the column of error terms: the greatest of the fluids' averages, or +0 (METHOD 6.4).
 use iisph_rows::rows::ERROR_TERM;
 use math::larger;
-use scene_format::format::NAMEABLE_MODELS;
+use scene_format::Kind;
+use scene_format::read::particles;
+use scene_layout::Layout;
 use std::num::nearest_u64_to_f64;
 ghost use mathlib.Core.Path.{_≡_};
 ghost use Prim.Native.Nat.{_+_, _≤_};
-ghost use lib.ListN.{length, take};
+ghost use lib.ListN.{length};
 ghost use Rattle.iisph_rows.specs.Rows.{volumesAt};
 ghost use Rattle.iisph_rules.specs.Iteration.{averages, errorOf};
-ghost use Rattle.lists.specs.Lists.{sum};
 ghost use Rattle.math.specs.Real.{total, +0};
-ghost use Rattle.scene_format.specs.Format.{nameableModels};
+ghost use Rattle.scene_check.specs.Check.{Passed};
+ghost use Rattle.scene_format.specs.Scene.{fluidSize};
+ghost use Rattle.scene_format.specs.SceneOf.{sceneOf};
 ghost use Rattle.iisph_iterations.specs.Errors.{termsFrom, termsIn, withAverage};
 
 // The sum of the error terms of `count` of n particles, from particle `from` on.
@@ -40,18 +43,22 @@ fn with_average(work: &[f64], n: usize, from: usize, count: usize, error: f64) -
     larger(error, sum / nearest_u64_to_f64(count as u64))
 }
 
-// The error over the first `number` of the fluids, which have these counts and n particles in all.
-pub fn max_error(counts: [usize; NAMEABLE_MODELS], number: usize, work: &[f64], n: usize) -> f64
-    requires { ⌜
-        (number ≤ nameableModels) × (sum (take number counts) ≡ n) × (volumesAt n ≤ length (now work))
+// The error over the fluids of a scene, which have n particles in all.
+pub fn max_error(scene: &[u8], layout: Layout, work: &[f64], n: usize) -> f64
+    requires { ⌜ Passed (now scene) layout ⌝ }
+    requires { ⌜ (n ≡ fluidSize (sceneOf (now scene))) × (volumesAt n ≤ length (now work)) ⌝ }
+    ensures { λ r. ⌜
+        r ≡ errorOf (averages (sceneOf (now (scene .entry)) .fluidCounts) (termsIn n (now (work .entry))))
         ⌝ }
-    ensures { λ r. ⌜ r ≡ errorOf (averages (take number counts) (termsIn n (now (work .entry)))) ⌝ }
 {
+    let fluids = layout.fluids;
+    let heads = fluids.heads;
+    let number = fluids.number;
     let mut error = 0.0;
     let mut from = 0usize;
     let mut m = 0usize;
     while m < number {
-        let count = counts[m];
+        let count = particles(scene, Kind::Fluid, heads[m]);
         error = with_average(work, n, from, count, error);
         from += count;
         m += 1;

@@ -36,13 +36,11 @@ fn iterate(
     requires { ⌜ Passed (now scene) layout × Iterating (sceneOf (now scene)) n (now work) ⌝ }
     ensures { λ r. ⌜ Iterates (sceneOf (now (scene .entry))) (now (work .entry)) r (now (work .exit)) ⌝ }
 {
-    let fluids = layout.fluids;
-    let counts = fluids.counts;
     traverse(Pass::Quotients, scene, index, n, dt, gravity, work);
     traverse(Pass::DijPjl, scene, index, n, dt, gravity, work);
     traverse(Pass::NextPressures, scene, index, n, dt, gravity, work);
     traverse(Pass::Exchange, scene, index, n, dt, gravity, work);
-    max_error(counts, fluids.number, work, n)
+    max_error(scene, layout, work, n)
 }
 
 // The ending after i iterations, the last with this error, if none met the stopping test.

@@ -1,7 +1,7 @@
 -- A step that is lent its index, from the one that is not: by whether the index is lacking, which only a scene that the
 -- passes begin on can find. Assumes nothing.
 use Prim.Native.Nat.{ℕ, _≤_, _<_}
-use mathlib.Core.Path.{_≡_, refl, sym, ap, subst, _∙_}
+use mathlib.Core.Path.{_≡_, refl, sym, ap, _∙_}
 use mathlib.Core.Bool.{Bool, true, false, _&&_}
 use mathlib.Core.List.{List}
 use native.Mathlib.Omega.{arith}
@@ -22,7 +22,6 @@ use Rattle.iisph_rules.specs.declared.StepAnswer.the-variants.{Refused}
 use Rattle.iisph_rules.proofs.Cases.{scene-answer, scene-clears}
 use Rattle.iisph_lent.specs.Lent.{lacksIndex, lentAnswer, StepsLent, usesIndex}
 use Rattle.iisph_lent.specs.Step.{Steps}
-use Rattle.iisph_lent.specs.declared.LentAnswer.{LentAnswer}
 use Rattle.iisph_lent.specs.declared.LentAnswer.the-variants.{Answered, ShortIndex}
 
 -- ---- whether the index is lacking
@@ -132,17 +131,3 @@ module _ (b : List ℕ) (answers work : List Float) (index : ℕ) where
     pub short-index : {k : ℕ} → StepsLent b answers work index (ShortIndex k) answers′ work′
         → (k ≡ indexNeeded b) × (index < indexNeeded b) × (answers′ ≡ answers) × (work′ ≡ work)
     short-index s = short-go lacks refl s
-
--- ---- a step over one that is lent its index
-
-module _ {b : List ℕ} {answers work : List Float} {index : ℕ} {l : LentAnswer} {answers′ work′ : List Float}
-    (lent : StepsLent b answers work index l answers′ work′) where
-  pub this-size : {r : StepAnswer} → l ≡ Answered r → Steps b answers work r answers′ work′
-  this-size e =
-      answered-steps b answers work index (subst (λ l. StepsLent b answers work index l answers′ work′) e lent)
-
-  -- an index that is long enough is not too short
-  pub not-short : {k : ℕ} → l ≡ ShortIndex k → indexNeeded b ≤ index → ⊥
-  not-short e h =
-      let s = subst (λ l. StepsLent b answers work index l answers′ work′) e lent in
-      omega (arith, short-index b answers work index s .1)

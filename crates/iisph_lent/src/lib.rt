@@ -68,7 +68,7 @@ fn finish(
     traverse(Pass::Shares, scene, index, n, dt, gravity, work);
     update_velocities_and_positions(scene, index, work, n, dt, gravity, answers);
     boundary_answers(scene, layout, index, work, n, answers);
-    let needed = lengths_of(layout).work;
+    let needed = lengths_of(scene, layout).work;
     clear(work, needed);
     let ending = solved.ending;
     Report {
@@ -83,7 +83,7 @@ pub fn lists_short(scene: &[u8], layout: Layout, answers: usize, work: usize) ->
     requires { ⌜ Passed (now scene) layout ⌝ }
     ensures { λ r. ⌜ r ≡ listsShort (now (scene .entry)) answers work ⌝ }
 {
-    let needed = lengths_of(layout);
+    let needed = lengths_of(scene, layout);
     answers < needed.answers || work < needed.work
 }
 
@@ -114,7 +114,7 @@ pub fn step_long(
 }
 
 // A step on a scene that its caller has checked.
-pub fn step_accepted(
+fn step_accepted(
     scene: &[u8],
     layout: Layout,
     answers: &mut [f64],

@@ -7,8 +7,8 @@ use native.Mathlib.Omega.{arith}
 use lib.ListN.{length, getD, List·getD-append}
 use lib.Ieee.{Float, nan}
 use Rattle.lists.proofs.Lists.{table-same}
+use Rattle.scene_format.specs.Format.{modelNumber, countsOf, keepsOf}
 use Rattle.scene_format.specs.declared.Kind.{Kind}
-use Rattle.scene_layout.specs.declared.Models.{Models}
 use Rattle.scene_lengths.specs.Lengths.{widthIn, answersBefore, answersIn}
 use Rattle.iisph_words.specs.Words.{doubleText, doublesText}
 use Rattle.iisph_lines.specs.Lines.{particleLine, modelText, modelsUpto, modelsText}
@@ -37,8 +37,8 @@ module _ (xs rest : List Float) where
       (table-same n _ _
       (λ m l.
       model-behind κ m (getD counts m 0) (widthIn κ keeps m) (k + answersBefore κ keeps counts m)
-      (model-fits κ keeps counts k l refl h)))
+      (model-fits κ keeps counts k m refl refl refl l h)))
 
-  pub text-behind : (κ : Kind) (models : Models) (k : ℕ) → k + answersIn κ models ≤ length xs
-      → modelsText κ models k (xs ++ rest) ≡ modelsText κ models k xs
-  text-behind κ models k h = models-behind (models .number) κ (models .keeps) (models .counts) k h
+  pub text-behind : (κ : Kind) (b : List ℕ) (k : ℕ) → k + answersIn κ b ≤ length xs
+      → modelsText κ b k (xs ++ rest) ≡ modelsText κ b k xs
+  text-behind κ b k h = models-behind (modelNumber κ b) κ (keepsOf κ b) (countsOf κ b) k h

@@ -13,6 +13,7 @@ use Rattle.lists.proofs.Numbering.{sum-next, sum-more}
 use Rattle.lists.proofs.Writing.{none-written, next-written, room-upto}
 use Rattle.scene_format.specs.declared.Kind.{Kind}
 use Rattle.scene_lengths.specs.Lengths.{widthIn, answersBefore}
+use Rattle.scene_lengths.proofs.Needed.{answers-next}
 use Rattle.iisph_words.specs.Words.{doublesText}
 use Rattle.iisph_lines.specs.Lines.{particleLine, modelText, modelsUpto}
 
@@ -49,13 +50,18 @@ module _ (κ : Kind) (keeps counts : List ℕ) where
   abbrev count : ℕ → ℕ
   count m = getD counts m 0
 
-  pub model-fits : (k : ℕ) {n m from l : ℕ} → m < n → from ≡ k + answersBefore κ keeps counts m
-      → k + answersBefore κ keeps counts n ≤ l → from + widthIn κ keeps m * count m ≤ l
-  unfolding answersBefore
-  model-fits k {n} {m} h e r =
-      let f : ℕ → ℕ = λ j. widthIn κ keeps j * count j in
-      let q : suc m + (n - suc m) ≡ n = omega arith in
-      omega (arith, sum-next m f, sum-more f (suc m) (n - suc m), ap (λ j. sum (table j f)) q)
+  -- the answers of model m end where those of the next begin, and are there
+  module _ (k m : ℕ) {from w c : ℕ} (e : from ≡ k + answersBefore κ keeps counts m) (v : w ≡ widthIn κ keeps m)
+      (u : c ≡ count m) where
+    pub model-next : from + w * c ≡ k + answersBefore κ keeps counts (m + 1)
+    model-next = rw (v, u, answers-next κ keeps counts m) (omega (arith, e))
+
+    pub model-fits : {n l : ℕ} → m < n → k + answersBefore κ keeps counts n ≤ l → from + w * c ≤ l
+    unfolding answersBefore
+    model-fits {n} h r =
+        let f : ℕ → ℕ = λ j. widthIn κ keeps j * count j in
+        let q : suc m + (n - suc m) ≡ n = omega arith in
+        rw (v, u) (omega (arith, e, sum-next m f, sum-more f (suc m) (n - suc m), ap (λ j. sum (table j f)) q))
 
   module _ (k : ℕ) (xs : List Float) where
     model : ℕ → List ℕ
@@ -66,14 +72,15 @@ module _ (κ : Kind) (keeps counts : List ℕ) where
       unfolding modelsUpto table flatten
       none-modelled h = none-written h
 
-      module _ (m : ℕ) {from w next : ℕ} {o : List ℕ} (e : from ≡ k + answersBefore κ keeps counts m)
-          (v : w ≡ widthIn κ keeps m) (here : Writes out at (modelsUpto m κ keeps counts k xs) o next) where
+      module _ (m : ℕ) {from w c next : ℕ} {o : List ℕ} (e : from ≡ k + answersBefore κ keeps counts m)
+          (v : w ≡ widthIn κ keeps m) (u : c ≡ count m)
+          (here : Writes out at (modelsUpto m κ keeps counts k xs) o next) where
         pub model-room : {n : ℕ} → m < n → at + length (modelsUpto n κ keeps counts k xs) ≤ length out
-            → next + length (modelText κ m (count m) w from xs) ≤ length o
+            → next + length (modelText κ m c w from xs) ≤ length o
         unfolding modelsUpto model
-        model-room {n} h r = rw (e, v) (omega (arith, room-upto model n m h, here .ends, here .long))
+        model-room {n} h r = rw (e, v, u) (omega (arith, room-upto model n m h, here .ends, here .long))
 
-        pub model-written : {next′ : ℕ} {o′ : List ℕ} → Writes o next (modelText κ m (count m) w from xs) o′ next′
+        pub model-written : {next′ : ℕ} {o′ : List ℕ} → Writes o next (modelText κ m c w from xs) o′ next′
             → Writes out at (modelsUpto (m + 1) κ keeps counts k xs) o′ next′
         unfolding modelsUpto model
-        model-written q = next-written model here (rw (e, v) at q)
+        model-written q = next-written model here (rw (e, v, u) at q)

@@ -6,13 +6,13 @@ use lib.ListN.{getD}
 use lib.Ieee.{Float}
 use Rattle.lists.specs.Lists.{table}
 use Rattle.timestep_manager.specs.declared.Clock.{Clock}
-use Rattle.scene_format.specs.Format.{axes}
+use Rattle.scene_format.specs.Format.{axes, modelNumber, countsOf, keepsOf}
 use Rattle.scene_format.specs.Refusals.{numberOf, placeOf}
+use Rattle.scene_format.specs.Scene.{fluidSize}
+use Rattle.scene_format.specs.SceneOf.{sceneOf}
 use Rattle.scene_format.specs.declared.Kind.{Kind}
 use Rattle.scene_format.specs.declared.Kind.the-variants.{Fluid, Boundary}
 use Rattle.scene_format.specs.declared.Refusal.{Refusal}
-use Rattle.scene_layout.specs.declared.Layout.{Layout}
-use Rattle.scene_layout.specs.declared.Models.{Models}
 use Rattle.scene_lengths.specs.Lengths.{fluidAnswerWidth, widthIn, answersBefore}
 use Rattle.iisph_rules.specs.Endings.{endingNumber, endingValues}
 use Rattle.iisph_rules.specs.declared.Ending.{Ending}
@@ -56,15 +56,14 @@ modelsUpto n κ keeps counts k xs =
     flatten
     (table n (λ m. modelText κ m (getD counts m 0) (widthIn κ keeps m) (k + answersBefore κ keeps counts m) xs))
 
--- all models of a kind
-abbrev pub modelsText : Kind → Models → ℕ → List Float → List ℕ
-modelsText κ models k xs = modelsUpto (models .number) κ (models .keeps) (models .counts) k xs
+-- all models of a kind of the packed scene b
+abbrev pub modelsText : Kind → List ℕ → ℕ → List Float → List ℕ
+modelsText κ b k xs = modelsUpto (modelNumber κ b) κ (keepsOf κ b) (countsOf κ b) k xs
 
--- of a scene with this layout, whose answers are xs: the fluids, then the boundaries
-unfoldable pub particlesText : Layout → List Float → List ℕ
-particlesText layout xs =
-    modelsText Fluid (layout .fluids) 0 xs
-    ++ modelsText Boundary (layout .boundaries) (fluidAnswerWidth axes * layout .fluids .total) xs
+-- of that scene, whose answers are xs: the fluids, then the boundaries
+unfoldable pub particlesText : List ℕ → List Float → List ℕ
+particlesText b xs =
+    modelsText Fluid b 0 xs ++ modelsText Boundary b (fluidAnswerWidth axes * fluidSize (sceneOf b)) xs
 
 -- ---- the only line of a step that is refused
 

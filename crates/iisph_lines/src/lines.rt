@@ -14,13 +14,17 @@ use scene_format::Kind;
 use scene_format::Refusal;
 use scene_format::number;
 use scene_format::place;
+use scene_format::read::keeps;
+use scene_format::read::particles;
 use scene_layout::Models;
 use scene_lengths::answer_width;
 use timestep_manager::Clock;
+ghost use mathlib.Core.Path.{_≡_};
 ghost use Prim.Native.Nat.{_+_, _*_, _≤_};
 ghost use lib.ListN.{length};
 ghost use Rattle.lists.specs.Stores.{Writes};
-ghost use Rattle.scene_format.specs.Format.{nameableModels};
+ghost use Rattle.scene_format.specs.Within.{ModelsWithin};
+ghost use Rattle.scene_layout.specs.Layout.{layoutModels};
 ghost use Rattle.scene_lengths.specs.Lengths.{answersIn};
 ghost use Rattle.iisph_words.specs.Words.{doublesText};
 ghost use Rattle.iisph_lines.specs.Lines.{endingText, stepLine, clockLine, refusedRoom, refusedLine};
@@ -122,28 +126,35 @@ fn put_model(
     next
 }
 
-// The lines of all models of a kind, whose answers begin at the k-th element of a list.
+// The lines of all models of a kind of a scene, whose answers begin at the k-th element of a list.
 pub fn put_models(
     out: &mut [u8],
     at: usize,
+    scene: &[u8],
     kind: Kind,
     models: Models,
     xs: &[f64],
     k: usize,
 ) -> usize
-    requires { ⌜ (models .number ≤ nameableModels) × (k + answersIn kind models ≤ length (now xs)) ⌝ }
-    requires { ⌜ at + length (modelsText kind models k (now xs)) ≤ length (now out) ⌝ }
-    ensures { λ r. ⌜ Writes (now (out .entry)) at (modelsText kind models k (now (xs .entry))) (now (out .exit)) r ⌝ }
+    requires { ⌜ ModelsWithin kind (now scene) × (models ≡ layoutModels kind (now scene)) ⌝ }
+    requires { ⌜
+        (k + answersIn kind (now scene) ≤ length (now xs))
+        × (at + length (modelsText kind (now scene) k (now xs)) ≤ length (now out))
+        ⌝ }
+    ensures { λ r. ⌜
+        (let lines = modelsText kind (now (scene .entry)) k (now (xs .entry)) in
+        Writes (now (out .entry)) at lines (now (out .exit)) r)
+        ⌝ }
 {
     let number = models.number;
-    let counts = models.counts;
-    let keeps = models.keeps;
+    let heads = models.heads;
     let mut next = at;
     let mut from = k;
     let mut m = 0;
     while m < number {
-        let n = counts[m];
-        let w = answer_width(kind, keeps[m]);
+        let head = heads[m];
+        let n = particles(scene, kind, head);
+        let w = answer_width(kind, keeps(scene, head));
         next = put_model(out, next, kind, m, n, w, xs, from);
         from += w * n;
         m += 1;

@@ -15,7 +15,8 @@ use Rattle.scene_layout.specs.declared.Layout.{Layout}
 use Rattle.scene_index.specs.Index.{indexNeeded, indexOf}
 use Rattle.scene_index.proofs.Indexes.{indexed}
 use Rattle.scene_lengths.specs.Lengths.{workNeeded}
-use Rattle.scene_lengths.proofs.Needed.{fluids-total, work-needed}
+use Rattle.scene_check.proofs.Checks.{fluid-total}
+use Rattle.scene_lengths.proofs.Needed.{work-needed}
 use Rattle.iisph_rules.specs.Step.{firstPressures}
 use Rattle.iisph_header.specs.Header.{StepHeaderIs}
 use Rattle.iisph_header.specs.declared.StepHeader.{StepHeader}
@@ -30,7 +31,7 @@ use Rattle.iisph_preparation.proofs.RowsFilled.{drop-prepared}
 -- the filled index and the layout's number of fluid particles are what a pass goes over
 pub indexed-over : {b : List ℕ} {layout : Layout} → Passed b layout → (l : List ℕ) {index : List ℕ}
     → indexNeeded b ≤ length l → index ≡ sets l 0 (indexOf b) → PassOver b index (layout .fluids .total)
-indexed-over passed l room e = record { indexed = rw e (indexed passed l room); size = fluids-total passed }
+indexed-over passed l room e = record { indexed = rw e (indexed passed l room); size = fluid-total passed }
 
 -- what a pass may rely on, with the header's dt and gravity
 pub driven : {b index : List ℕ} {n : ℕ} {header : StepHeader} → PassOver b index n → StepHeaderIs (sceneOf b) header

@@ -18,7 +18,7 @@ use scene_index::records::record_of;
 use scene_layout::Layout;
 use scene_lengths::lengths_of;
 ghost use mathlib.Core.Path.{_≡_};
-ghost use Prim.Native.Nat.{ℕ, _+_, _≤_};
+ghost use Prim.Native.Nat.{ℕ, _≤_};
 ghost use lib.ListN.{length};
 ghost use Rattle.iisph_header.specs.Header.{StepHeaderIs};
 ghost use Rattle.iisph_rows.specs.Passes.{PassOver, DrivenPass, Room, volumes};
@@ -107,7 +107,7 @@ fn prepare_rows(
     match answer {
         Readiness::Ready => Readiness::Ready,
         Readiness::Refused(refusal) => {
-            let needed = lengths_of(layout).work;
+            let needed = lengths_of(scene, layout).work;
             clear(work, needed);
             Readiness::Refused(refusal)
         }

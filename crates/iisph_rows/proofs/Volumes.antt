@@ -23,9 +23,7 @@ use Rattle.scene_format.specs.SceneOf.{boundaryWeights, boundaryParticleAt, sce
 use Rattle.scene_format.specs.declared.Kind.the-variants.{Boundary}
 use Rattle.scene_index.specs.Index.{Indexed}
 use Rattle.scene_index.specs.Runs.{BoundaryRun}
-use Rattle.scene_index.proofs.Runs.{before, none-before, all-before, start-before, count-next}
-use Rattle.scene_layout.specs.Layout.{layoutModels}
-use Rattle.scene_layout.specs.declared.Models.{Models}
+use Rattle.scene_index.proofs.Runs.{before, none-before, boundaries-before, count-next}
 use Rattle.scene_walk.specs.Accepted.{BoundaryRecordOk}
 use Rattle.iisph_rows.specs.Passes.{volumes, volumeAt}
 
@@ -83,35 +81,39 @@ module _ {b index : List ℕ} (ix : Indexed b index) {first count keeps : ℕ} (
 abbrev volumesFrom : Scene → ℕ → ℕ → List Float
 volumesFrom s first count = table count (λ p. boundaryVolume (boundary s (first + p)))
 
--- of the boundaries the first w are stored in l, from element k on; this gave x
-pub record Stored (b : List ℕ) (l : List Float) (k w : ℕ) (x : List Float) : Type 0 where
+-- of the boundaries the first w, which have `first` particles, are stored in l, from element k on; this gave x
+pub record Stored (b : List ℕ) (l : List Float) (k first w : ℕ) (x : List Float) : Type 0 where
   pub within : w ≤ modelNumber Boundary b
+  pub start : first ≡ before (countsOf Boundary b) w
   pub long : length x ≡ length l
   pub stored : x ≡ sets l k (table (before (countsOf Boundary b) w) (λ j. boundaryVolume (boundary (sceneOf b) j)))
 
 module _ (b : List ℕ) (l : List Float) (k : ℕ) where
-  pub none-stored : Stored b l k 0 l
+  pub none-stored : Stored b l k 0 0 l
   unfolding table
-  none-stored = record { within = omega arith; long = refl; stored = rw (none-before b) }
+  none-stored =
+      record {
+        within = omega arith;
+        start = sym (none-before Boundary b);
+        long = refl;
+        stored = rw (none-before Boundary b);
+      }
 
-  module _ {w : ℕ} {x : List Float} (here : Stored b l k w x) where
-    pub one-more-stored : w < modelNumber Boundary b → {models : Models} → models ≡ layoutModels Boundary b
-        → {first : ℕ} {y : List Float}
-        → first ≡ getD (models .starts) w 0
-        → y ≡ sets x (k + first) (volumesFrom (sceneOf b) first (getD (models .counts) w 0))
-        → Stored b l k (w + 1) y
-    one-more-stored h {models} is {first} {y} fe ye =
+  module _ {first w : ℕ} {x : List Float} (here : Stored b l k first w x) where
+    pub one-more-stored : w < modelNumber Boundary b → {count : ℕ} {y : List Float} → count ≡ getD (countsOf Boundary b) w 0
+        → y ≡ sets x (k + first) (volumesFrom (sceneOf b) first count)
+        → Stored b l k (first + count) (w + 1) y
+    one-more-stored h {count} {y} c ye =
         let done = before (countsOf Boundary b) w in
-        let count = getD (models .counts) w 0 in
         let f : ℕ → Float = λ j. boundaryVolume (boundary (sceneOf b) j) in
-        let start : first ≡ done = fe ∙ start-before b is w h in
-        let more : before (countsOf Boundary b) (suc w) ≡ done + count = count-next b is w h in
+        let more : before (countsOf Boundary b) (suc w) ≡ done + count = rw c (count-next Boundary b w) in
         record {
           within = omega arith;
+          start = rw (add-one w) (omega (arith, here .start, more));
           long = ap length ye ∙ length-sets x (k + first) (volumesFrom (sceneOf b) first count) ∙ here .long;
           stored =
               ye
-              ∙ rw (start, here .stored, add-one w, more, table-add done count f)
+              ∙ rw (here .start, here .stored, add-one w, more, table-add done count f)
               (sym
               (sets-append (table done f) (table count (λ p. f (done + p))) l k
               ∙ ap (λ (j : ℕ). sets (sets l k (table done f)) (k + j) (table count (λ p. f (done + p))))
@@ -121,4 +123,4 @@ module _ (b : List ℕ) (l : List Float) (k : ℕ) where
     pub all-stored : modelNumber Boundary b ≤ w → x ≡ sets l k (volumes (sceneOf b))
     all-stored h =
         let e = le-antisymm (here .within) h in
-        rw (← all-before b, ← e) (here .stored)
+        rw (← boundaries-before b, ← e) (here .stored)

@@ -8,6 +8,8 @@ use scene_format::format::CONTACT_WEIGHT;
 use scene_format::format::VECTOR_WIDTH;
 use scene_format::read::byte;
 use scene_format::read::double;
+use scene_format::read::keeps;
+use scene_format::read::particles;
 use scene_index::records::record_of;
 use scene_layout::Layout;
 ghost use mathlib.Core.Path.{_≡_};
@@ -96,22 +98,23 @@ pub fn compute_boundary_volumes(
         ⌝ }
 {
     let boundaries = layout.boundaries;
-    let starts = boundaries.starts;
-    let counts = boundaries.counts;
-    let keeps = boundaries.keeps;
+    let heads = boundaries.heads;
     let number = boundaries.number;
+    let mut first = 0;
     let mut m = 0;
     while m < number {
-        let first = starts[m];
+        let head = heads[m];
+        let count = particles(scene, Kind::Boundary, head);
         put_volumes(
             scene,
             index,
             first,
-            counts[m],
-            keeps[m],
+            count,
+            keeps(scene, head),
             VOLUMES * n + first,
             work,
         );
+        first += count;
         m += 1;
     }
 }

@@ -1,5 +1,5 @@
 -- What a run does, from what its parts did: by the tests that it makes. Assumes nothing.
-use Prim.Native.Nat.{ℕ, _≤_, _<_}
+use Prim.Native.Nat.{ℕ, _+_, _≤_, _<_}
 use mathlib.Core.Path.{_≡_, _∙_}
 use mathlib.Core.List.{List, _++_}
 use native.Mathlib.Nat.{zero-add}
@@ -14,7 +14,7 @@ use Rattle.lists.proofs.Writing.{none-written, _then_}
 use Rattle.scene_format.specs.Bytes.{Bytes}
 use Rattle.scene_format.specs.declared.Refusal.{Refusal}
 use Rattle.scene_format.specs.declared.Kind.the-variants.{Fluid, Boundary}
-use Rattle.scene_layout.specs.declared.Layout.{Layout}
+use Rattle.scene_lengths.specs.Lengths.{answersIn}
 use Rattle.iisph_lines.specs.Lines.{stepLine, clockLine, modelsText, particlesText, refusedLine}
 use Rattle.iisph_rules.specs.declared.Report.{Report}
 use Rattle.iisph_rules.specs.declared.StepAnswer.{StepAnswer}
@@ -22,16 +22,31 @@ use Rattle.iisph_rules.specs.declared.StepAnswer.the-variants.{Refused}
 use Rattle.iisph_lent.specs.Step.{Steps}
 use Rattle.iisph_text.specs.Text.{mostBytes, tooLong, textWith, textOf, answerText}
 use Rattle.iisph_text.specs.Run.{textRoom, enoughAnswers, enoughWork, written, ifStepped, textIn, Runs, behind}
+use Rattle.iisph_text.specs.Run.{LinesReady}
 use Rattle.iisph_text.proofs.Texts.{text-same}
 
 -- the four parts of the text of a step that is done
-pub parts-written : (layout : Layout) (xs : List Float) (r : Report) {out o₁ o₂ o₃ o : List ℕ} {n₁ n₂ n₃ n : ℕ}
+pub parts-written : (b : List ℕ) (xs : List Float) (r : Report) {out o₁ o₂ o₃ o : List ℕ} {n₁ n₂ n₃ n k : ℕ}
+    → k ≡ behind b
     → Writes out 0 (stepLine r) o₁ n₁ → Writes o₁ n₁ (clockLine (r .clock)) o₂ n₂
-    → Writes o₂ n₂ (modelsText Fluid (layout .fluids) 0 xs) o₃ n₃
-    → Writes o₃ n₃ (modelsText Boundary (layout .boundaries) (behind layout) xs) o n
-    → Writes out 0 (stepLine r ++ clockLine (r .clock) ++ particlesText layout xs) o n
+    → Writes o₂ n₂ (modelsText Fluid b 0 xs) o₃ n₃
+    → Writes o₃ n₃ (modelsText Boundary b k xs) o n
+    → Writes out 0 (stepLine r ++ clockLine (r .clock) ++ particlesText b xs) o n
 unfolding particlesText
-parts-written layout xs r p q v w = p then q then (v then w)
+parts-written b xs r e p q v w = p then q then (v then (rw e at w))
+
+-- the last two have room behind the others
+module _ {b : List ℕ} {xs : List Float} {r : Report} {out : List ℕ} (ready : LinesReady b xs r out)
+    {o₁ o₂ : List ℕ} {n₁ n₂ : ℕ} (p : Writes out 0 (stepLine r) o₁ n₁) (q : Writes o₁ n₁ (clockLine (r .clock)) o₂ n₂) where
+  pub fluids-room : (0 + answersIn Fluid b ≤ length xs) × (n₂ + length (modelsText Fluid b 0 xs) ≤ length o₂)
+  fluids-room =
+      (omega (arith, ready .fluids), omega (arith, ready .room, p .ends, p .long, q .ends, q .long))
+
+  pub boundaries-room : {k : ℕ} → k ≡ behind b → {o₃ : List ℕ} {n₃ : ℕ} → Writes o₂ n₂ (modelsText Fluid b 0 xs) o₃ n₃
+      → (k + answersIn Boundary b ≤ length xs) × (n₃ + length (modelsText Boundary b k xs) ≤ length o₃)
+  boundaries-room e v =
+      rw e
+      (ready .boundaries, omega (arith, ready .room, p .ends, p .long, q .ends, q .long, v .ends, v .long))
 
 module _ {b : List ℕ} {answers work : List Float} {out : List ℕ} where
   pub no-room : length out < textRoom → Runs b answers work out 0 answers work out

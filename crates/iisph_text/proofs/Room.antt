@@ -10,16 +10,16 @@ use lib.Ieee.{Float}
 use Rattle.lists.specs.Lists.{table, iter, sum}
 use Rattle.scene_format.specs.Bytes.{Bytes}
 use Rattle.scene_format.specs.Format.{axes, mostModels, mostParticles, modelNumber, headerWidth, particlesAt, keepsAt}
-use Rattle.scene_format.specs.Format.{ownWidth, firstRecord, nextRecord, modelEnd, firstHead, headAt}
+use Rattle.scene_format.specs.Format.{ownWidth, firstRecord, nextRecord, modelEnd, firstHead, headAt, countsOf, keepsOf}
 use Rattle.scene_format.specs.SceneOf.{sceneOf}
 use Rattle.scene_format.specs.declared.Kind.{Kind}
 use Rattle.scene_format.specs.declared.Kind.the-variants.{Fluid, Boundary}
 use Rattle.scene_format.specs.declared.Walk.the-variants.{At}
-use Rattle.scene_layout.specs.Layout.{layoutModels}
+use Rattle.scene_layout.proofs.Locations.{counts-at, keeps-of}
 use Rattle.scene_check.specs.Walk.{checked}
 use Rattle.scene_check.proofs.Accepted.{accepted}
 use Rattle.scene_lengths.specs.Lengths.{answerWidth, widthIn, answersBefore, answersIn, answersNeeded}
-use Rattle.scene_lengths.proofs.Needed.{layout-keeps, layout-counts, fluid-answers, answers-needed}
+use Rattle.scene_lengths.proofs.Needed.{fluid-answers, answers-needed}
 use Rattle.lists.proofs.Rows.{length-rows}
 use Rattle.iisph_words.specs.Words.{doubleTextWidth, doublesText, kindWord}
 use Rattle.iisph_lines.specs.Lines.{particleLine, modelText, modelsUpto, modelsText}
@@ -127,33 +127,33 @@ module _ (κ : Kind) (b : List ℕ) (head : ℕ) where
 
 module _ (b : List ℕ) {e : ℕ} (q : checked b ≡ At e) where
   kind-room : (κ : Kind) (k : ℕ) (xs : List Float)
-      → length (modelsText κ (layoutModels κ b) k xs) + 2 * firstHead κ b ≤ 2 * headAt κ b (modelNumber κ b)
-  unfolding modelsUpto layoutModels
+      → length (modelsText κ b k xs) + 2 * firstHead κ b ≤ 2 * headAt κ b (modelNumber κ b)
+  unfolding modelsUpto
   kind-room κ k xs =
       let ok = accepted b q .fields in
-      let keeps = layoutModels κ b .keeps in
-      let counts = layoutModels κ b .counts in
+      let keeps = keepsOf κ b in
+      let counts = countsOf κ b in
       let f : ℕ → List ℕ =
       λ m. modelText κ m (getD counts m 0) (widthIn κ keeps m) (k + answersBefore κ keeps counts m) xs in
       let room =
       sums-room 1 2 (modelEnd κ b) (modelNumber κ b) (firstHead κ b) (λ m. length (f m))
       (λ m h.
-      let count = layout-counts κ b m h in
+      let count = counts-at κ b m h in
       let small : getD counts m 0 ≤ mostParticles = rw count (ok .models κ m h .few) in
       let few : m < mostModels = omega (arith, ok .header .few κ) in
       let before = k + answersBefore κ keeps counts m in
       omega (
         arith,
-        model-room κ b (headAt κ b m) (layout-keeps κ b m h) (getD counts m 0) count m few small before xs,
+        model-room κ b (headAt κ b m) (keeps-of κ b m h) (getD counts m 0) count m few small before xs,
       )) in
       omega (arith, length-rows (modelNumber κ b) f (λ m. length (f m)) (λ m h. refl), room)
 
   kind-answers : (κ : Kind)
-      → answerBytes * answersIn κ (layoutModels κ b) + firstHead κ b ≤ headAt κ b (modelNumber κ b)
-  unfolding answersBefore layoutModels
+      → answerBytes * answersIn κ b + firstHead κ b ≤ headAt κ b (modelNumber κ b)
+  unfolding answersBefore
   kind-answers κ =
-      let keeps = layoutModels κ b .keeps in
-      let counts = layoutModels κ b .counts in
+      let keeps = keepsOf κ b in
+      let counts = countsOf κ b in
       omega (
         arith,
         sums-room answerBytes 1 (modelEnd κ b) (modelNumber κ b) (firstHead κ b)
@@ -161,14 +161,14 @@ module _ (b : List ℕ) {e : ℕ} (q : checked b ≡ At e) where
             (λ m h.
             omega (
               arith,
-              model-answers κ b (headAt κ b m) (layout-keeps κ b m h) (getD counts m 0) (layout-counts κ b m h),
+              model-answers κ b (headAt κ b m) (keeps-of κ b m h) (getD counts m 0) (counts-at κ b m h),
             )),
       )
 
   -- wherever the boundaries' answers begin; the header leaves room for the lines before the particles'
   pub particles-room : (k : ℕ) (xs : List Float)
-      → length (modelsText Fluid (layoutModels Fluid b) 0 xs)
-      + length (modelsText Boundary (layoutModels Boundary b) k xs)
+      → length (modelsText Fluid b 0 xs)
+      + length (modelsText Boundary b k xs)
       + 2 * headerWidth axes
       ≤ 2 * length b
   unfolding firstHead

@@ -17,7 +17,6 @@ use Rattle.scene_format.specs.SceneOf.{headerOf, sceneOf}
 use Rattle.scene_format.specs.declared.Kind.the-variants.{Fluid, Boundary}
 use Rattle.scene_format.specs.declared.Walk.{Walk}
 use Rattle.scene_format.specs.declared.Walk.the-variants as walk
-use Rattle.scene_layout.specs.Layout.{layoutModels}
 use Rattle.scene_layout.specs.declared.Layout.{Layout}
 use Rattle.scene_index.specs.Index.{indexNeeded}
 use Rattle.scene_index.proofs.Indexes.{number-few}
@@ -81,8 +80,7 @@ module _ (b : List ℕ) (y : Bytes b) {r : Report} (d : Reported b r) where
   -- all lines together, whatever the answers are and wherever the boundaries' answers begin
   pub done-room : (k : ℕ) (xs : List Float)
       → length (stepLine r) + length (clockLine (r .clock))
-      + (length (modelsText Fluid (layoutModels Fluid b) 0 xs)
-      + length (modelsText Boundary (layoutModels Boundary b) k xs))
+      + (length (modelsText Fluid b 0 xs) + length (modelsText Boundary b k xs))
       ≤ 2 * length b
   done-room k xs = omega (arith, step-most, length-clock (r .clock), particles-room b (d .accepted) k xs)
 

@@ -11,10 +11,10 @@ use Rattle.scene_format.specs.SceneOf.{sceneOf}
 use Rattle.scene_format.specs.declared.Walk.the-variants.{At}
 use Rattle.scene_check.specs.Walk.{checked}
 use Rattle.iisph_lines.specs.Lines.{stepLine, clockLine, modelsText}
-use Rattle.scene_format.specs.Format.{axes, mostModels, nameableModels}
+use Rattle.scene_format.specs.Format.{axes, mostModels}
+use Rattle.scene_format.specs.Scene.{fluidSize}
 use Rattle.scene_index.specs.Index.{modelBlocks, startsLength}
 use Rattle.scene_format.specs.declared.Kind.the-variants.{Fluid, Boundary}
-use Rattle.scene_layout.specs.declared.Layout.{Layout}
 use Rattle.scene_lengths.specs.Lengths.{fluidAnswerWidth, answersIn}
 use Rattle.iisph_rules.specs.Answer.{answersAfter, workAfter}
 use Rattle.iisph_rules.specs.Step.{reportOf}
@@ -64,16 +64,13 @@ pub record Runs (b : List ℕ) (answers work : List Float) (out : List ℕ) (r :
 -- ---- scaffolding: no promise rests on it
 
 -- where the answers of the boundaries begin
-abbrev pub behind : Layout → ℕ
-behind layout = fluidAnswerWidth axes * layout .fluids .total
+abbrev pub behind : List ℕ → ℕ
+behind b = fluidAnswerWidth axes * fluidSize (sceneOf b)
 
 -- the lines of a step that is done read answers that are there, and have room
-pub record LinesReady (layout : Layout) (answers : List Float) (r : Report) (out : List ℕ) : Type 0 where
-  pub fewFluids : layout .fluids .number ≤ nameableModels
-  pub fewBoundaries : layout .boundaries .number ≤ nameableModels
-  pub fluids : answersIn Fluid (layout .fluids) ≤ length answers
-  pub boundaries : behind layout + answersIn Boundary (layout .boundaries) ≤ length answers
+pub record LinesReady (b : List ℕ) (answers : List Float) (r : Report) (out : List ℕ) : Type 0 where
+  pub fluids : answersIn Fluid b ≤ length answers
+  pub boundaries : behind b + answersIn Boundary b ≤ length answers
   pub room : length (stepLine r) + length (clockLine (r .clock))
-      + (length (modelsText Fluid (layout .fluids) 0 answers)
-      + length (modelsText Boundary (layout .boundaries) (behind layout) answers))
+      + (length (modelsText Fluid b 0 answers) + length (modelsText Boundary b (behind b) answers))
       ≤ length out

@@ -6,7 +6,6 @@ use lib.Dec.{ltb}
 use lib.ListN.{length}
 use Rattle.lists.specs.Lists.{choose}
 use Rattle.scene_format.specs.SceneOf.{sceneOf}
-use Rattle.scene_layout.specs.Layout.{layoutOf}
 use Rattle.scene_lengths.specs.Lengths.{answersNeeded, workNeeded}
 use Rattle.iisph_rules.specs.Answer.{stepAnswer}
 use Rattle.iisph_rules.specs.Step.{answersOf}
@@ -16,7 +15,7 @@ use Rattle.iisph_lines.specs.Lines.{stepLine, clockLine, particlesText, refused
 
 -- the text for what a step answers on the bytes b
 unfoldable pub answerText : List ℕ → StepAnswer → List ℕ
-answerText b (Done r) = stepLine r ++ clockLine (r .clock) ++ particlesText (layoutOf b) (answersOf (sceneOf b))
+answerText b (Done r) = stepLine r ++ clockLine (r .clock) ++ particlesText b (answersOf (sceneOf b))
 answerText b (Refused r) = refusedLine r
 
 -- "too long"

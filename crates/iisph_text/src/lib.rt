@@ -1,7 +1,7 @@
 // The text of a packed scene that is short enough (FORMAT 4). `put_scene` is for the crate that runs the program on all
 // scenes, and shows that there is room.
-use iisph_lent::LentAnswer;
-use iisph_lent::step_accepted;
+use iisph_lent::lists_short;
+use iisph_lent::step_long;
 use iisph_lines::lines::put_clock;
 use iisph_lines::lines::put_models;
 use iisph_lines::lines::put_refused;
@@ -32,12 +32,12 @@ const MOST_ANSWERS: usize = 4096;
 
 const ENOUGH_INDEX: usize = FLUID_BASES + 2 * (MODEL_BLOCKS * MAX_MODELS) + MOST_ANSWERS;
 
-// The text of a step that is done on a scene with this layout, with its answers in front of the list.
-fn put_done(layout: Layout, answers: &[f64], report: Report, out: &mut [u8]) -> usize
-    requires { ⌜ LinesReady layout (now answers) report (now out) ⌝ }
+// The text of a step that is done on a scene with its layout, with its answers in front of the list.
+fn put_done(scene: &[u8], layout: Layout, answers: &[f64], report: Report, out: &mut [u8]) -> usize
+    requires { ⌜ Passed (now scene) layout × LinesReady (now scene) (now answers) report (now out) ⌝ }
     ensures { λ r. ⌜
-        (let lines = stepLine report ++ clockLine (report .clock) ++ particlesText layout (now (answers .entry)) in
-        Writes (now (out .entry)) 0 lines (now (out .exit)) r)
+        (let particles = particlesText (now (scene .entry)) (now (answers .entry)) in
+        Writes (now (out .entry)) 0 (stepLine report ++ clockLine (report .clock) ++ particles) (now (out .exit)) r)
         ⌝ }
 {
     let fluids = layout.fluids;
@@ -45,10 +45,11 @@ fn put_done(layout: Layout, answers: &[f64], report: Report, out: &mut [u8]) -> 
     let clock = report.clock;
     let second = put_step(out, 0, report);
     let third = put_clock(out, second, clock);
-    let next = put_models(out, third, Kind::Fluid, fluids, answers, 0);
+    let next = put_models(out, third, scene, Kind::Fluid, fluids, answers, 0);
     put_models(
         out,
         next,
+        scene,
         Kind::Boundary,
         boundaries,
         answers,
@@ -63,12 +64,11 @@ fn step_short(scene: &[u8], layout: Layout, answers: &mut [f64], work: &mut [f64
         Steps (now (scene .entry)) (now (answers .entry)) (now (work .entry)) r (now (answers .exit)) (now (work .exit))
         ⌝ }
 {
-    let mut index = [0usize; ENOUGH_INDEX];
-    match step_accepted(scene, layout, answers, work, &mut index) {
-        LentAnswer::Answered(answer) => answer,
-        // Never: the index is long enough for every such scene.
-        LentAnswer::ShortIndex(_) => StepAnswer::Refused(Refusal::ShortList),
+    if lists_short(scene, layout, answers.len(), work.len()) {
+        return StepAnswer::Refused(Refusal::ShortList);
     }
+    let mut index = [0usize; ENOUGH_INDEX];
+    step_long(scene, layout, answers, work, &mut index)
 }
 
 // The text of an accepted scene that is short enough.
@@ -88,7 +88,7 @@ fn put_accepted(
 {
     let answer = step_short(scene, layout, answers, work);
     match answer {
-        StepAnswer::Done(report) => put_done(layout, answers, report, out),
+        StepAnswer::Done(report) => put_done(scene, layout, answers, report, out),
         StepAnswer::Refused(refusal) => put_refused(out, 0, refusal),
     }
 }

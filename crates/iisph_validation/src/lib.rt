@@ -31,7 +31,7 @@ fn validate_long(scene: &[u8], layout: Layout, work: &mut [f64], index: &mut [us
     let answer = prepare(scene, layout, header, index, work);
     match answer {
         Readiness::Ready => {
-            let needed = lengths_of(layout).work;
+            let needed = lengths_of(scene, layout).work;
             clear(work, needed);
             Readiness::Ready
         }
@@ -79,7 +79,7 @@ fn validate_sized(scene: &[u8], layout: Layout, work: &mut [f64]) -> Readiness
     requires { ⌜ Passed (now scene) layout ⌝ }
     ensures { λ r. ⌜ Validates (now (scene .entry)) (now (work .entry)) r (now (work .exit)) ⌝ }
 {
-    if work.len() < lengths_of(layout).work {
+    if work.len() < lengths_of(scene, layout).work {
         return Readiness::Refused(Refusal::ShortList);
     }
     let needed = index_needed(scene, layout);

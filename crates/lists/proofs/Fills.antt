@@ -1,9 +1,9 @@
 -- The laws of filling a list from an element on, one value after the other: one value more is a store behind those
 -- done. By what a longer table is. Assumes nothing.
 use Prim.Native.Nat.{ℕ, zero, suc, _+_, _<_, _≤_}
-use mathlib.Core.Path.{_≡_, refl, sym, ap, _∙_}
+use mathlib.Core.Path.{_≡_, refl, sym, ap, subst, _∙_}
 use mathlib.Core.List.{List, [], _∷_, _++_}
-use native.Mathlib.Nat.{not-suc-le-zero, le-of-suc-le-suc, add-zero, le-antisymm}
+use native.Mathlib.Nat.{not-suc-le-zero, le-of-suc-le-suc, add-zero, zero-add, le-antisymm}
 use native.Mathlib.Numerals.{add-one}
 use native.Mathlib.Omega.{arith}
 use lib.ListN.{length, getD, set, replicate, drop, length-set}
@@ -59,6 +59,12 @@ module _ {A : Type 0} (l : List A) (k : ℕ) (f : ℕ → A) (n : ℕ) where
     all-stored h e =
         here .stored ∙ ap (λ (j : ℕ). sets l k (table j f)) (le-antisymm (here .within) h)
         ∙ ap (λ (vs : List A). sets l k vs) e
+
+-- from the front on
+pub one-more-in-front : {A : Type 0} (l : List A) (f : ℕ → A) (n : ℕ) {i : ℕ} {x : List A} → Filling l 0 f n i x
+    → i < n → {v : A} → v ≡ f i → Filling l 0 f n (i + 1) (set x i v)
+one-more-in-front l f n {i} {x} here h {v} e =
+    subst (λ (k : ℕ). Filling l 0 f n (i + 1) (set x k v)) (zero-add i) (one-more-stored l 0 f n here h e)
 
 -- ---- clearing: the first elements become a, one by one
 

@@ -1,12 +1,17 @@
 -- What a check answers, from where its walks have come to: each by opening what the check is made of. Assumes nothing.
-use Prim.Native.Nat.{ℕ}
+use Prim.Native.Nat.{ℕ, _≤_, _<_}
 use mathlib.Core.Path.{_≡_, refl, sym, ap, _∙_}
 use mathlib.Core.List.{List}
 use native.Mathlib.Omega.{arith}
-use lib.ListN.{length}
+use lib.ListN.{length, getD, replicate}
+use lib.Seq.{sets}
 use Rattle.scene_format.specs.Bytes.{Bytes}
 use Rattle.scene_fields.specs.Fields.{_▹_}
-use Rattle.scene_format.specs.Format.{modelNumber, countsOf}
+use Rattle.scene_format.specs.Format.{nameableModels, modelNumber, countsOf}
+use Rattle.scene_format.specs.Scene.{fluidSize, boundarySize}
+use Rattle.scene_format.specs.SceneOf.{sceneOf}
+use Rattle.scene_format.specs.Within.{ModelsWithin}
+use Rattle.scene_format.specs.declared.Kind.{Kind}
 use Rattle.scene_format.specs.declared.Kind.the-variants.{Fluid, Boundary}
 use Rattle.scene_format.specs.declared.Refusal.{Refusal}
 use Rattle.scene_format.specs.declared.Walk.{Walk}
@@ -19,8 +24,10 @@ use Rattle.scene_check.specs.declared.Checked.{Checked}
 use Rattle.scene_layout.specs.declared.Layout.{Layout}
 use Rattle.scene_check.specs.declared.Verdict.the-variants as verdict
 use Rattle.scene_check.specs.declared.Verdict.the-variants.{Accepted}
-use Rattle.scene_check.proofs.Accepted.{accepted-length}
-use Rattle.scene_layout.proofs.Filled.{padded-at}
+use Rattle.scene_check.proofs.Accepted.{accepted-length, accepted-within}
+use Rattle.scene_layout.proofs.Filled.{padded-at, stored-padded}
+use Rattle.scene_layout.proofs.Locations.{length-counts, fluid-size-sum, boundary-size-sum}
+use Rattle.scene_layout.proofs.Turns.{Turn, this-turn}
 
 module _ (b : List ℕ) where
   pub fields-refused : {r : Refusal} → fields b ≡ Refused r → checked b ≡ Refused r
@@ -41,17 +48,37 @@ module _ (b : List ℕ) where
   checks-accepted q e = record { verdict = rw q; layout = rw q e }
 
   -- what the names are walked by
-  pub layout-fluids : {l : Layout} → l ≡ layoutOf b → l .fluids .number ≡ modelNumber Fluid b
-  unfolding layoutOf layoutModels
-  layout-fluids e = rw e
+  pub fluids-are : {l : Layout} → l ≡ layoutOf b → l .fluids ≡ layoutModels Fluid b
+  unfolding layoutOf
+  fluids-are e = rw e
 
-  pub layout-boundaries : {l : Layout} → l ≡ layoutOf b → l .boundaries .number ≡ modelNumber Boundary b
-  unfolding layoutOf layoutModels
-  layout-boundaries e = rw e
+  pub boundaries-are : {l : Layout} → l ≡ layoutOf b → l .boundaries ≡ layoutModels Boundary b
+  unfolding layoutOf
+  boundaries-are e = rw e
 
-  pub layout-counts : {l : Layout} → l ≡ layoutOf b → CountsAre b (l .fluids .counts) (l .boundaries .counts)
+  pub fluid-number : {l : Layout} → l ≡ layoutOf b → l .fluids .number ≡ modelNumber Fluid b
   unfolding layoutOf layoutModels
-  layout-counts e = rw e (record { fluid = padded-at (countsOf Fluid b); boundary = padded-at (countsOf Boundary b) })
+  fluid-number e = rw e
+
+  pub boundary-number : {l : Layout} → l ≡ layoutOf b → l .boundaries .number ≡ modelNumber Boundary b
+  unfolding layoutOf layoutModels
+  boundary-number e = rw e
+
+  -- the counts of a kind, stored over zeros
+  stored-counts : (κ : Kind) → ModelsWithin κ b → {counts : List ℕ}
+      → counts ≡ sets (replicate nameableModels 0) 0 (countsOf κ b) → (m : ℕ)
+      → getD counts m 0 ≡ getD (countsOf κ b) m 0
+  stored-counts κ all e m =
+      let few : length (countsOf κ b) ≤ nameableModels = omega (arith, length-counts κ b, all .few) in
+      ap (λ (l : List ℕ). getD l m 0) (e ∙ stored-padded nameableModels (countsOf κ b) few)
+      ∙ padded-at nameableModels (countsOf κ b) m
+
+  pub counts-are : ((κ : Kind) → ModelsWithin κ b) → {fluids boundaries : List ℕ}
+      → fluids ≡ sets (replicate nameableModels 0) 0 (countsOf Fluid b)
+      → boundaries ≡ sets (replicate nameableModels 0) 0 (countsOf Boundary b)
+      → CountsAre b fluids boundaries
+  counts-are all p q =
+      record { fluid = stored-counts Fluid (all Fluid) p; boundary = stored-counts Boundary (all Boundary) q }
 
 -- ---- what the verdict tells
 
@@ -73,3 +100,21 @@ module _ (b : List ℕ) {found : Checked} (h : ChecksTo b found) where
       go : (w : Walk) → checked b ≡ w → verdictOf w ≡ Accepted → w ≡ At (length b)
       go (At e) p v = ap At (accepted-length b p)
       go (Refused r) p v = let z : _≡_ {A = ℕ} 0 1 = cc in absurd (omega arith)
+
+-- ---- a scene that passed the check, with its layout
+
+module _ {b : List ℕ} {layout : Layout} (passed : Passed b layout) where
+  pub fluid-total : layout .fluids .total ≡ fluidSize (sceneOf b)
+  unfolding layoutOf layoutModels
+  fluid-total = rw (passed .layoutIs) (sym (fluid-size-sum b))
+
+  pub boundary-total : layout .boundaries .total ≡ boundarySize (sceneOf b)
+  unfolding layoutOf layoutModels
+  boundary-total = rw (passed .layoutIs) (sym (boundary-size-sum b))
+
+  -- a loop over its models
+  pub fluid-turn : (m : ℕ) → m < layout .fluids .number → Turn Fluid b (layout .fluids .heads) m
+  fluid-turn = this-turn (accepted-within b (passed .walk) Fluid) (fluids-are b (passed .layoutIs))
+
+  pub boundary-turn : (m : ℕ) → m < layout .boundaries .number → Turn Boundary b (layout .boundaries .heads) m
+  boundary-turn = this-turn (accepted-within b (passed .walk) Boundary) (boundaries-are b (passed .layoutIs))

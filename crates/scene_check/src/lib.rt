@@ -4,7 +4,7 @@ mod walk_names;
 use crate::walk_names::all_names;
 use scene_format::Refusal;
 use scene_format::Walk;
-use scene_format::format::NAMEABLE_MODELS;
+use scene_format::format::MAX_MODELS;
 use scene_layout::Layout;
 use scene_layout::Models;
 use scene_layout::layout_of;
@@ -31,10 +31,7 @@ fn refused(refusal: Refusal) -> Checked
     let none = Models {
         number: 0,
         total: 0,
-        heads: [0usize; NAMEABLE_MODELS],
-        counts: [0usize; NAMEABLE_MODELS],
-        starts: [0usize; NAMEABLE_MODELS],
-        keeps: [0usize; NAMEABLE_MODELS],
+        heads: [0usize; MAX_MODELS],
         end: 0,
     };
     Checked {

@@ -16,12 +16,14 @@ use scene_format::read::first_record;
 use scene_format::read::keeps;
 use scene_format::read::particles;
 use scene_layout::Layout;
+use scene_layout::Models;
 ghost use mathlib.Core.Path.{_≡_};
 ghost use Prim.Native.Nat.{_+_, _*_, _≤_};
 ghost use lib.ListN.{length};
-ghost use Rattle.scene_format.specs.Format.{nameWidth, modelNumber, firstHead};
+ghost use lib.Seq.{sets};
+ghost use Rattle.scene_format.specs.Format.{mostModels, nameWidth, modelNumber, firstHead, countsOf};
 ghost use Rattle.scene_format.specs.Within.{RecordWithin, ModelWithin, ModelsWithin};
-ghost use Rattle.scene_layout.specs.Layout.{layoutOf};
+ghost use Rattle.scene_layout.specs.Layout.{layoutModels, layoutOf};
 ghost use Rattle.scene_check.specs.Check.{CountsAre};
 ghost use Rattle.scene_check.specs.Walk as walk;
 ghost use Rattle.scene_walk.specs.Walk.{fields};
@@ -132,6 +134,21 @@ fn models_names(
     Walk::At(at)
 }
 
+// The count of each model of a kind, in front of a list.
+fn fill_counts(s: &[u8], kind: Kind, models: Models, counts: &mut [usize])
+    requires { ⌜ ModelsWithin kind (now s) × (models ≡ layoutModels kind (now s)) ⌝ }
+    requires { ⌜ mostModels ≤ length (now counts) ⌝ }
+    ensures { λ _. ⌜ now (counts .exit) ≡ sets (now (counts .entry)) 0 (countsOf kind (now (s .entry))) ⌝ }
+{
+    let heads = models.heads;
+    let number = models.number;
+    let mut m = 0;
+    while m < number {
+        counts[m] = particles(s, kind, heads[m]);
+        m += 1;
+    }
+}
+
 // All contacts of a scene, by its layout.
 pub fn all_names(s: &[u8], layout: Layout) -> Walk
     requires { ⌜ (fields (now s) ≡ Walk.At (length (now s))) × (layout ≡ layoutOf (now s)) ⌝ }
@@ -139,8 +156,10 @@ pub fn all_names(s: &[u8], layout: Layout) -> Walk
 {
     let fluid_models = layout.fluids;
     let boundary_models = layout.boundaries;
-    let fluids = fluid_models.counts;
-    let boundaries = boundary_models.counts;
+    let mut fluids = [0usize; NAMEABLE_MODELS];
+    let mut boundaries = [0usize; NAMEABLE_MODELS];
+    fill_counts(s, Kind::Fluid, fluid_models, &mut fluids);
+    fill_counts(s, Kind::Boundary, boundary_models, &mut boundaries);
     let number = fluid_models.number;
     let w = models_names(s, Kind::Fluid, &fluids, &boundaries, number, HEADER_WIDTH);
     let Walk::At(at) = w else {

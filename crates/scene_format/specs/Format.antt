@@ -222,12 +222,16 @@ firstHead Boundary b = iter (modelNumber Fluid b) (modelEnd Fluid b) (headerWidt
 abbrev pub headAt : Kind → List ℕ → ℕ → ℕ
 headAt κ b m = iter m (modelEnd κ b) (firstHead κ b)
 
--- of a kind: the heads, the counts, and the number of each model's first particle among all of the kind
+-- of a kind: the heads, the counts, whether each model keeps forces, and the number of its first particle among all of
+-- the kind
 unfoldable pub headsOf : Kind → List ℕ → List ℕ
 headsOf κ b = trail (modelNumber κ b) (modelEnd κ b) (firstHead κ b)
 
 unfoldable pub countsOf : Kind → List ℕ → List ℕ
 countsOf κ b = map (particlesAt κ b) (headsOf κ b)
+
+unfoldable pub keepsOf : Kind → List ℕ → List ℕ
+keepsOf κ b = map (keepsAt b) (headsOf κ b)
 
 abbrev pub startsOf : Kind → List ℕ → List ℕ
 startsOf κ b = startsFrom 0 (countsOf κ b)

@@ -1,61 +1,31 @@
--- The models of a scene by their kind, as the layout gives them, and the index that is filled from them, section behind
--- section, which is one store of the whole. Assumes nothing.
-use Prim.Native.Nat.{ℕ, _+_, _*_, _/_, _%_, _<_, _≤_}
+-- The index that is filled from a layout, section behind section, which is one store of the whole; and how long it is at
+-- most. Assumes nothing.
+use Prim.Native.Nat.{ℕ, _+_, _*_, _≤_}
 use mathlib.Core.Path.{_≡_, sym, ap, _∙_}
 use mathlib.Core.List.{List, map}
 use native.Mathlib.Omega.{arith}
-use lib.ListN.{length, getD, replicate}
+use lib.ListN.{length, replicate}
 use lib.Seq.{sets, length-sets}
 use Rattle.lists.proofs.Fills.{table-copies}
-use Rattle.lists.proofs.Lists.{table-same}
-use Rattle.lists.proofs.Numbering.{start-at-most}
 use Rattle.lists.proofs.Stores.{sets-in}
 use Rattle.scene_check.proofs.Accepted.{accepted}
+use Rattle.scene_check.proofs.Checks.{fluid-number, boundary-number, fluid-total, boundary-total}
+use Rattle.scene_check.proofs.Records.{fluid-size-few, boundary-size-few}
 use Rattle.scene_check.specs.Check.{Passed}
-use Rattle.scene_check.proofs.Records.{size-few, fluid-size-few, boundary-size-few}
-use Rattle.scene_format.specs.Format.{mostModels, mostOfAKind, modelNumber, particlesAt, headAt, headsOf, countsOf}
-use Rattle.scene_format.specs.Format.{startsOf, modelLocations, locationsOf}
+use Rattle.scene_format.specs.Format.{mostModels, mostOfAKind, modelNumber, particlesAt, modelLocations, locationsOf}
 use Rattle.scene_format.specs.Scene.{fluidSize, boundarySize, sizeOf}
 use Rattle.scene_format.specs.SceneOf.{sceneOf}
-use Rattle.scene_format.specs.Within.{ModelWithin, ModelsWithin}
 use Rattle.scene_format.specs.declared.Kind.{Kind}
 use Rattle.scene_format.specs.declared.Kind.the-variants.{Fluid, Boundary}
-use Rattle.scene_layout.specs.Layout.{padded, layoutModels, layoutOf}
 use Rattle.scene_layout.specs.declared.Layout.{Layout}
-use Rattle.scene_layout.specs.declared.Models.{Models}
-use Rattle.scene_layout.proofs.Filled.{padded-at}
-use Rattle.scene_layout.proofs.Locations.{heads-at, size-locations, size-sum}
-use Rattle.scene_index.specs.Index.{blockSize, modelBlocks, startsLength, basesAt, headsAt, recordsAt}
-use Rattle.scene_index.specs.Index.{indexNeeded, longestIndex, sectionsOf, baseOf, basesOf, kindBases, entryOf}
-use Rattle.scene_index.specs.Index.{entriesOf, startNumbers, indexOf, Indexed}
+use Rattle.scene_layout.proofs.Locations.{size-locations}
+use Rattle.scene_index.specs.Index.{modelBlocks, startsLength, basesAt, headsAt, recordsAt, indexNeeded}
+use Rattle.scene_index.specs.Index.{longestIndex, sectionsOf, kindBases, entryOf, entriesOf, startNumbers}
+use Rattle.scene_index.specs.Index.{indexOf, Indexed}
 use Rattle.scene_index.specs.declared.index.Entry.the-variants.{Offset, Head}
 use Rattle.scene_index.specs.declared.index.Sections.{Sections}
 use Rattle.scene_index.proofs.Sections.{length-index, stored-sections}
 use Rattle.scene_index.proofs.Traversals.{model-table}
-
--- ---- models
-
--- what a loop over the models of a kind has at its m-th turn
-pub record Turn (κ : Kind) (b heads : List ℕ) (m : ℕ) : Type 0 where
-  pub small : m < mostModels
-  pub below : m < modelNumber κ b
-  pub head : getD heads m 0 ≡ headAt κ b m
-  pub within : ModelWithin κ b (getD heads m 0)
-
-module _ {κ : Kind} {b : List ℕ} (all : ModelsWithin κ b) {models : Models} (is : models ≡ layoutModels κ b) where
-  pub number-is : models .number ≡ modelNumber κ b
-  unfolding layoutModels
-  number-is = ap (λ (m : Models). m .number) is
-
-  heads-are : models .heads ≡ padded (headsOf κ b)
-  unfolding layoutModels
-  heads-are = ap (λ (m : Models). m .heads) is
-
-  pub this-turn : (m : ℕ) → m < models .number → Turn κ b (models .heads) m
-  this-turn m h =
-      let below : m < modelNumber κ b = rw number-is at h in
-      let head = ap (λ (l : List ℕ). getD l m 0) heads-are ∙ padded-at (headsOf κ b) m ∙ heads-at κ b m below in
-      record { small = omega (arith, all .few); below = below; head = head; within = rw head (all .models m below) }
 
 -- ---- filling
 
@@ -64,13 +34,6 @@ pub heads-copied : (κ : Kind) (b : List ℕ) (head : ℕ) {n : ℕ} → n ≡ p
     → replicate n head ≡ map (entryOf Head) (modelLocations κ b head)
 unfolding entryOf
 heads-copied κ b head {n} e = sym (table-copies n head) ∙ model-table κ b (entryOf Head) head e
-
--- beyond the last model the layout says 0, as a list does
-bases-padded : (number : ℕ) (starts : List ℕ) → basesOf number (padded starts) ≡ basesOf number starts
-unfolding basesOf baseOf
-bases-padded number starts =
-    table-same (modelBlocks * number) _ _
-    (λ x h. ap (λ (s : ℕ). s + blockSize * (x % modelBlocks)) (padded-at starts (x / modelBlocks)))
 
 -- few models and particles of each kind, so that no sum overflows
 pub record CountsFew (layout : Layout) : Type 0 where
@@ -99,49 +62,8 @@ sections-are e =
     }
 
 module _ {b : List ℕ} {layout : Layout} (passed : Passed b layout) where
-  pub fluids-are : layout .fluids ≡ layoutModels Fluid b
-  unfolding layoutOf
-  fluids-are = ap (λ (m : Layout). m .fluids) (passed .layoutIs)
-
-  pub boundaries-are : layout .boundaries ≡ layoutModels Boundary b
-  unfolding layoutOf
-  boundaries-are = ap (λ (m : Layout). m .boundaries) (passed .layoutIs)
-
-  -- a model starts at most at the number of all particles
-  pub starts-few : (κ : Kind) {models : Models} → models ≡ layoutModels κ b → (m : ℕ)
-      → getD (models .starts) m 0 ≤ mostOfAKind
-  unfolding layoutModels
-  starts-few κ is m =
-      rw (is, padded-at (startsOf κ b) m)
-      (omega (arith, start-at-most 0 (countsOf κ b) m, size-sum b κ, size-few b (passed .walk) κ))
-
-  starts-are : (κ : Kind) {models : Models} → models ≡ layoutModels κ b
-      → basesOf (models .number) (models .starts) ≡ kindBases κ b
-  unfolding layoutModels
-  starts-are κ is = rw is (bases-padded (modelNumber κ b) (startsOf κ b))
-
   pub number-few : (κ : Kind) → modelNumber κ b ≤ mostModels
   number-few κ = accepted b (passed .walk) .fields .header .few κ
-
-  total-is : (κ : Kind) {models : Models} → models ≡ layoutModels κ b → models .total ≡ sizeOf κ (sceneOf b)
-  unfolding layoutModels
-  total-is κ is = ap (λ (m : Models). m .total) is ∙ sym (size-sum b κ)
-
-  pub fluid-total : layout .fluids .total ≡ fluidSize (sceneOf b)
-  unfolding sizeOf
-  fluid-total = total-is Fluid fluids-are
-
-  pub boundary-total : layout .boundaries .total ≡ boundarySize (sceneOf b)
-  unfolding sizeOf
-  boundary-total = total-is Boundary boundaries-are
-
-  pub fluid-number : layout .fluids .number ≡ modelNumber Fluid b
-  unfolding layoutModels
-  fluid-number = ap (λ (m : Models). m .number) fluids-are
-
-  pub boundary-number : layout .boundaries .number ≡ modelNumber Boundary b
-  unfolding layoutModels
-  boundary-number = ap (λ (m : Models). m .number) boundaries-are
 
   -- as many places as particles
   pub fluid-places : length (locationsOf Fluid b) ≡ fluidSize (sceneOf b)
@@ -153,13 +75,12 @@ module _ {b : List ℕ} {layout : Layout} (passed : Passed b layout) where
   boundary-places = sym (size-locations b Boundary)
 
   pub counts-few : CountsFew layout
-  unfolding layoutModels
   counts-few =
       record {
-        fluids = rw fluids-are (number-few Fluid);
-        boundaries = rw boundaries-are (number-few Boundary);
-        fluidTotal = rw fluid-total (fluid-size-few b (passed .walk));
-        boundaryTotal = rw boundary-total (boundary-size-few b (passed .walk));
+        fluids = rw (fluid-number b (passed .layoutIs)) (number-few Fluid);
+        boundaries = rw (boundary-number b (passed .layoutIs)) (number-few Boundary);
+        fluidTotal = rw (fluid-total passed) (fluid-size-few b (passed .walk));
+        boundaryTotal = rw (boundary-total passed) (boundary-size-few b (passed .walk));
       }
 
   -- a layout's sections
@@ -176,7 +97,7 @@ module _ {b : List ℕ} {layout : Layout} (passed : Passed b layout) where
         «boundary_records» = boundaryRecords;
         end = end;
       } ≡ sectionsOf b
-  unfolding sectionsOf layoutModels
+  unfolding sectionsOf
   sections-made p q r s t =
       rw (
         t,
@@ -184,39 +105,24 @@ module _ {b : List ℕ} {layout : Layout} (passed : Passed b layout) where
         r,
         q,
         p,
-        fluid-total,
-        boundary-total,
-        ap (λ (m : Models). m .number) fluids-are,
-        ap (λ (m : Models). m .number) boundaries-are,
+        fluid-total passed,
+        boundary-total passed,
+        fluid-number b (passed .layoutIs),
+        boundary-number b (passed .layoutIs),
       )
 
   -- the sections, one behind the other, where s says
   pub all-filled : (l : List ℕ) {s : Sections} → SectionsAre b s
       → {starts bases bothBases records heads index : List ℕ}
       → starts ≡ sets l 0 (startNumbers s)
-      → bases ≡ sets starts (basesAt Fluid b) (basesOf (layout .fluids .number) (layout .fluids .starts))
-      → bothBases
-      ≡ sets bases (s .«boundary_bases») (basesOf (layout .boundaries .number) (layout .boundaries .starts))
+      → bases ≡ sets starts (basesAt Fluid b) (kindBases Fluid b)
+      → bothBases ≡ sets bases (s .«boundary_bases») (kindBases Boundary b)
       → records ≡ sets bothBases (s .records) (entriesOf Offset Fluid b)
       → heads ≡ sets records (s .heads) (entriesOf Head Fluid b)
       → index ≡ sets heads (s .«boundary_records») (entriesOf Offset Boundary b)
       → index ≡ sets l 0 (indexOf b)
   all-filled l is o p q r s t =
-      rw (
-        t,
-        s,
-        r,
-        q,
-        p,
-        o,
-        is .all,
-        is .bases,
-        is .records,
-        is .heads,
-        is .boundaryRecords,
-        starts-are Fluid fluids-are,
-        starts-are Boundary boundaries-are,
-      )
+      rw (t, s, r, q, p, o, is .all, is .bases, is .records, is .heads, is .boundaryRecords)
       (sym (stored-sections b l))
 
 -- ---- what the index holds

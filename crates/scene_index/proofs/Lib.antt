@@ -4,3 +4,4 @@ pub mod Indexes
 pub mod Targets
 pub mod ContactLists
 pub mod Runs
+pub mod Bases

@@ -1,5 +1,5 @@
--- The boundaries of a layout, one behind the other: each is a run of boundary particles that begins where those before
--- it end, and the last ends with all. By induction on the boundaries before. Assumes nothing.
+-- The models of a kind, one behind the other: the particles of each are a run of numbers that begins where those before
+-- it end, and the last ends with all. By induction on the models before. Assumes nothing.
 use Prim.Native.Nat.{ℕ, zero, suc, _+_, _-_, _<_, _≤_}
 use mathlib.Core.Path.{_≡_, refl, sym, ap, _∙_}
 use mathlib.Core.List.{List, [], _∷_}
@@ -11,22 +11,21 @@ use Rattle.lists.proofs.Fills.{table-list}
 use Rattle.lists.proofs.Numbering.{sum-next, sum-more, starts-next}
 use Rattle.scene_check.specs.Check.{Passed}
 use Rattle.scene_check.proofs.Records.{keeps-below}
-use Rattle.scene_format.specs.Format.{modelNumber, keepsAt, headAt, countsOf, startsOf, locationOf}
-use Rattle.scene_format.specs.Scene.{boundarySize, boundary}
+use Rattle.scene_format.specs.Format.{modelNumber, particlesAt, keepsAt, countsOf, keepsOf, startsOf, locationOf}
+use Rattle.scene_format.specs.Scene.{boundarySize, sizeOf, boundary}
 use Rattle.scene_format.specs.SceneOf.{boundaryParticleAt, sceneOf}
+use Rattle.scene_format.specs.declared.Kind.{Kind}
 use Rattle.scene_format.specs.declared.Kind.the-variants.{Boundary}
-use Rattle.scene_layout.specs.Layout.{layoutModels}
 use Rattle.scene_layout.specs.declared.Layout.{Layout}
-use Rattle.scene_layout.specs.declared.Models.{Models}
-use Rattle.scene_layout.proofs.Filled.{padded-at}
-use Rattle.scene_layout.proofs.Locations.{length-counts, mapped-at, location-at, boundary-size-sum, boundary-at}
+use Rattle.scene_layout.proofs.Locations.{length-counts, keeps-of, location-at, size-sum, boundary-at}
+use Rattle.scene_layout.proofs.Turns.{Turn}
 use Rattle.scene_index.specs.Runs.{BoundaryRun}
 
 none-summed : (f : ℕ → ℕ) → sum (table 0 f) ≡ 0
 unfolding table sum
 none-summed f = refl
 
--- the particles of the first w boundaries
+-- the particles of the first w models, by their counts
 abbrev pub before : List ℕ → ℕ → ℕ
 before counts w = sum (table w (λ v. getD counts v 0))
 
@@ -51,52 +50,50 @@ pub run-keeps : {b : List ℕ} {first count keeps : ℕ} → BoundaryRun b first
 run-keeps {b} {first} run p h =
     keeps-at b (first + p) (omega (arith, run .within)) ∙ ap (λ (k : ℕ). eqb k 1) (run .same p h)
 
-module _ (b : List ℕ) where
-  pub none-before : before (countsOf Boundary b) 0 ≡ 0
+module _ (κ : Kind) (b : List ℕ) where
+  pub none-before : before (countsOf κ b) 0 ≡ 0
   none-before = none-summed _
 
-  pub all-before : before (countsOf Boundary b) (modelNumber Boundary b) ≡ boundarySize (sceneOf b)
+  all-before : before (countsOf κ b) (modelNumber κ b) ≡ sizeOf κ (sceneOf b)
   all-before =
-      ap (before (countsOf Boundary b)) (sym (length-counts Boundary b))
-      ∙ before-all (countsOf Boundary b)
-      ∙ sym (boundary-size-sum b)
+      ap (before (countsOf κ b)) (sym (length-counts κ b)) ∙ before-all (countsOf κ b) ∙ sym (size-sum b κ)
 
--- boundary w of a layout
-module _ (b : List ℕ) {models : Models} (is : models ≡ layoutModels Boundary b) (w : ℕ)
-    (h : w < modelNumber Boundary b) where
-  layout-count : getD (models .counts) w 0 ≡ getD (countsOf Boundary b) w 0
-  unfolding layoutModels
-  layout-count = ap (λ (m : Models). getD (m .counts) w 0) is ∙ padded-at (countsOf Boundary b) w
+  pub count-next : (w : ℕ) → before (countsOf κ b) (suc w) ≡ before (countsOf κ b) w + getD (countsOf κ b) w 0
+  count-next w = sum-next w (λ v. getD (countsOf κ b) v 0)
 
-  layout-start : getD (models .starts) w 0 ≡ getD (startsOf Boundary b) w 0
-  unfolding layoutModels
-  layout-start = ap (λ (m : Models). getD (m .starts) w 0) is ∙ padded-at (startsOf Boundary b) w
+  -- model w
+  module _ (w : ℕ) (h : w < modelNumber κ b) where
+    pub start-before : getD (startsOf κ b) w 0 ≡ before (countsOf κ b) w
+    start-before = starts-before (countsOf κ b) w (rw (length-counts κ b) h)
 
-  pub keeps-here : getD (models .keeps) w 0 ≡ keepsAt b (headAt Boundary b w)
-  unfolding layoutModels
-  keeps-here = ap (λ (m : Models). getD (m .keeps) w 0) is ∙ padded-at _ w ∙ mapped-at Boundary b (keepsAt b) 0 w h
+    pub before-more : before (countsOf κ b) (suc w) ≤ sizeOf κ (sceneOf b)
+    before-more =
+        let n = modelNumber κ b in
+        let ns = countsOf κ b in
+        let e : suc w + (n - suc w) ≡ length ns = omega (arith, length-counts κ b) in
+        let q = ap (before ns) e in
+        omega (arith, sum-more (λ v. getD ns v 0) (suc w) (n - suc w), q, before-all ns, size-sum b κ)
 
-  pub start-before : getD (models .starts) w 0 ≡ before (countsOf Boundary b) w
-  start-before = layout-start ∙ starts-before (countsOf Boundary b) w (rw (length-counts Boundary b) h)
+pub boundaries-before : (b : List ℕ) → before (countsOf Boundary b) (modelNumber Boundary b) ≡ boundarySize (sceneOf b)
+unfolding sizeOf
+boundaries-before b = all-before Boundary b
 
-  pub count-next : before (countsOf Boundary b) (suc w) ≡ before (countsOf Boundary b) w + getD (models .counts) w 0
-  count-next = omega (arith, sum-next w (λ v. getD (countsOf Boundary b) v 0), layout-count)
+-- boundary w of a scene that passed the check
+pub boundary-run : {b : List ℕ} {layout : Layout} → Passed b layout → (w : ℕ) → w < modelNumber Boundary b
+    → BoundaryRun b (before (countsOf Boundary b) w) (getD (countsOf Boundary b) w 0) (getD (keepsOf Boundary b) w 0)
+unfolding sizeOf
+boundary-run {b} passed w h =
+    record {
+      within = omega (arith, count-next Boundary b w, before-more Boundary b w h);
+      bit = rw (keeps-of Boundary b w h) (keeps-below b (passed .bytes) _);
+      same = λ p l.
+          rw (← start-before Boundary b w h, keeps-of Boundary b w h)
+          (ap (λ q. keepsAt b (q .head)) (location-at Boundary b w p h l));
+    }
 
-  before-more : before (countsOf Boundary b) (suc w) ≤ boundarySize (sceneOf b)
-  before-more =
-      let n = modelNumber Boundary b in
-      let ns = countsOf Boundary b in
-      let e : suc w + (n - suc w) ≡ length ns = omega (arith, length-counts Boundary b) in
-      let q = ap (before ns) e in
-      omega (arith, sum-more (λ v. getD ns v 0) (suc w) (n - suc w), q, before-all ns, boundary-size-sum b)
-
-  pub boundary-run : {layout : Layout} → Passed b layout
-      → BoundaryRun b (getD (models .starts) w 0) (getD (models .counts) w 0) (getD (models .keeps) w 0)
-  boundary-run passed =
-      record {
-        within = omega (arith, start-before, count-next, before-more);
-        bit = rw keeps-here (keeps-below b (passed .bytes) _);
-        same = λ p l.
-            let l′ : p < getD (countsOf Boundary b) w 0 = omega (arith, layout-count) in
-            rw (layout-start, keeps-here) (ap (λ q. keepsAt b (q .head)) (location-at Boundary b w p h l′));
-      }
+-- the same, of what a loop has found and read at its head
+pub turn-run : {b : List ℕ} {layout : Layout} → Passed b layout → {heads : List ℕ} {w : ℕ} → Turn Boundary b heads w
+    → {first count keeps : ℕ} → first ≡ before (countsOf Boundary b) w → count ≡ particlesAt Boundary b (getD heads w 0)
+    → keeps ≡ keepsAt b (getD heads w 0)
+    → BoundaryRun b first count keeps
+turn-run passed {heads} {w} turn f c k = rw (f, c ∙ turn .count, k ∙ turn .keeps) (boundary-run passed w (turn .below))

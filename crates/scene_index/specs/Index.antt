@@ -61,7 +61,7 @@ longestIndex = startsLength + 2 * (modelBlocks * mostModels) + 3 * mostOfAKind
 
 -- two shorter ones, for scenes with fewer particles
 abbrev pub smallIndex : ℕ
-smallIndex = 128
+smallIndex = 192
 
 abbrev pub middleIndex : ℕ
 middleIndex = 4096
@@ -82,6 +82,10 @@ sectionsOf b =
 -- target is a base and the particle's number within its block
 unfoldable pub baseOf : List ℕ → ℕ → ℕ
 baseOf starts x = getD starts (x / modelBlocks) 0 + blockSize * (x % modelBlocks)
+
+-- of the blocks of a model whose first particle has that number
+unfoldable pub blocksFrom : ℕ → List ℕ
+blocksFrom start = table modelBlocks (λ x. start + blockSize * x)
 
 -- of the blocks of so many models
 unfoldable pub basesOf : ℕ → List ℕ → List ℕ

@@ -3,7 +3,6 @@
 use scene_format::Kind;
 use scene_format::format::MAX_MODELS;
 use scene_format::format::MAX_PARTICLES;
-use scene_format::format::NAMEABLE_MODELS;
 use scene_format::format::NAMEABLE_PARTICLES;
 use scene_format::read::first_record;
 use scene_format::read::next_record;
@@ -12,15 +11,17 @@ use scene_layout::Layout;
 use scene_layout::Models;
 ghost use mathlib.Core.Path.{_≡_};
 ghost use mathlib.Core.List.{map};
-ghost use Prim.Native.Nat.{ℕ, _+_, _*_, _≤_};
-ghost use lib.ListN.{length, getD, replicate};
+ghost use Prim.Native.Nat.{_+_, _≤_};
+ghost use lib.ListN.{length, replicate};
 ghost use lib.Seq.{sets};
 ghost use Rattle.scene_check.specs.Check.{Passed};
-ghost use Rattle.scene_format.specs.Format.{mostOfAKind, nameableModels, particlesAt, modelLocations, locationsOf};
+ghost use Rattle.scene_format.specs.Format.{mostOfAKind, particlesAt, modelLocations, locationsOf};
+ghost use Rattle.scene_format.specs.Scene.{sizeOf};
+ghost use Rattle.scene_format.specs.SceneOf.{sceneOf};
 ghost use Rattle.scene_format.specs.Within.{ModelWithin, ModelsWithin};
 ghost use Rattle.scene_layout.specs.Layout.{layoutModels};
-ghost use Rattle.scene_index.specs.Index.{modelBlocks, startsLength, sectionsOf, startNumbers, basesOf};
-ghost use Rattle.scene_index.specs.Index.{entryOf, entriesOf, indexNeeded, indexOf};
+ghost use Rattle.scene_index.specs.Index.{modelBlocks, startsLength, basesLength, indexNeeded, sectionsOf};
+ghost use Rattle.scene_index.specs.Index.{blocksFrom, kindBases, entryOf, entriesOf, startNumbers, indexOf};
 
 // The names of a model's particles fall into blocks of so many numbers, and so many blocks.
 pub const BLOCK_SIZE: usize = 256;
@@ -41,8 +42,8 @@ pub const BOUNDARY_RECORDS: usize = 3;
 
 pub const FLUID_BASES: usize = 4;
 
-// Three sizes for an index on the stack: for a few dozen particles, for two thousand, and for every accepted scene.
-pub const SMALL_INDEX: usize = 128;
+// Three sizes for an index on the stack: for fifty particles, for two thousand, and for every accepted scene.
+pub const SMALL_INDEX: usize = 192;
 
 pub const MIDDLE_INDEX: usize = 4096;
 
@@ -105,17 +106,36 @@ fn put_starts(sections: Sections, index: &mut [usize])
     index[BOUNDARY_RECORDS] = sections.boundary_records;
 }
 
-// The bases of one kind, from element k on: of each block of the names of so many models.
-fn fill_bases(starts: [usize; NAMEABLE_MODELS], number: usize, k: usize, index: &mut [usize])
-    requires { ⌜ (number ≤ nameableModels) × (k + modelBlocks * number ≤ length (now index)) ⌝ }
-    requires { ⌜ ((m : ℕ) → getD starts m 0 ≤ mostOfAKind) ⌝ }
-    ensures { λ _. ⌜ now (index .exit) ≡ sets (now (index .entry)) k (basesOf number starts) ⌝ }
+// The bases of one model, whose first particle has the number `start`, from element k on: of each block of its names.
+fn fill_blocks(start: usize, k: usize, index: &mut [usize])
+    requires { ⌜ (start ≤ mostOfAKind) × (k + modelBlocks ≤ length (now index)) ⌝ }
+    ensures { λ _. ⌜ now (index .exit) ≡ sets (now (index .entry)) k (blocksFrom start) ⌝ }
 {
-    let end = MODEL_BLOCKS * number;
     let mut x = 0;
-    while x < end {
-        index[k + x] = starts[x / MODEL_BLOCKS] + BLOCK_SIZE * (x % MODEL_BLOCKS);
+    while x < MODEL_BLOCKS {
+        index[k + x] = start + BLOCK_SIZE * x;
         x += 1;
+    }
+}
+
+// The bases of one kind, from element k on.
+fn fill_bases(scene: &[u8], kind: Kind, models: Models, k: usize, index: &mut [usize])
+    requires { ⌜ ModelsWithin kind (now scene) × (models ≡ layoutModels kind (now scene)) ⌝ }
+    requires { ⌜
+        (sizeOf kind (sceneOf (now scene)) ≤ mostOfAKind) × (k + basesLength kind (now scene) ≤ length (now index))
+        ⌝ }
+    ensures { λ _. ⌜ now (index .exit) ≡ sets (now (index .entry)) k (kindBases kind (now (scene .entry))) ⌝ }
+{
+    let heads = models.heads;
+    let number = models.number;
+    let mut start = 0;
+    let mut to = k;
+    let mut m = 0;
+    while m < number {
+        fill_blocks(start, to, index);
+        start += particles(scene, kind, heads[m]);
+        to += MODEL_BLOCKS;
+        m += 1;
     }
 }
 
@@ -205,16 +225,14 @@ pub fn fill(scene: &[u8], layout: Layout, index: &mut [usize])
 {
     let fluids = layout.fluids;
     let boundaries = layout.boundaries;
-    let fluid_starts = fluids.starts;
-    let boundary_starts = boundaries.starts;
     let sections = sections_of(scene, layout);
     let bases = sections.boundary_bases;
     let records = sections.records;
     let heads = sections.heads;
     let boundary_records = sections.boundary_records;
     put_starts(sections, index);
-    fill_bases(fluid_starts, fluids.number, FLUID_BASES, index);
-    fill_bases(boundary_starts, boundaries.number, bases, index);
+    fill_bases(scene, Kind::Fluid, fluids, FLUID_BASES, index);
+    fill_bases(scene, Kind::Boundary, boundaries, bases, index);
     fill_models(scene, Kind::Fluid, Entry::Offset, fluids, records, index);
     fill_models(scene, Kind::Fluid, Entry::Head, fluids, heads, index);
     fill_models(

@@ -8,9 +8,9 @@ use lib.ListN.{length, getD, length-map, List·getD-eq-default}
 use Rattle.lists.specs.Lists.{sum, trail}
 use Rattle.lists.proofs.Numbering.{length-trail, trail-at, getD-map, sum-few, Numbered, numbered, length-flatten}
 use Rattle.lists.proofs.Numbering.{flatten-at}
-use Rattle.scene_format.specs.Format.{mostModels, mostParticles, mostOfAKind, modelNumber, particlesAt, firstRecord}
-use Rattle.scene_format.specs.Format.{nextRecord, modelEnd, firstHead, headAt, headsOf, countsOf, startsOf, Location}
-use Rattle.scene_format.specs.Format.{recordAt, modelLocations, locationsOf, nowhere, locationOf}
+use Rattle.scene_format.specs.Format.{mostModels, mostParticles, mostOfAKind, modelNumber, particlesAt, keepsAt}
+use Rattle.scene_format.specs.Format.{firstRecord, nextRecord, modelEnd, firstHead, headAt, headsOf, countsOf, keepsOf}
+use Rattle.scene_format.specs.Format.{startsOf, Location, recordAt, modelLocations, locationsOf, nowhere, locationOf}
 use Rattle.scene_format.specs.Scene as Scene
 use Rattle.scene_format.specs.Scene.{noFluidParticle, noBoundaryParticle, fluidSize, boundarySize, sizeOf}
 use Rattle.scene_format.specs.SceneOf.{fluidParticleAt, boundaryParticleAt, headerOf, sceneOf}
@@ -56,6 +56,10 @@ module _ (κ : Kind) (b : List ℕ) where
   pub counts-at : (m : ℕ) → m < modelNumber κ b → getD (countsOf κ b) m 0 ≡ particlesAt κ b (headAt κ b m)
   unfolding countsOf
   counts-at = mapped-at (particlesAt κ b) 0
+
+  pub keeps-of : (m : ℕ) → m < modelNumber κ b → getD (keepsOf κ b) m 0 ≡ keepsAt b (headAt κ b m)
+  unfolding keepsOf
+  keeps-of = mapped-at (keepsAt b) 0
 
   -- the number of records is the sum of the counts
   pub length-locations : length (locationsOf κ b) ≡ sum (countsOf κ b)

@@ -3,9 +3,8 @@
 use scene_format::Kind;
 use scene_format::Walk;
 use scene_format::format::HEADER_WIDTH;
-use scene_format::format::NAMEABLE_MODELS;
+use scene_format::format::MAX_MODELS;
 use scene_format::read::first_record;
-use scene_format::read::keeps;
 use scene_format::read::model_number;
 use scene_format::read::next_record;
 use scene_format::read::particles;
@@ -16,16 +15,13 @@ ghost use Rattle.scene_format.specs.Within.{ModelWithin, ModelsWithin};
 ghost use Rattle.scene_layout.specs.Layout.{layoutModels, layoutOf};
 ghost use Rattle.scene_walk.specs.Walk as walk;
 
-// The models of one kind: how many there are and how many particles they have in all; of each, by its number, the
-// offset of its head, its particles, those of the models before it, and 1 if it keeps forces; and the offset behind the
-// last. Beyond the last model the entries are 0.
+// The models of one kind: how many there are and how many particles they have in all; the offset of each head, 0 beyond
+// the last model; and the offset behind the last. What else is asked of a model is read at its head: a layout is handed
+// on by value, so it is kept small.
 pub struct Models {
     pub number: usize,
     pub total: usize,
-    pub heads: [usize; NAMEABLE_MODELS],
-    pub counts: [usize; NAMEABLE_MODELS],
-    pub starts: [usize; NAMEABLE_MODELS],
-    pub keeps: [usize; NAMEABLE_MODELS],
+    pub heads: [usize; MAX_MODELS],
     pub end: usize,
 }
 
@@ -56,20 +52,13 @@ fn models_of(s: &[u8], kind: Kind, n: usize, from: usize) -> Models
     requires { ⌜ (n ≡ modelNumber kind (now s)) × (from ≡ firstHead kind (now s)) ⌝ }
     ensures { λ r. ⌜ r ≡ layoutModels kind (now (s .entry)) ⌝ }
 {
-    let mut heads = [0usize; NAMEABLE_MODELS];
-    let mut counts = [0usize; NAMEABLE_MODELS];
-    let mut starts = [0usize; NAMEABLE_MODELS];
-    let mut kept = [0usize; NAMEABLE_MODELS];
+    let mut heads = [0usize; MAX_MODELS];
     let mut total = 0;
     let mut at = from;
     let mut i = 0;
     while i < n {
-        let count = particles(s, kind, at);
         heads[i] = at;
-        counts[i] = count;
-        starts[i] = total;
-        kept[i] = keeps(s, at);
-        total += count;
+        total += particles(s, kind, at);
         at = model_end(s, kind, at);
         i += 1;
     }
@@ -77,9 +66,6 @@ fn models_of(s: &[u8], kind: Kind, n: usize, from: usize) -> Models
         number: n,
         total,
         heads,
-        counts,
-        starts,
-        keeps: kept,
         end: at,
     }
 }

@@ -12,8 +12,8 @@ use Rattle.lists.specs.Lists.{choose, sum, table, trail}
 use Rattle.lists.proofs.Lists.{table-same}
 use Rattle.lists.proofs.Numbering.{length-trail, trail-table, sum-next, sum-append}
 use Rattle.scene_format.specs.Bytes.{Bytes}
-use Rattle.scene_format.specs.Format.{axes, mostParticles, modelNumber, particlesAt, keepsAt, firstRecord, nextRecord}
-use Rattle.scene_format.specs.Format.{modelEnd, firstHead, headAt, headsOf, countsOf, Location, modelLocations}
+use Rattle.scene_format.specs.Format.{axes, mostParticles, mostOfAKind, modelNumber, particlesAt, keepsAt, firstRecord}
+use Rattle.scene_format.specs.Format.{nextRecord, modelEnd, firstHead, headsOf, countsOf, Location, modelLocations}
 use Rattle.scene_format.specs.Format.{locationsOf}
 use Rattle.scene_format.specs.Scene.{fluidSize, boundarySize}
 use Rattle.scene_format.specs.SceneOf.{boundaryParticleAt, headerOf, sceneOf}
@@ -21,18 +21,17 @@ use Rattle.scene_format.specs.declared.Kind.{Kind}
 use Rattle.scene_format.specs.declared.Kind.the-variants.{Fluid, Boundary}
 use Rattle.scene_format.specs.declared.Refusal.{Refusal}
 use Rattle.scene_format.specs.declared.Walk.the-variants as walk
-use Rattle.scene_layout.specs.Layout.{layoutModels, layoutOf}
 use Rattle.scene_check.specs.Check.{Passed}
 use Rattle.scene_lengths.specs.Lengths.{fluidAnswerWidth, keptAnswerWidth, answerWidth, boundaryAnswerWidth}
 use Rattle.scene_lengths.specs.Lengths.{workWidth, answersNeeded, workNeeded, lengthsNeeded, needsAfter, needsOf}
-use Rattle.scene_lengths.specs.Lengths.{widthIn, answersBefore, answersIn, FewIn}
+use Rattle.scene_lengths.specs.Lengths.{widthIn, answersBefore, answersIn}
 use Rattle.scene_check.specs.Walk.{checked}
 use Rattle.scene_layout.specs.declared.Layout.{Layout}
 use Rattle.scene_lengths.specs.declared.Lengths.{Lengths}
 use Rattle.scene_lengths.specs.declared.Needs.the-variants.{Lists, Refused}
 use Rattle.scene_check.proofs.Accepted.{accepted}
-use Rattle.scene_layout.proofs.Filled.{padded-at}
-use Rattle.scene_layout.proofs.Locations.{mapped-at, counts-at, fluid-size-sum, boundary-size-sum}
+use Rattle.scene_check.proofs.Checks.{fluid-total, boundary-total}
+use Rattle.scene_layout.proofs.Locations.{counts-at, keeps-of, fluid-size-sum}
 use Rattle.scene_check.proofs.Records.{fluid-size-few, boundary-size-few, keeps-below}
 
 -- ---- one model more
@@ -80,22 +79,12 @@ module _ (κ : Kind) (b : List ℕ) where
         ap (λ (n : ℕ). w head * n) (length-trail (nextRecord κ b head) (particlesAt κ b head) (firstRecord κ head)),
       )
 
-  -- what the layout has for model m is that of its head
-  pub layout-keeps : (m : ℕ) → m < modelNumber κ b → getD (layoutModels κ b .keeps) m 0 ≡ keepsAt b (headAt κ b m)
-  unfolding layoutModels
-  layout-keeps m h = padded-at _ m ∙ mapped-at κ b (keepsAt b) 0 m h
-
-  pub layout-counts : (m : ℕ) → m < modelNumber κ b
-      → getD (layoutModels κ b .counts) m 0 ≡ particlesAt κ b (headAt κ b m)
-  unfolding layoutModels
-  layout-counts m h = padded-at _ m ∙ counts-at κ b m h
-
-  models-sum : answersIn κ (layoutModels κ b)
+  models-sum : answersIn κ b
       ≡ sum (map (λ head. answerWidth axes κ (keepsAt b head) * particlesAt κ b head) (headsOf κ b))
-  unfolding answersBefore layoutModels headsOf
+  unfolding answersBefore headsOf
   models-sum =
       ap sum
-      (table-same (modelNumber κ b) _ _ (λ m h. rw (layout-keeps m h, layout-counts m h))
+      (table-same (modelNumber κ b) _ _ (λ m h. rw (keeps-of κ b m h, counts-at κ b m h))
       ∙ sym (trail-table (modelEnd κ b) (λ head. answerWidth axes κ (keepsAt b head) * particlesAt κ b head)
       (modelNumber κ b) (firstHead κ b)))
 
@@ -119,7 +108,7 @@ module _ (b : List ℕ) where
   unfolding boundaryAnswerWidth boundaryParticleAt
   boundary-width y p = ap (answerWidth axes Boundary) (kept-or-not (keepsAt b (p .head)) (keeps-below b y (p .head)))
 
-  pub fluid-answers : answersIn Fluid (layoutModels Fluid b) ≡ fluidAnswerWidth axes * fluidSize (sceneOf b)
+  pub fluid-answers : answersIn Fluid b ≡ fluidAnswerWidth axes * fluidSize (sceneOf b)
   unfolding answerWidth countsOf
   fluid-answers =
       models-sum Fluid b
@@ -127,8 +116,7 @@ module _ (b : List ℕ) where
       ∙ ap (λ (n : ℕ). fluidAnswerWidth axes * n) (sym (fluid-size-sum b))
 
   boundary-answers : Bytes b
-      → answersIn Boundary (layoutModels Boundary b)
-      ≡ sum (map (boundaryAnswerWidth axes) (sceneOf b .boundaryParticles))
+      → answersIn Boundary b ≡ sum (map (boundaryAnswerWidth axes) (sceneOf b .boundaryParticles))
   unfolding sceneOf locationsOf
   boundary-answers y =
       let w : ℕ → ℕ = λ head. answerWidth axes Boundary (keepsAt b head) in
@@ -139,8 +127,7 @@ module _ (b : List ℕ) where
 
   -- as many as are needed
   pub answers-needed : Bytes b
-      → answersNeeded (sceneOf b)
-      ≡ fluidAnswerWidth axes * fluidSize (sceneOf b) + answersIn Boundary (layoutModels Boundary b)
+      → answersNeeded (sceneOf b) ≡ fluidAnswerWidth axes * fluidSize (sceneOf b) + answersIn Boundary b
   unfolding answersNeeded headerOf sceneOf
   answers-needed y = rw (boundary-answers y)
 
@@ -151,40 +138,24 @@ module _ (b : List ℕ) where
 -- ---- a scene that passed the check, with its layout
 
 module _ {b : List ℕ} {layout : Layout} (passed : Passed b layout) where
-  pub fluids-total : layout .fluids .total ≡ fluidSize (sceneOf b)
-  unfolding layoutOf layoutModels
-  fluids-total = rw (passed .layoutIs) (sym (fluid-size-sum b))
+  -- few particles, so that no sum overflows
+  pub fluids-few : layout .fluids .total ≤ mostOfAKind
+  fluids-few = rw (fluid-total passed) (fluid-size-few b (passed .walk))
 
-  pub boundaries-total : layout .boundaries .total ≡ boundarySize (sceneOf b)
-  unfolding layoutOf layoutModels
-  boundaries-total = rw (passed .layoutIs) (sym (boundary-size-sum b))
+  pub boundaries-few : layout .boundaries .total ≤ mostOfAKind
+  boundaries-few = rw (boundary-total passed) (boundary-size-few b (passed .walk))
 
-  pub few-in : FewIn layout
-  unfolding layoutOf layoutModels
-  few-in =
-      let ok = accepted b (passed .walk) .fields in
-      rw (passed .layoutIs)
-      (record {
-        fluids = omega (arith, fluid-size-sum b, fluid-size-few b (passed .walk));
-        boundaries = omega (arith, boundary-size-sum b, boundary-size-few b (passed .walk));
-        models =
-            record {
-              models = omega (arith, ok .header .few Boundary);
-              each = λ m l. rw (layout-counts Boundary b m l) (ok .models Boundary m l .few);
-            };
-      })
+  pub boundary-few : (m : ℕ) → m < modelNumber Boundary b → getD (countsOf Boundary b) m 0 ≤ mostParticles
+  boundary-few m h = rw (counts-at Boundary b m h) (accepted b (passed .walk) .fields .models Boundary m h .few)
 
-  pub lengths-are : {behind : ℕ} → behind ≡ answersIn Boundary (layout .boundaries)
+  pub lengths-are : {behind : ℕ} → behind ≡ answersIn Boundary b
       → _≡_ {A = Lengths}
       (record {
         answers = fluidAnswerWidth axes * layout .fluids .total + behind;
         work = workWidth axes * layout .fluids .total + layout .boundaries .total;
       })
       (lengthsNeeded (sceneOf b))
-  unfolding layoutOf
-  lengths-are e =
-      rw (e, fluids-total, boundaries-total, ← work-needed b)
-      (rw (passed .layoutIs, ← answers-needed b (passed .bytes)))
+  lengths-are e = rw (e, fluid-total passed, boundary-total passed, ← work-needed b, ← answers-needed b (passed .bytes))
 
   pub accepted-needs : {l : Lengths} → l ≡ lengthsNeeded (sceneOf b) → Lists l ≡ needsOf b
   unfolding needsOf needsAfter

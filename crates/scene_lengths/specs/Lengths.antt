@@ -1,11 +1,11 @@
 -- How long the two lists of a step must be, and where the answers of each model stand (FORMAT 3): those of the fluids,
 -- then those of the boundaries, model after model and particle after particle. What stands under its last heading is
 -- scaffolding, and no promise rests on it. Definitions only.
-use Prim.Native.Nat.{ℕ, zero, suc, _+_, _*_, _<_, _≤_}
+use Prim.Native.Nat.{ℕ, zero, suc, _+_, _*_}
 use mathlib.Core.List.{List, map}
 use lib.ListN.{getD}
 use Rattle.lists.specs.Lists.{choose, sum, table}
-use Rattle.scene_format.specs.Format.{axes, mostParticles, mostOfAKind, nameableModels}
+use Rattle.scene_format.specs.Format.{axes, modelNumber, countsOf, keepsOf}
 use Rattle.scene_format.specs.Scene.{Scene, BoundaryParticle, fluidSize, boundarySize}
 use Rattle.scene_format.specs.SceneOf.{sceneOf}
 use Rattle.scene_format.specs.declared.Kind.{Kind}
@@ -13,8 +13,6 @@ use Rattle.scene_format.specs.declared.Kind.the-variants.{Fluid, Boundary}
 use Rattle.scene_format.specs.declared.Walk.{Walk}
 use Rattle.scene_format.specs.declared.Walk.the-variants as walk
 use Rattle.scene_check.specs.Walk.{checked}
-use Rattle.scene_layout.specs.declared.Layout.{Layout}
-use Rattle.scene_layout.specs.declared.Models.{Models}
 use Rattle.scene_lengths.specs.declared.Lengths.{Lengths}
 use Rattle.scene_lengths.specs.declared.Needs.{Needs}
 use Rattle.scene_lengths.specs.declared.Needs.the-variants.{Lists, Refused}
@@ -63,8 +61,7 @@ needsAfter b (walk.Refused r) = Refused r
 unfoldable pub needsOf : List ℕ → Needs
 needsOf b = needsAfter b (checked b)
 
--- ---- scaffolding for the code: models of a kind, by whether each keeps forces and how many particles each has, as a
--- ---- layout lists them
+-- ---- scaffolding for the code: models of a kind, by whether each keeps forces and how many particles each has
 
 -- the width of model m's particles, and the answers of the models before it
 abbrev pub widthIn : Kind → List ℕ → ℕ → ℕ
@@ -74,15 +71,5 @@ unfoldable pub answersBefore : Kind → List ℕ → List ℕ → ℕ → ℕ
 answersBefore κ keeps counts m = sum (table m (λ j. widthIn κ keeps j * getD counts j 0))
 
 -- the answers of all models of a kind
-abbrev pub answersIn : Kind → Models → ℕ
-answersIn κ models = answersBefore κ (models .keeps) (models .counts) (models .number)
-
--- few models with few particles, so that no sum overflows
-pub record Few (counts : List ℕ) (number : ℕ) : Type 0 where
-  pub models : number ≤ nameableModels
-  pub each : (m : ℕ) → m < number → getD counts m 0 ≤ mostParticles
-
-pub record FewIn (layout : Layout) : Type 0 where
-  pub fluids : layout .fluids .total ≤ mostOfAKind
-  pub boundaries : layout .boundaries .total ≤ mostOfAKind
-  pub models : Few (layout .boundaries .counts) (layout .boundaries .number)
+abbrev pub answersIn : Kind → List ℕ → ℕ
+answersIn κ b = answersBefore κ (keepsOf κ b) (countsOf κ b) (modelNumber κ b)

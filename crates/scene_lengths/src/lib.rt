@@ -1,20 +1,19 @@
 // How long the two lists of a step must be, and how many answers a particle has (FORMAT 3). `lengths_needed` asks
-// nothing; `lengths_of` is for the crates above, which show that their layout has few models and particles.
+// nothing; `lengths_of` is for the crates above, which show that the scene passed the check.
 use scene_check::Verdict;
 use scene_check::check;
 use scene_format::Kind;
 use scene_format::Refusal;
 use scene_format::format::AXES;
-use scene_format::format::NAMEABLE_MODELS;
+use scene_format::read::keeps;
+use scene_format::read::particles;
 use scene_layout::Layout;
 ghost use mathlib.Core.Path.{_≡_};
-ghost use mathlib.Core.List.{List};
-ghost use Prim.Native.Nat.{ℕ, _*_, _≤_};
-ghost use Rattle.scene_format.specs.Format.{axes, mostParticles};
+ghost use Prim.Native.Nat.{_*_, _≤_};
+ghost use Rattle.scene_format.specs.Format.{axes, mostOfAKind};
 ghost use Rattle.scene_format.specs.SceneOf.{sceneOf};
 ghost use Rattle.scene_check.specs.Check.{Passed};
-ghost use Rattle.scene_lengths.specs.Lengths.{answerWidth, keptAnswerWidth, lengthsNeeded, needsOf};
-ghost use Rattle.scene_lengths.specs.Lengths.{answersBefore, Few, FewIn};
+ghost use Rattle.scene_lengths.specs.Lengths.{answerWidth, keptAnswerWidth, lengthsNeeded, needsOf, answersIn};
 
 // In doubles of the answer list: of a fluid particle the position, velocity and pressure; of a boundary particle whose
 // force is kept the volume and the force.
@@ -51,39 +50,38 @@ pub fn answer_width(kind: Kind, keeps: usize) -> usize
     }
 }
 
-// The answers of the first `number` boundaries, by how many particles each has and whether it keeps forces.
-fn boundary_answers(
-    counts: [usize; NAMEABLE_MODELS],
-    keeps: [usize; NAMEABLE_MODELS],
-    number: usize,
-) -> usize
-    requires { ⌜ Few counts number ⌝ }
+// The answers of all boundaries.
+fn boundary_answers(scene: &[u8], layout: Layout) -> usize
+    requires { ⌜ Passed (now scene) layout ⌝ }
     ensures { λ r. ⌜
-        (r ≤ keptAnswerWidth axes * mostParticles * number) × (r ≡ answersBefore Kind.Boundary keeps counts number)
+        (r ≤ keptAnswerWidth axes * mostOfAKind) × (r ≡ answersIn Kind.Boundary (now (scene .entry)))
         ⌝ }
 {
+    let boundaries = layout.boundaries;
+    let heads = boundaries.heads;
+    let number = boundaries.number;
     let mut needed = 0usize;
     let mut m = 0usize;
     while m < number {
-        needed += answer_width(Kind::Boundary, keeps[m]) * counts[m];
+        let head = heads[m];
+        let width = answer_width(Kind::Boundary, keeps(scene, head));
+        needed += width * particles(scene, Kind::Boundary, head);
         m += 1;
     }
     needed
 }
 
-// The lengths that both lists must have at least, for the scene with this layout.
-pub fn lengths_of(layout: Layout) -> Lengths
-    requires { ⌜ FewIn layout ⌝ }
-    ensures { λ r. ⌜ ((b : List ℕ) → Passed b layout → r ≡ lengthsNeeded (sceneOf b)) ⌝ }
+// The lengths that both lists must have at least, for a scene with its layout.
+pub fn lengths_of(scene: &[u8], layout: Layout) -> Lengths
+    requires { ⌜ Passed (now scene) layout ⌝ }
+    ensures { λ r. ⌜ r ≡ lengthsNeeded (sceneOf (now (scene .entry))) ⌝ }
 {
     let fluids = layout.fluids.total;
-    let boundaries = layout.boundaries;
-    let counts = boundaries.counts;
-    let keeps = boundaries.keeps;
-    let behind = boundary_answers(counts, keeps, boundaries.number);
+    let boundaries = layout.boundaries.total;
+    let behind = boundary_answers(scene, layout);
     Lengths {
         answers: ANSWER_WIDTH * fluids + behind,
-        work: WORK_WIDTH * fluids + boundaries.total,
+        work: WORK_WIDTH * fluids + boundaries,
     }
 }
 
@@ -96,6 +94,6 @@ pub fn lengths_needed(scene: &[u8]) -> Needs
     let layout = found.layout;
     match verdict {
         Verdict::Refused(refusal) => Needs::Refused(refusal),
-        Verdict::Accepted => Needs::Lists(lengths_of(layout)),
+        Verdict::Accepted => Needs::Lists(lengths_of(scene, layout)),
     }
 }

@@ -8,7 +8,7 @@ use Rattle.iisph_words.specs.Digits
 use Rattle.iisph_words.specs.Words
 use Rattle.iisph_lines.specs.Lines
 use Rattle.iisph_text.specs.Text
-use Rattle.scene_layout.specs.Layout
+use Rattle.scene_format.specs.Format
 use Rattle.scene_lengths.specs.Lengths
 use Rattle.worked_examples.specs.Row as worked
 use Rattle.worked_examples.specs.Row.{All, none, _and_}
@@ -19,7 +19,7 @@ use Rattle.worked_texts.specs.Rows.{example, Holds, ascii, texts, rows}
 
 writing : ℕ
 unfolding evaluation
-    Layout.padded Layout.layoutModels Layout.layoutOf Lengths.answerWidth Lengths.answersBefore
+    Format.keepsOf Lengths.answerWidth Lengths.answersBefore
     Digits.digits Digits.hexOf Digits.placesWithin Digits.decimalOf
     Words.pairText Words.doubleText Words.doublesText Words.kindWord Words.endingWord
     Endings.endingNumber Endings.endingValues Lines.endingText Lines.stepLine Lines.clockLine

@@ -5,7 +5,7 @@ use lib.Ieee.{nan}
 use borrow.Author.Needs.{needs}
 use Rattle.iisph_passes.specs.Traverse.{Ready}
 use Rattle.lists.proofs.Stores.{length-stored}
-use Rattle.scene_lengths.proofs.Needed.{few-in, work-needed}
+use Rattle.scene_lengths.proofs.Needed.{work-needed}
 use Rattle.scene_lengths.specs.Lengths.{workNeeded}
 use Rattle.scene_format.specs.SceneOf.{sceneOf}
 use mathlib.Core.Path.{_≡_, ap}
@@ -80,10 +80,10 @@ Lengths c = c .before .before .before
 needed : (c : tie.After-lengths-of)
     → let s = Begin (Solved (Shared (Moved (Lengths c)))) in
     c .lengths-of .result .work ≡ workNeeded (sceneOf (now (s .args .scene)))
-needed c = ap (λ n. n .work) (c .lengths-of .ensures _ (Begin (Solved (Shared (Moved (Lengths c)))) .pre .1 .0 .0))
+needed c = ap (λ n. n .work) (c .lengths-of .ensures)
 
 lengths-of-requires : tie.Need-lengths-of-requires
-lengths-of-requires c κs = few-in (Begin (Solved (Shared (Moved (c .before .before)))) .pre .1 .0 .0)
+lengths-of-requires c κs = Begin (Solved (Shared (Moved (c .before .before)))) .pre .1 .0 .0
 
 clear-requires : tie.Need-clear-requires
 clear-requires c κs =

@@ -6,7 +6,7 @@ use borrow.Author.Needs.{needs}
 use Rattle.iisph_preparation.specs.Prepare.{workPrepared}
 use Rattle.iisph_preparation.specs.declared.Readiness.{Readiness}
 use Rattle.iisph_preparation.proofs.Prepared.{prepared-ready}
-use Rattle.scene_lengths.proofs.Needed.{fluids-total}
+use Rattle.scene_check.proofs.Checks.{fluid-total}
 use Rattle.iisph_lent.proofs.Stepped.{zero-steps, done-steps}
 use Rattle.iisph_lent.proofs.step_long.Statement.{statement}
 use Rattle.iisph_lent.proofs.step_long.Tie as tie
@@ -33,7 +33,7 @@ finish-requires c κs =
     let p = t .before .before .before .before .before .before in
     let s = Begin (Header p) in
     let passed = s .pre .0 .0 in
-    let size = fluids-total passed in (
+    let size = fluid-total passed in (
       (record { indexed = p .prepare .ensures .indexed; size = size }, Header p .step-header .ensures),
       (
         (passed, s .pre .0 .1 .enoughAnswers),

@@ -11,7 +11,7 @@ use Rattle.iisph_preparation.specs.Prepare.{prepared, workPrepared}
 use Rattle.iisph_preparation.proofs.RowsFilled.{length-prepared}
 use Rattle.iisph_preparation.proofs.ZeroRefusals.{volumes-there, prepared-made, work-cleared, answer-made}
 use Rattle.iisph_rows.specs.Rows.{volumesAt}
-use Rattle.scene_lengths.proofs.Needed.{few-in, work-needed}
+use Rattle.scene_lengths.proofs.Needed.{work-needed}
 use Rattle.scene_lengths.specs.Lengths.{workNeeded}
 use borrow.Author.Needs.{needs}
 use Rattle.iisph_preparation.proofs.prepare_rows.Statement.{statement}
@@ -71,10 +71,10 @@ zero-refusal-requires c κs =
 needed : (c : tie.After-lengths-of)
     → let b = Start-of (Filled (c .before .before .before)) in
     c .lengths-of .result .work ≡ workNeeded (sceneOf (now (b .args .scene)))
-needed c = ap (λ n. n .work) (c .lengths-of .ensures _ (Start-of (Filled (c .before .before .before)) .pre .1 .0))
+needed c = ap (λ n. n .work) (c .lengths-of .ensures)
 
 lengths-of-requires : tie.Need-lengths-of-requires
-lengths-of-requires c κs = few-in (Start-of (Filled (c .before .before)) .pre .1 .0)
+lengths-of-requires c κs = Start-of (Filled (c .before .before)) .pre .1 .0
 
 clear-requires : tie.Need-clear-requires
 clear-requires c κs =

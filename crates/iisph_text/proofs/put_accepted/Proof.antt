@@ -11,9 +11,12 @@ Begin c = c .before .before .before .before .before .before .before
 put-done-requires : tie.Need-put-done-requires
 put-done-requires c κs =
     let k = c .before .before .before .before .before .before .before .before .before in
-    let s = Begin k in
-    done-ready (s .pre .0) (k .step-short .ensures) (c .before .before .before .answer .given .1) (s .pre .1 .0)
-    (s .pre .1 .1)
+    let s = Begin k in (
+      s .pre .0,
+      done-ready (s .pre .0 .bytes) (k .step-short .ensures) (c .before .before .before .answer .given .1)
+          (s .pre .1 .0)
+          (s .pre .1 .1),
+    )
 
 returns : tie.Need-returns
 returns c =
@@ -21,7 +24,7 @@ returns c =
     let a = w .before .before .before .before in
     let k = a .before .before .before .before .before .before in
     let s = Begin k in
-    done-run (s .pre .0) (k .step-short .ensures) (a .answer .given .1) (s .pre .1 .0) (s .pre .1 .1)
+    done-run (s .pre .0 .bytes) (k .step-short .ensures) (a .answer .given .1) (s .pre .1 .0) (s .pre .1 .1)
     (w .put-done .ensures)
 
 returns-2 : tie.Need-returns-2

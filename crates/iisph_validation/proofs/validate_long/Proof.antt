@@ -7,7 +7,6 @@ use borrow.Author.Needs.{needs}
 use Rattle.iisph_preparation.specs.Prepare.{workPrepared}
 use Rattle.iisph_preparation.specs.declared.Readiness.{Readiness}
 use Rattle.scene_format.specs.SceneOf.{sceneOf}
-use Rattle.scene_lengths.proofs.Needed.{few-in}
 use Rattle.scene_lengths.specs.Lengths.{workNeeded}
 use Rattle.iisph_validation.proofs.Validated.{zero-validates, ready-validates}
 use Rattle.iisph_validation.proofs.validate_long.Statement.{statement}
@@ -30,11 +29,11 @@ abbrev Prepared : tie.After-enum-told → tie.After-prepare
 Prepared c = c .before .before .before .before .before .before
 
 lengths-of-requires : tie.Need-lengths-of-requires
-lengths-of-requires c κs = few-in (Begin (Prepared c) .pre .0 .0)
+lengths-of-requires c κs = Begin (Prepared c) .pre .0 .0
 
 needed : (c : tie.After-lengths-of)
     → c .lengths-of .result .work ≡ workNeeded (sceneOf (now (Begin (Prepared (c .before)) .args .scene)))
-needed c = ap (λ n. n .work) (c .lengths-of .ensures _ (Begin (Prepared (c .before)) .pre .0 .0))
+needed c = ap (λ n. n .work) (c .lengths-of .ensures)
 
 clear-requires : tie.Need-clear-requires
 clear-requires c κs =

@@ -8,20 +8,19 @@ use lib.ListN.{length}
 use borrow.Author.Needs.{needs}
 use Rattle.scene_check.specs.Check.{Passed}
 use Rattle.scene_format.specs.SceneOf.{sceneOf}
-use Rattle.scene_lengths.proofs.Needed.{few-in}
 use Rattle.scene_lengths.specs.Lengths.{workNeeded}
 use Rattle.iisph_validation.proofs.Validated.{short-validates}
 use Rattle.iisph_validation.proofs.validate_sized.Statement.{statement}
 use Rattle.iisph_validation.proofs.validate_sized.Tie as tie
 
 lengths-of-requires : tie.Need-lengths-of-requires
-lengths-of-requires c κs = few-in (c .before .before .pre)
+lengths-of-requires c κs = c .before .before .pre
 
 abbrev Begin : tie.After-lengths-of → tie.Start
 Begin c = c .before .before .before
 
 needed : (c : tie.After-lengths-of) → c .lengths-of .result .work ≡ workNeeded (sceneOf (now (Begin c .args .scene)))
-needed c = ap (λ n. n .work) (c .lengths-of .ensures _ (Begin c .pre))
+needed c = ap (λ n. n .work) (c .lengths-of .ensures)
 
 returns : tie.Need-returns
 returns c =

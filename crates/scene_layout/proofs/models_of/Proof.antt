@@ -12,13 +12,13 @@ use Rattle.scene_layout.proofs.models_of.Statement.{statement}
 use Rattle.scene_layout.proofs.models_of.Tie as tie
 
 abbrev Inv-loop : tie.InvT-loop
-Inv-loop s kind n from heads₀ counts₀ starts₀ kept₀ total₀ at₀ i₀ heads counts starts kept total at i =
+Inv-loop s kind n from heads₀ total₀ at₀ i₀ heads total at i =
     (n ≡ modelNumber kind s)
     × Ahead (modelEnd kind s) (ModelWithin kind s) (modelNumber kind s) (firstHead kind s) i at
-    × Filled kind s heads counts starts kept total at i
+    × Filled kind s heads total at i
 
 abbrev μ-loop : tie.MeasureT-loop
-μ-loop s kind n from heads₀ counts₀ starts₀ kept₀ total₀ at₀ i₀ heads counts starts kept total at i = n - i
+μ-loop s kind n from heads₀ total₀ at₀ i₀ heads total at i = n - i
 
 loop-holds : tie.Need-loop-holds Inv-loop μ-loop
 loop-holds c =
@@ -33,22 +33,17 @@ here c = let i = c .before .loop .inv in holds-here (i .1) (rw (i .0) at (c .loo
 particles-requires : tie.Need-particles-requires Inv-loop μ-loop
 particles-requires c κs = here c .headRoom
 
-keeps-requires : tie.Need-keeps-requires Inv-loop μ-loop
-keeps-requires c κs = here (c .before) .headRoom
-
 model-end-requires : tie.Need-model-end-requires Inv-loop μ-loop
-model-end-requires c κs = here (c .before .before)
+model-end-requires c κs = here (c .before)
 
 loop-again : tie.Need-loop-again Inv-loop μ-loop
 loop-again c =
-    let k = c .before in
-    let p = k .before in
+    let p = c .before in
     let l = p .before .before .loop in
     let h = rw (l .inv .0) at (p .before .loop-test .taken) in (
       l .inv .0,
       one-more-stepped (l .inv .1) h (c .model-end .ensures),
-      one-more-filled _ _ (l .inv .2) h (p .particles .ensures .0) (p .particles .ensures .1) (k .keeps .ensures .0)
-          (c .model-end .ensures),
+      one-more-filled _ _ (l .inv .2) h (p .particles .ensures .0) (p .particles .ensures .1) (c .model-end .ensures),
     )
 
 returns : tie.Need-returns Inv-loop μ-loop
@@ -65,16 +60,9 @@ models-of-spec =
     Inv-loop
     μ-loop
     loop-holds
+    (λ c. search needs)
+    (λ c. search needs)
     particles-requires
-    (λ c. search needs)
-    (λ c. search needs)
-    (λ c. search needs)
-    (λ c. search needs)
-    (λ c. search needs)
-    (λ c. search needs)
-    keeps-requires
-    (λ c. search needs)
-    (λ c. search needs)
     (λ c. search needs)
     model-end-requires
     (λ c. search needs)

@@ -4,7 +4,7 @@ use denote.Ref.{now}
 use borrow.Author.Needs.{needs}
 use Rattle.scene_check.specs.Check.{Passed}
 use Rattle.scene_check.proofs.Checks.{verdict-refused, verdict-accepted}
-use Rattle.scene_lengths.proofs.Needed.{few-in, refused-needs, accepted-needs}
+use Rattle.scene_lengths.proofs.Needed.{refused-needs, accepted-needs}
 use Rattle.scene_lengths.proofs.lengths_needed.Statement.{statement}
 use Rattle.scene_lengths.proofs.lengths_needed.Tie as tie
 
@@ -17,7 +17,7 @@ passed c =
     (c .enum-told .given .1)
 
 lengths-of-requires : tie.Need-lengths-of-requires
-lengths-of-requires c κs = few-in (passed c)
+lengths-of-requires c κs = passed c
 
 returns : tie.Need-returns
 returns c =
@@ -25,7 +25,7 @@ returns c =
     refused-needs _ (verdict-refused _ (v .before .before .before .check .ensures) (v .verdict .given .1))
 
 returns-2 : tie.Need-returns-2
-returns-2 c = accepted-needs (passed (c .before)) (c .lengths-of .ensures _ (passed (c .before)))
+returns-2 c = accepted-needs (passed (c .before)) (c .lengths-of .ensures)
 
 pub lengths-needed-spec : {M : Type 1} → statement M
 lengths-needed-spec =

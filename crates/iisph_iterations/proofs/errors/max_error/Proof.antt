@@ -1,69 +1,83 @@
 -- `iisph_iterations::errors::max_error` meets its contract. The invariant: the error so far, with the averages of the
 -- fluids that remain, comes to the whole; the measure is the number of fluids left. Assumes nothing.
-use Prim.Native.Nat.{ℕ, _+_, _-_, _<_, _≤_}
-use mathlib.Core.Path.{_≡_, sym}
+use Prim.Native.Nat.{_+_, _-_, _<_, _≤_}
+use mathlib.Core.Path.{_≡_, sym, _∙_}
 use native.Mathlib.Omega.{arith}
-use mir.Syntax.{w64}
-use borrow.Kind.Array.{eInt, good-length}
-use lib.ListN.{length, getD, take}
-use lib.Seq.{length-take-le, getD-take}
-use Rattle.iisph_iterations.proofs.Averages.{Averaged, none-averaged, next-rows, next-averaged, all-averaged}
+use lib.ListN.{length, getD}
 use borrow.Author.Needs.{needs}
-use Rattle.scene_format.specs.Format.{nameableModels}
+use denote.Ref.{now}
+use Rattle.scene_check.proofs.Checks.{fluid-turn, fluid-number}
+use Rattle.scene_format.specs.Format.{countsOf}
+use Rattle.scene_format.specs.declared.Kind.the-variants.{Fluid}
+use Rattle.scene_layout.proofs.Locations.{length-counts, scene-counts, fluid-size-sum}
+use Rattle.scene_layout.proofs.Turns.{Turn}
+use Rattle.iisph_iterations.proofs.Averages.{Averaged, none-averaged, next-rows, next-averaged, all-averaged}
 use Rattle.iisph_iterations.proofs.errors.max_error.Statement.{statement}
 use Rattle.iisph_iterations.proofs.errors.max_error.Tie as tie
 
 abbrev Inv-loop : tie.InvT-loop
-Inv-loop number work n counts error₀ from₀ m₀ error from m = Averaged (take number counts) n work m from error
+Inv-loop scene work n heads number error₀ from₀ m₀ error from m = Averaged (countsOf Fluid scene) n work m from error
 
 abbrev μ-loop : tie.MeasureT-loop
-μ-loop number work n counts error₀ from₀ m₀ error from m = number - m
+μ-loop scene work n heads number error₀ from₀ m₀ error from m = number - m
 
--- the counts that are looked at
-sixteen : (c : tie.After-shared-slice-known Inv-loop μ-loop)
-    → length (take (c .before .args .number) (c .before .args .t1)) ≡ c .before .args .number
-sixteen c =
-    length-take-le _ _
-    (omega (
-      arith,
-      good-length (eInt w64) nameableModels (c .before .args .t1) _ (c .before .good .0),
-      c .before .pre .0,
-    ))
+abbrev start : tie.In-loop Inv-loop μ-loop → tie.Start Inv-loop μ-loop
+start c = c .before .before .before .before .before .before
 
-below : (c : tie.In-loop Inv-loop μ-loop)
-    → c .before .loop .m < length (take (c .before .before .before .args .number) (c .before .before .before .args .t1))
-below c = omega (arith, sixteen (c .before .before), c .loop-test .taken)
+turn : (c : tie.In-loop Inv-loop μ-loop)
+    → let a = start c .args in Turn Fluid (now (a .scene)) (a .layout .fluids .heads) (c .before .loop .m)
+turn c = fluid-turn (start c .pre .0) _ (c .loop-test .taken)
+
+below : (c : tie.In-loop Inv-loop μ-loop) → c .before .loop .m < length (countsOf Fluid (now (start c .args .scene)))
+below c = rw (length-counts Fluid (now (start c .args .scene))) (turn c .below)
+
+count : (c : tie.After-particles Inv-loop μ-loop)
+    → let i = c .before in c .particles .result ≡ getD (countsOf Fluid (now (start i .args .scene))) (i .before .loop .m) 0
+count c = c .particles .ensures .0 ∙ turn (c .before) .count
 
 -- the next fluid's particles are among the n
-room : (c : tie.In-loop Inv-loop μ-loop)
-    → let a = c .before .before .before .args in
-    c .before .loop .from + getD (a .t1) (c .before .loop .m) 0 ≤ a .n
+room : (c : tie.After-particles Inv-loop μ-loop)
+    → let i = c .before in i .before .loop .from + c .particles .result ≤ start i .args .n
 room c =
-    let a = c .before .before .before .args in
-    omega (
-      arith,
-      next-rows _ _ _ (c .before .loop .inv) (below c),
-      getD-take {A = ℕ} (a .number) (a .t1)
-          (c .before .loop .m) 0 (c .loop-test .taken),
-    )
+    let i = c .before in
+    omega (arith, next-rows _ _ _ (i .before .loop .inv) (below i), count c)
 
 loop-holds : tie.Need-loop-holds Inv-loop μ-loop
-loop-holds c = none-averaged _ _ _ (c .before .pre .1)
+loop-holds c =
+    let s = c .before .before .before .before in
+    none-averaged _ _ _ (sym (s .pre .1 .0 ∙ fluid-size-sum (now (s .args .scene))))
+
+mul-particles : tie.Need-mul-particles Inv-loop μ-loop
+mul-particles c = omega (arith, turn c .small)
+
+array-read-particles : tie.Need-array-read-particles Inv-loop μ-loop
+array-read-particles c = omega (arith, turn c .small)
+
+particles-requires : tie.Need-particles-requires Inv-loop μ-loop
+particles-requires c κs = turn c .within .headRoom
 
 with-average-requires : tie.Need-with-average-requires Inv-loop μ-loop
-with-average-requires c κs = (room c, c .before .before .before .pre .2)
+with-average-requires c κs = (room c, start (c .before) .pre .1 .1)
 
 add-from : tie.Need-add-from Inv-loop μ-loop
-add-from c = omega (arith, room (c .before), c .before .before .before .before .pre .2)
+add-from c = let p = c .before in omega (arith, room p, start (p .before) .pre .1 .1)
+
+add-m : tie.Need-add-m Inv-loop μ-loop
+add-m c = omega (arith, turn (c .before .before) .small)
 
 loop-again : tie.Need-loop-again Inv-loop μ-loop
 loop-again c =
     let p = c .before in
-    next-averaged _ _ _ (p .before .loop .inv) (below p) (sym (getD-take {A = ℕ} _ _ _ 0 (p .loop-test .taken)))
-    (c .with-average .ensures)
+    let i = p .before in
+    next-averaged _ _ _ (i .before .loop .inv) (below i) (count p) (c .with-average .ensures)
 
 returns : tie.Need-returns Inv-loop μ-loop
-returns c = all-averaged _ _ _ (c .before .loop .inv) (omega (arith, sixteen (c .before .before), c .loop-test .left))
+returns c =
+    let s = c .before .before .before .before .before .before in
+    let b = now (s .args .scene) in
+    rw (scene-counts b)
+    (all-averaged _ _ _ (c .before .loop .inv)
+    (omega (arith, length-counts Fluid b, fluid-number b (s .pre .0 .layoutIs), c .loop-test .left)))
 
 pub max-error-spec : {M : Type 1} → statement M
 max-error-spec =
@@ -72,11 +86,12 @@ max-error-spec =
     Inv-loop
     μ-loop
     loop-holds
-    (λ c. search needs)
-    (λ c. search needs)
+    mul-particles
+    array-read-particles
+    particles-requires
     with-average-requires
     add-from
-    (λ c. search needs)
+    add-m
     (λ c. search needs)
     loop-again
     returns)

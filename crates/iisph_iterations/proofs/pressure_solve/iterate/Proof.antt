@@ -2,15 +2,15 @@
 -- stored, and the error is that of the terms in their column. Assumes nothing.
 use native.Mathlib.Omega.{arith}
 use Rattle.iisph_passes.specs.Traverse.{Ready}
-use Rattle.iisph_iterations.proofs.Iterated.{quotients-there, dij-there, next-room, iterated-ready, few-fluids}
-use Rattle.iisph_iterations.proofs.Iterated.{counts-sum, iterates-made}
+use Rattle.iisph_iterations.proofs.Iterated.{quotients-there, dij-there, next-room, iterated-ready}
+use Rattle.iisph_iterations.proofs.Iterated.{iterates-made}
 use borrow.Author.Needs.{needs}
 use Rattle.iisph_iterations.proofs.«pressure_solve».iterate.Statement.{statement}
 use Rattle.iisph_iterations.proofs.«pressure_solve».iterate.Tie as tie
 
 -- before the first pass, and after each
 abbrev First : tie.After-traverse → tie.Start
-First c = c .before .before .before .before .before .before .before
+First c = c .before .before .before .before .before
 
 abbrev Second : tie.After-traverse2 → tie.After-traverse
 Second c = c .before .before .before .before
@@ -24,7 +24,7 @@ Fourth c = c .before .before .before .before
 traverse-requires : tie.Need-traverse-requires
 unfolding Ready
 traverse-requires c κs =
-    let b = c .before .before .before .before .before .before in
+    let b = c .before .before .before .before in
     (b .pre .0, (b .pre .1 .1 .room, tt))
 
 traverse-requires-2 : tie.Need-traverse-requires-2
@@ -68,7 +68,7 @@ max-error-requires c κs =
     let p = First t .pre in
     let q = iterated-ready _ (p .0 .timed .over .size) _ (p .1 .1) (t .traverse .ensures) (u .traverse2 .ensures)
     (v .traverse3 .ensures) (w .traverse4 .ensures) in
-    (few-fluids (p .1 .0), counts-sum (p .1 .0) (p .0 .timed .over .size), omega (arith, q .room))
+    (p .1 .0, (p .0 .timed .over .size, omega (arith, q .room)))
 
 returns : tie.Need-returns
 returns c =
@@ -77,7 +77,7 @@ returns c =
     let u = Third v in
     let t = Second u in
     let p = First t .pre in
-    iterates-made (p .1 .0) (p .0 .timed .over .size) _ (p .1 .1) (t .traverse .ensures) (u .traverse2 .ensures)
+    iterates-made _ (p .0 .timed .over .size) _ (p .1 .1) (t .traverse .ensures) (u .traverse2 .ensures)
     (v .traverse3 .ensures) (w .traverse4 .ensures)
     (c .max-error .ensures)
 

@@ -4,16 +4,16 @@ use native.Mathlib.Omega.{arith}
 use borrow.Author.Needs.{needs}
 use denote.Ref.{now}
 use Rattle.scene_check.proofs.Accepted.{accepted-within}
+use Rattle.scene_check.proofs.Checks.{fluids-are, boundaries-are}
+use Rattle.scene_check.proofs.Records.{size-few}
 use Rattle.scene_format.specs.declared.Kind.the-variants.{Fluid, Boundary}
-use Rattle.scene_index.proofs.Indexes.{SectionsAre, sections-are, counts-few, fluids-are, boundaries-are}
-use Rattle.scene_index.proofs.Indexes.{starts-few, fluid-number, boundary-number, fluid-places, boundary-places}
-use Rattle.scene_index.proofs.Indexes.{all-filled}
+use Rattle.scene_index.proofs.Indexes.{SectionsAre, sections-are, fluid-places, boundary-places, all-filled}
 use Rattle.scene_index.proofs.index.fill.Statement.{statement}
 use Rattle.scene_index.proofs.index.fill.Tie as tie
 
 -- from each call back to the sections, and to the start
 abbrev Begin : tie.After-sections-of → tie.Start
-Begin c = c .before .before .before .before .before .before .before
+Begin c = c .before .before .before .before .before
 
 abbrev first : tie.After-fill-bases-arg → tie.After-sections-of
 first c = c .before .before .before .before .before
@@ -35,7 +35,7 @@ are : (c : tie.After-sections-of) → SectionsAre (now (Begin c .args .scene)) (
 are c = sections-are (c .sections-of .ensures)
 
 sections-of-requires : tie.Need-sections-of-requires
-sections-of-requires c κs = c .before .before .before .before .before .before .pre .0
+sections-of-requires c κs = c .before .before .before .before .pre .0
 
 put-starts-requires : tie.Need-put-starts-requires
 put-starts-requires c κs = omega (arith, Begin (c .before) .pre .1)
@@ -43,11 +43,8 @@ put-starts-requires c κs = omega (arith, Begin (c .before) .pre .1)
 fill-bases-requires : tie.Need-fill-bases-requires
 fill-bases-requires c κs =
     let p = Begin (first c) .pre in (
-      (
-        omega (arith, counts-few (p .0) .fluids),
-        omega (arith, p .1, fluid-number (p .0), c .before .before .before .put-starts .kept),
-      ),
-      starts-few (p .0) Fluid (fluids-are (p .0)),
+      (accepted-within _ (p .0 .walk) Fluid, fluids-are _ (p .0 .layoutIs)),
+      (size-few _ (p .0 .walk) Fluid, omega (arith, p .1, c .before .before .before .put-starts .kept)),
     )
 
 fill-bases-requires-2 : tie.Need-fill-bases-requires-2
@@ -55,18 +52,11 @@ fill-bases-requires-2 c κs =
     let p = Begin (second c) .pre in
     let filled = c .before .before .before in
     let starts = filled .before .before .before .before in (
+      (accepted-within _ (p .0 .walk) Boundary, boundaries-are _ (p .0 .layoutIs)),
       (
-        omega (arith, counts-few (p .0) .boundaries),
-        omega (
-          arith,
-          p .1,
-          boundary-number (p .0),
-          are (second c) .bases,
-          filled .fill-bases .kept,
-          starts .put-starts .kept,
-        ),
+        size-few _ (p .0 .walk) Boundary,
+        omega (arith, p .1, are (second c) .bases, filled .fill-bases .kept, starts .put-starts .kept),
       ),
-      starts-few (p .0) Boundary (boundaries-are (p .0)),
     )
 
 fill-models-requires : tie.Need-fill-models-requires
@@ -75,7 +65,7 @@ fill-models-requires c κs =
     let bases = c .before .before .before in
     let filled = bases .before .before .before .before in
     let starts = filled .before .before .before .before in (
-      (accepted-within _ (p .0 .walk) Fluid, fluids-are (p .0)),
+      (accepted-within _ (p .0 .walk) Fluid, fluids-are _ (p .0 .layoutIs)),
       omega (
         arith,
         p .1,
@@ -94,7 +84,7 @@ fill-models-requires-2 c κs =
     let bases = records .before .before .before .before in
     let filled = bases .before .before .before .before in
     let starts = filled .before .before .before .before in (
-      (accepted-within _ (p .0 .walk) Fluid, fluids-are (p .0)),
+      (accepted-within _ (p .0 .walk) Fluid, fluids-are _ (p .0 .layoutIs)),
       omega (
         arith,
         p .1,
@@ -115,7 +105,7 @@ fill-models-requires-3 c κs =
     let bases = records .before .before .before .before in
     let filled = bases .before .before .before .before in
     let starts = filled .before .before .before .before in (
-      (accepted-within _ (p .0 .walk) Boundary, boundaries-are (p .0)),
+      (accepted-within _ (p .0 .walk) Boundary, boundaries-are _ (p .0 .layoutIs)),
       omega (
         arith,
         p .1,

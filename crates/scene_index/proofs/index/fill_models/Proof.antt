@@ -2,10 +2,10 @@
 use Prim.Native.Nat.{_+_, _-_, _≤_}
 use native.Mathlib.Omega.{arith}
 use lib.ListN.{length}
+use Rattle.scene_layout.proofs.Turns.{Turn, this-turn, number-is}
 use Rattle.scene_index.specs.Index.{entryOf}
 use Rattle.scene_index.proofs.Traversals.{Traversed, none-traversed, model-room, one-more-traversed}
 use Rattle.scene_index.proofs.Traversals.{all-traversed}
-use Rattle.scene_index.proofs.Indexes.{Turn, this-turn, number-is}
 use borrow.Author.Needs.{needs}
 use Rattle.scene_index.proofs.index.fill_models.Statement.{statement}
 use Rattle.scene_index.proofs.index.fill_models.Tie as tie
