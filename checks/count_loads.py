@@ -6,7 +6,8 @@ be one 8-byte load and one byte swap.
                            and compares
 
 Per function: how many byte swaps there are, one for each double that is read from the packed scene,
-and how many single bytes are loaded at most (a contact's name is two; a number of contacts is one).
+and how many single bytes are loaded at most (a contact's name and a model's count are two each; a
+number of contacts is one).
 A change that breaks a read up shows as fewer swaps or more bytes, and so does a sum that is no
 longer inlined where it is called.
 """
@@ -22,10 +23,11 @@ ARCHIVE = ROOT / "target" / "staticlib" / "libiisph_c.a"
 
 # function, with the sums over contacts that are inlined in it: doubles read, single bytes loaded at most
 EXPECTED = {
-    # masses, advected, coefficients, dij_pjl, next pressures; names in nine sums, numbers of contacts
-    "iisph_passes::traverse::traverse": (2 + 6 + 25 + 3 + 7, 9 * 2 + 5),
-    # motion, gathered forces, given forces; two of the single bytes are answers, on the stack
-    "iisph_lent::step_long": (16 + 4 + 3, 12),
+    # advection, coefficients, dij_pjl, next pressures; names in nine sums, numbers of contacts
+    "iisph_passes::traverse::traverse": (8 + 25 + 3 + 7, 9 * 2 + 5),
+    # motion, gathered forces, given forces; names in three loops, numbers of contacts, the counts of a fluid and of a
+    # boundary, and two that are no field but answers, on the stack
+    "iisph_lent::step_long": (16 + 4 + 3, 3 * 2 + 4 + 2 * 2 + 2),
 }
 
 

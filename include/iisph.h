@@ -63,8 +63,8 @@ extern "C" {
    of 0), numbers[3] the remaining time, and counts[0] the number of iterations.
    Refused by 1 to 10. Then answers, numbers and counts[0] are unchanged; the needed part of work is
    all +0 after 9 and 10, and work is unchanged after 1 to 8.
-   Takes some 40 KiB of stack where the scene's index, as iisph_step_lent has it, is of at most 4096
-   elements (one fluid of 2000 particles), and some 812 KiB where it is longer. */
+   Takes some 34 KiB of stack where the scene's index, as iisph_step_lent has it, is of at most 4096
+   elements (one fluid of 2000 particles), and some 805 KiB where it is longer. */
 uint64_t iisph_step(const uint8_t *scene, size_t scene_len, double *answers, size_t answers_len,
                     double *work, size_t work_len, double *numbers, size_t numbers_len,
                     uint64_t *counts, size_t counts_len);
@@ -77,7 +77,7 @@ uint64_t iisph_step(const uint8_t *scene, size_t scene_len, double *answers, siz
    too short. Then counts[0] is the length that it needs, and nothing else is written. 99 and
    refusals 1 to 8 come before that, and leave the index as it was; 9 and 10 come after it. Of an
    index that was used it is not told what it holds.
-   Takes less than 16 KiB of stack, whatever the scene. */
+   Takes some 2 KiB of stack, whatever the scene. */
 uint64_t iisph_step_lent(const uint8_t *scene, size_t scene_len, double *answers,
                          size_t answers_len, double *work, size_t work_len, uint64_t *index,
                          size_t index_len, double *numbers, size_t numbers_len, uint64_t *counts,
@@ -96,7 +96,7 @@ uint64_t iisph_step_keeping(const uint8_t *scene, size_t scene_len, double *cloc
 
 /* How long the lists of a step must be. counts: at least 2 elements.
    Returns 0 with counts[0] the length that the answer list needs and counts[1] that of the work
-   list. Refused by 1 to 7; then counts[0] is unchanged. Takes some 3 KiB of stack. */
+   list. Refused by 1 to 7; then counts[0] is unchanged. Takes some 1 KiB of stack. */
 uint64_t iisph_needed(const uint8_t *scene, size_t scene_len, uint64_t *counts, size_t counts_len);
 
 /* Whether a step with a long enough answer list would be refused. counts: at least 2 elements.
