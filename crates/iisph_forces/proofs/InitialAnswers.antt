@@ -151,8 +151,8 @@ module _ (b : List ℕ) (l : List Float) (first count : ℕ) where
 
 -- ---- boundary after boundary
 
--- of the boundaries the first w, which have `first` particles, are stored in l, and where their forces begin in fs; this
--- gave x and gs, and the next boundary's element is `to`
+-- of the boundaries the first w, which have `first` particles, are stored in l, and where their forces begin in fs;
+-- this gave x and gs, and the next boundary's element is `to`
 pub record InitialPut (b fs : List ℕ) (l : List Float) (first to w : ℕ) (gs : List ℕ) (x : List Float) : Type 0 where
   pub start : first ≡ before (countsOf Boundary b) w
   pub long : length x ≡ length l

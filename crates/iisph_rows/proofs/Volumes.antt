@@ -100,7 +100,8 @@ module _ (b : List ℕ) (l : List Float) (k : ℕ) where
       }
 
   module _ {first w : ℕ} {x : List Float} (here : Stored b l k first w x) where
-    pub one-more-stored : w < modelNumber Boundary b → {count : ℕ} {y : List Float} → count ≡ getD (countsOf Boundary b) w 0
+    pub one-more-stored : w < modelNumber Boundary b → {count : ℕ} {y : List Float}
+        → count ≡ getD (countsOf Boundary b) w 0
         → y ≡ sets x (k + first) (volumesFrom (sceneOf b) first count)
         → Stored b l k (first + count) (w + 1) y
     one-more-stored h {count} {y} c ye =

@@ -37,7 +37,8 @@ parts-written b xs r e p q v w = p then q then (v then (rw e at w))
 
 -- the last two have room behind the others
 module _ {b : List ℕ} {xs : List Float} {r : Report} {out : List ℕ} (ready : LinesReady b xs r out)
-    {o₁ o₂ : List ℕ} {n₁ n₂ : ℕ} (p : Writes out 0 (stepLine r) o₁ n₁) (q : Writes o₁ n₁ (clockLine (r .clock)) o₂ n₂) where
+    {o₁ o₂ : List ℕ} {n₁ n₂ : ℕ} (p : Writes out 0 (stepLine r) o₁ n₁)
+    (q : Writes o₁ n₁ (clockLine (r .clock)) o₂ n₂) where
   pub fluids-room : (0 + answersIn Fluid b ≤ length xs) × (n₂ + length (modelsText Fluid b 0 xs) ≤ length o₂)
   fluids-room =
       (omega (arith, ready .fluids), omega (arith, ready .room, p .ends, p .long, q .ends, q .long))

@@ -19,7 +19,6 @@ use Rattle.scene_format.specs.declared.Walk.the-variants as walk
 use Rattle.iisph_rules.specs.Step.{sceneAnswer}
 use Rattle.iisph_preparation.specs.Prepare.{workPrepared, readiness}
 use Rattle.iisph_validation.specs.Validate.{Validates}
-use Rattle.iisph_preparation.specs.declared.Readiness.{Readiness}
 use Rattle.iisph_preparation.specs.declared.Readiness.the-variants.{Ready, Refused}
 use Rattle.iisph_rules.proofs.Cases.{refused-answer, short-answer, scene-answer, work-refused, work-short}
 use Rattle.iisph_rules.proofs.Cases.{work-cleared}

@@ -44,8 +44,8 @@ module _ (starts : List ℕ) where
 -- ---- the models of a kind
 
 module _ (κ : Kind) (b l : List ℕ) (k : ℕ) where
-  -- the bases of the first m models are stored in l, from element k on; this gave x, the next model's blocks go to `to`,
-  -- and its first particle has the number `start`
+  -- the bases of the first m models are stored in l, from element k on; this gave x, the next model's blocks go to
+  -- `to`, and its first particle has the number `start`
   pub record Based (start to m : ℕ) (x : List ℕ) : Type 0 where
     pub within : m ≤ modelNumber κ b
     pub first : start ≡ before (countsOf κ b) m

@@ -1,5 +1,5 @@
--- The index that is filled from a layout, section behind section, which is one store of the whole; and how long it is at
--- most. Assumes nothing.
+-- The index that is filled from a layout, section behind section, which is one store of the whole; and how long it is
+-- at most. Assumes nothing.
 use Prim.Native.Nat.{ℕ, _+_, _*_, _≤_}
 use mathlib.Core.Path.{_≡_, sym, ap, _∙_}
 use mathlib.Core.List.{List, map}

@@ -45,7 +45,8 @@ drop-zeros (suc k) (suc n) = let e : suc n - suc k ≡ n - k = omega arith in rw
 -- ns stored over zeros
 pub stored-padded : (w : ℕ) (ns : List ℕ) → length ns ≤ w → sets (zeros w) 0 ns ≡ padded w ns
 unfolding padded
-stored-padded w ns h = sets-eq ns (zeros w) 0 (rw (zero-add, length-replicate) h) ∙ rw (zero-add, drop-zeros (length ns) w)
+stored-padded w ns h =
+    sets-eq ns (zeros w) 0 (rw (zero-add, length-replicate) h) ∙ rw (zero-add, drop-zeros (length ns) w)
 
 -- ---- model by model
 

@@ -1,5 +1,5 @@
--- A loop over the models of a kind, by the heads that a layout has: where the head of each turn's model stands, and what
--- is read there is what the lists of counts and of kept forces say. Assumes nothing.
+-- A loop over the models of a kind, by the heads that a layout has: where the head of each turn's model stands, and
+-- what is read there is what the lists of counts and of kept forces say. Assumes nothing.
 use Prim.Native.Nat.{ℕ, _<_}
 use mathlib.Core.Path.{_≡_, sym, ap, _∙_}
 use mathlib.Core.List.{List}

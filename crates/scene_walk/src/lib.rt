@@ -126,7 +126,7 @@ fn contacts_plainly_finite(s: &[u8], d: usize, n: usize, from: usize) -> bool
 // n contacts of a fluid record, as many as two bytes count. Nearly always they are there and plainly finite, which one
 // look at each double tells; where it does not hold of all, the walk goes from field to field.
 fn fluid_contacts(s: &[u8], n: usize, from: usize) -> Walk
-    requires { ⌜ n < 512 ⌝ }
+    requires { ⌜ n < 2 * 256 ⌝ }
     ensures { λ r. ⌜ r ≡ times n (walk.contact (contactDoubles axes) (now (s .entry))) from ⌝ }
 {
     let w = plain(s, CONTACT_WIDTH * n, from);

@@ -1,5 +1,5 @@
--- `scene_lengths::boundary_answers` meets its contract: boundary by boundary, each read at the head that the layout has.
--- Assumes nothing.
+-- `scene_lengths::boundary_answers` meets its contract: boundary by boundary, each read at the head that the layout
+-- has. Assumes nothing.
 use Prim.Native.Nat.{_*_, _-_, _≤_}
 use mathlib.Core.Path.{_≡_, ap, _∙_}
 use native.Mathlib.Nat.{le-antisymm}
@@ -88,7 +88,8 @@ returns c =
     let l = c .before .loop in
     let b = c .before .before .before .before .before in
     let all = le-antisymm (rw (← boundary-number _ (b .pre .layoutIs)) (c .loop-test .left)) (l .inv .0) in
-    let few : modelNumber Boundary (now (b .args .scene)) ≤ mostModels = accepted-within _ (b .pre .walk) Boundary .few in
+    let few : modelNumber Boundary (now (b .args .scene)) ≤ mostModels =
+    accepted-within _ (b .pre .walk) Boundary .few in
     (omega (arith, all, l .inv .1), rw all (l .inv .2))
 
 pub boundary-answers-spec : {M : Type 1} → statement M

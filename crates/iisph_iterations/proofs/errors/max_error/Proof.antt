@@ -32,7 +32,8 @@ below : (c : tie.In-loop Inv-loop μ-loop) → c .before .loop .m < length (coun
 below c = rw (length-counts Fluid (now (start c .args .scene))) (turn c .below)
 
 count : (c : tie.After-particles Inv-loop μ-loop)
-    → let i = c .before in c .particles .result ≡ getD (countsOf Fluid (now (start i .args .scene))) (i .before .loop .m) 0
+    → let i = c .before in
+    c .particles .result ≡ getD (countsOf Fluid (now (start i .args .scene))) (i .before .loop .m) 0
 count c = c .particles .ensures .0 ∙ turn (c .before) .count
 
 -- the next fluid's particles are among the n

@@ -62,7 +62,8 @@ fits : (w : tie.After-answer-width Inv-loop μ-loop)
     ≤ length (now (start i .args .xs))
 fits w =
     let i = inside w in
-    model-fits _ _ _ _ (i .before .loop .m) (i .before .loop .inv .1) (width w) (count w) (turn i .below) (start i .pre .1 .0)
+    let l = i .before .loop in
+    model-fits _ _ _ _ (l .m) (l .inv .1) (width w) (count w) (turn i .below) (start i .pre .1 .0)
 
 loop-holds : tie.Need-loop-holds Inv-loop μ-loop
 loop-holds c =

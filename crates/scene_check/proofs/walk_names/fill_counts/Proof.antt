@@ -1,5 +1,5 @@
--- `scene_check::walk_names::fill_counts` meets its contract: model by model, each count read at the head that the layout
--- has. Assumes nothing.
+-- `scene_check::walk_names::fill_counts` meets its contract: model by model, each count read at the head that the
+-- layout has. Assumes nothing.
 use Prim.Native.Nat.{ℕ, _-_}
 use mathlib.Core.Path.{_∙_}
 use mathlib.Core.List.{List}

@@ -1,12 +1,16 @@
 -- `scene_index::index::fill` meets its contract: section behind section, each of which fits since the whole index does.
 -- Assumes nothing.
+use mathlib.Core.Path.{_≡_, _∙_}
 use native.Mathlib.Omega.{arith}
+use lib.ListN.{length}
 use borrow.Author.Needs.{needs}
 use denote.Ref.{now}
 use Rattle.scene_check.proofs.Accepted.{accepted-within}
 use Rattle.scene_check.proofs.Checks.{fluids-are, boundaries-are}
 use Rattle.scene_check.proofs.Records.{size-few}
+use Rattle.scene_format.specs.Within.{ModelsWithin}
 use Rattle.scene_format.specs.declared.Kind.the-variants.{Fluid, Boundary}
+use Rattle.scene_layout.specs.Layout.{layoutModels}
 use Rattle.scene_index.proofs.Indexes.{SectionsAre, sections-are, fluid-places, boundary-places, all-filled}
 use Rattle.scene_index.proofs.index.fill.Statement.{statement}
 use Rattle.scene_index.proofs.index.fill.Tie as tie
@@ -37,87 +41,69 @@ are c = sections-are (c .sections-of .ensures)
 sections-of-requires : tie.Need-sections-of-requires
 sections-of-requires c κs = c .before .before .before .before .pre .0
 
+-- the index is as long as it was, after each part
+long-starts : (c : tie.After-put-starts)
+    → length (c .put-starts .last .1 .0) ≡ length (now (Begin (c .before .before) .args .index))
+long-starts c = c .put-starts .kept .1 .0
+
+long-fluid-bases : (c : tie.After-fill-bases)
+    → length (c .fill-bases .last .1 .1 .1 .1 .0) ≡ length (now (Begin (first (c .before)) .args .index))
+long-fluid-bases c = c .fill-bases .kept .1 .1 .1 .1 .0 ∙ long-starts (c .before .before .before .before)
+
+long-bases : (c : tie.After-fill-bases2)
+    → length (c .fill-bases2 .last .1 .1 .1 .1 .0) ≡ length (now (Begin (second (c .before)) .args .index))
+long-bases c = c .fill-bases2 .kept .1 .1 .1 .1 .0 ∙ long-fluid-bases (c .before .before .before .before)
+
+long-records : (c : tie.After-fill-models)
+    → length (c .fill-models .last .1 .1 .1 .1 .1 .0) ≡ length (now (Begin (third (c .before)) .args .index))
+long-records c = c .fill-models .kept .1 .1 .1 .1 .1 .0 ∙ long-bases (c .before .before .before .before)
+
+long-heads : (c : tie.After-fill-models2)
+    → length (c .fill-models2 .last .1 .1 .1 .1 .1 .0) ≡ length (now (Begin (fourth (c .before)) .args .index))
+long-heads c = c .fill-models2 .kept .1 .1 .1 .1 .1 .0 ∙ long-records (c .before .before .before .before)
+
 put-starts-requires : tie.Need-put-starts-requires
 put-starts-requires c κs = omega (arith, Begin (c .before) .pre .1)
 
+-- the models of each kind
+fluids : (s : tie.Start)
+    → ModelsWithin Fluid (now (s .args .scene)) × (s .args .layout .fluids ≡ layoutModels Fluid (now (s .args .scene)))
+fluids s = (accepted-within _ (s .pre .0 .walk) Fluid, fluids-are _ (s .pre .0 .layoutIs))
+
+boundaries : (s : tie.Start)
+    → ModelsWithin Boundary (now (s .args .scene))
+    × (s .args .layout .boundaries ≡ layoutModels Boundary (now (s .args .scene)))
+boundaries s = (accepted-within _ (s .pre .0 .walk) Boundary, boundaries-are _ (s .pre .0 .layoutIs))
+
 fill-bases-requires : tie.Need-fill-bases-requires
 fill-bases-requires c κs =
-    let p = Begin (first c) .pre in (
-      (accepted-within _ (p .0 .walk) Fluid, fluids-are _ (p .0 .layoutIs)),
-      (size-few _ (p .0 .walk) Fluid, omega (arith, p .1, c .before .before .before .put-starts .kept)),
-    )
+    let s = Begin (first c) in
+    let long = long-starts (c .before .before .before) in
+    (fluids s, (size-few _ (s .pre .0 .walk) Fluid, omega (arith, s .pre .1, long)))
 
 fill-bases-requires-2 : tie.Need-fill-bases-requires-2
 fill-bases-requires-2 c κs =
-    let p = Begin (second c) .pre in
-    let filled = c .before .before .before in
-    let starts = filled .before .before .before .before in (
-      (accepted-within _ (p .0 .walk) Boundary, boundaries-are _ (p .0 .layoutIs)),
-      (
-        size-few _ (p .0 .walk) Boundary,
-        omega (arith, p .1, are (second c) .bases, filled .fill-bases .kept, starts .put-starts .kept),
-      ),
-    )
+    let s = Begin (second c) in
+    let long = long-fluid-bases (c .before .before .before) in
+    (boundaries s, (size-few _ (s .pre .0 .walk) Boundary, omega (arith, s .pre .1, are (second c) .bases, long)))
 
 fill-models-requires : tie.Need-fill-models-requires
 fill-models-requires c κs =
-    let p = Begin (third c) .pre in
-    let bases = c .before .before .before in
-    let filled = bases .before .before .before .before in
-    let starts = filled .before .before .before .before in (
-      (accepted-within _ (p .0 .walk) Fluid, fluids-are _ (p .0 .layoutIs)),
-      omega (
-        arith,
-        p .1,
-        fluid-places (p .0),
-        are (third c) .records,
-        bases .fill-bases2 .kept,
-        filled .fill-bases .kept,
-        starts .put-starts .kept,
-      ),
-    )
+    let s = Begin (third c) in
+    let long = long-bases (c .before .before .before) in
+    (fluids s, omega (arith, s .pre .1, fluid-places (s .pre .0), are (third c) .records, long))
 
 fill-models-requires-2 : tie.Need-fill-models-requires-2
 fill-models-requires-2 c κs =
-    let p = Begin (fourth c) .pre in
-    let records = c .before .before .before in
-    let bases = records .before .before .before .before in
-    let filled = bases .before .before .before .before in
-    let starts = filled .before .before .before .before in (
-      (accepted-within _ (p .0 .walk) Fluid, fluids-are _ (p .0 .layoutIs)),
-      omega (
-        arith,
-        p .1,
-        fluid-places (p .0),
-        are (fourth c) .heads,
-        records .fill-models .kept,
-        bases .fill-bases2 .kept,
-        filled .fill-bases .kept,
-        starts .put-starts .kept,
-      ),
-    )
+    let s = Begin (fourth c) in
+    let long = long-records (c .before .before .before) in
+    (fluids s, omega (arith, s .pre .1, fluid-places (s .pre .0), are (fourth c) .heads, long))
 
 fill-models-requires-3 : tie.Need-fill-models-requires-3
 fill-models-requires-3 c κs =
-    let p = Begin (fifth c) .pre in
-    let heads = c .before .before .before in
-    let records = heads .before .before .before .before in
-    let bases = records .before .before .before .before in
-    let filled = bases .before .before .before .before in
-    let starts = filled .before .before .before .before in (
-      (accepted-within _ (p .0 .walk) Boundary, boundaries-are _ (p .0 .layoutIs)),
-      omega (
-        arith,
-        p .1,
-        boundary-places (p .0),
-        are (fifth c) .boundaryRecords,
-        heads .fill-models2 .kept,
-        records .fill-models .kept,
-        bases .fill-bases2 .kept,
-        filled .fill-bases .kept,
-        starts .put-starts .kept,
-      ),
-    )
+    let s = Begin (fifth c) in
+    let long = long-heads (c .before .before .before) in
+    (boundaries s, omega (arith, s .pre .1, boundary-places (s .pre .0), are (fifth c) .boundaryRecords, long))
 
 returns : tie.Need-returns
 returns c =
