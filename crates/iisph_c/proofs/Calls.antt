@@ -29,8 +29,8 @@ use Rattle.iisph_validation.specs.Validate.{Validates}
 use Rattle.scene_lengths.specs.declared.Lengths.{Lengths}
 use Rattle.scene_lengths.specs.declared.Needs.{Needs}
 use Rattle.scene_lengths.specs.declared.Needs.the-variants as needs
-use Rattle.iisph_c.specs.Needs.{needsCode, lengthsAfter, NeedsTo}
-use Rattle.iisph_codes.specs.Numbers.{tooShort, shortIndex, countsNeeded, refusedCode, refusedCounts}
+use Rattle.iisph_c.specs.Needs.{lengthsAfter, NeedsTo}
+use Rattle.iisph_codes.specs.Numbers.{tooShort, shortIndex, countsNeeded, refusedCode, walkCode, refusedCounts}
 use Rattle.iisph_codes.specs.Report.{numbersNeeded}
 use Rattle.iisph_c.specs.Step.{stepCode, numbersAfter, countsAfter, hasRoom, StepsTo}
 use Rattle.iisph_c.specs.Step.{lentCode, numbersLent, countsLent, LentTo, LentIndex}
@@ -212,7 +212,7 @@ module _ (b : List ℕ) where
     module _ (m : countsNeeded ≤ length counts) {s : Needs} (is : s ≡ needsOf b) {n : ℕ} {counts′ : List ℕ} where
       pub needs-refused : {r : Refusal} → s ≡ needs.Refused r → n ≡ refusedCode r
           → counts′ ≡ refusedCounts r counts → NeedsTo b counts n counts′
-      unfolding choose needsCode lengthsAfter
+      unfolding choose walkCode lengthsAfter
       needs-refused q e g =
           let t = le-leb countsNeeded (length counts) m in
           let w = refused-check (sym q ∙ is) in
@@ -220,7 +220,7 @@ module _ (b : List ℕ) where
 
       pub needs-lists : {l : Lengths} → s ≡ needs.Lists l → n ≡ 0 → counts′ ≡ sets counts 0 (l .answers ∷ l .work ∷ [])
           → NeedsTo b counts n counts′
-      unfolding choose needsCode lengthsAfter
+      unfolding choose walkCode lengthsAfter
       needs-lists q e g =
           let t = le-leb countsNeeded (length counts) m in
           let w = lists-check (sym q ∙ is) in

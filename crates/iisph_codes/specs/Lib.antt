@@ -2,3 +2,4 @@ pub mod Numbers
 pub mod Report
 pub mod Kernel
 pub mod ClockList
+pub mod ContactLists

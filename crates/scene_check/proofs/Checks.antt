@@ -65,7 +65,7 @@ module _ (b : List ℕ) where
   boundary-number e = rw e
 
   -- the counts of a kind, stored over zeros
-  stored-counts : (κ : Kind) → ModelsWithin κ b → {counts : List ℕ}
+  pub stored-counts : (κ : Kind) → ModelsWithin κ b → {counts : List ℕ}
       → counts ≡ sets (replicate nameableModels 0) 0 (countsOf κ b) → (m : ℕ)
       → getD counts m 0 ≡ getD (countsOf κ b) m 0
   stored-counts κ all e m =

@@ -3,4 +3,5 @@ pub mod Early
 pub mod Records
 pub mod OwnBytes
 pub mod Named
+pub mod Looks
 pub mod Checks

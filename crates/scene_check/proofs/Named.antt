@@ -23,7 +23,7 @@ module _ (b counts counts′ : List ℕ) (h : (m : ℕ) → getD counts m 0 ≡ 
   unfolding name
   name-same at = rw (h (modelAt b at))
 
-  names-same : (n at : ℕ) → names b counts w n at ≡ names b counts′ w n at
+  pub names-same : (n at : ℕ) → names b counts w n at ≡ names b counts′ w n at
   unfolding names
   names-same n at = ap (λ (f : ℕ → Walk). times n f at) (fun-ext name-same)
 

@@ -1,4 +1,5 @@
 pub mod Walk
+pub mod Looks
 pub mod Check
 pub mod Accepted
 pub mod Same

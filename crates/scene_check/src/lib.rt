@@ -1,5 +1,7 @@
 // The check of a packed scene (FORMAT 2): refusals 1 to 7, and where the models of an accepted scene stand.
-mod walk_names;
+pub mod contact_list;
+mod look;
+pub mod walk_names;
 
 use crate::walk_names::all_names;
 use scene_format::Refusal;

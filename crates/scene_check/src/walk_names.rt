@@ -1,6 +1,7 @@
-// The walk through the names of contacts, of a scene whose fields are accepted: refusal 7.
+// The walk through the names of contacts, of a scene whose fields are accepted: refusal 7. Its functions ask for that,
+// and those that are public for a layout; their callers have both from the walk through the fields.
+use crate::contact_list::names;
 use scene_format::Kind;
-use scene_format::Refusal;
 use scene_format::Walk;
 use scene_format::format::BOUNDARY_CONTACT_WIDTH;
 use scene_format::format::BOUNDARY_CONTACTS;
@@ -11,43 +12,21 @@ use scene_format::format::NAMEABLE_MODELS;
 use scene_format::format::RECORD_WIDTH;
 use scene_format::format::VECTOR_WIDTH;
 use scene_format::read::byte;
-use scene_format::read::contact_name;
 use scene_format::read::first_record;
 use scene_format::read::keeps;
 use scene_format::read::particles;
 use scene_layout::Layout;
 use scene_layout::Models;
 ghost use mathlib.Core.Path.{_≡_};
-ghost use Prim.Native.Nat.{_+_, _*_, _≤_};
+ghost use Prim.Native.Nat.{_≤_};
 ghost use lib.ListN.{length};
 ghost use lib.Seq.{sets};
-ghost use Rattle.scene_format.specs.Format.{mostModels, nameWidth, modelNumber, firstHead, countsOf};
+ghost use Rattle.scene_format.specs.Format.{mostModels, modelNumber, firstHead, countsOf};
 ghost use Rattle.scene_format.specs.Within.{RecordWithin, ModelWithin, ModelsWithin};
 ghost use Rattle.scene_layout.specs.Layout.{layoutModels, layoutOf};
 ghost use Rattle.scene_check.specs.Check.{CountsAre};
 ghost use Rattle.scene_check.specs.Walk as walk;
 ghost use Rattle.scene_walk.specs.Walk.{fields};
-
-// A list of n contacts of w bytes. `counts` has the count of each model that they may name, 0 for a model that is not
-// there.
-fn names(s: &[u8], counts: &[usize; NAMEABLE_MODELS], w: usize, n: usize, from: usize) -> Walk
-    requires { ⌜ (nameWidth ≤ w) × (from + w * n ≤ length (now s)) ⌝ }
-    ensures { λ r. ⌜ r ≡ walk.names (now (s .entry)) (now (counts .entry)) w n from ⌝ }
-{
-    let mut at = from;
-    let mut i = 0;
-    while i < n {
-        let name = contact_name(s, at);
-        let model = name.model.0;
-        let particle = name.particle.0;
-        if counts[model] <= particle {
-            return Walk::Refused(Refusal::DanglingContact(at));
-        }
-        at += w;
-        i += 1;
-    }
-    Walk::At(at)
-}
 
 // The record at an offset, of the model with that head. `fluids` and `boundaries` are the counts by model.
 fn record_names(
@@ -65,17 +44,17 @@ fn record_names(
     match kind {
         Kind::Fluid => {
             let n = byte(s, at + FLUID_CONTACTS);
-            let w = names(s, fluids, CONTACT_WIDTH, n, at + RECORD_WIDTH);
+            let w = names(s, fluids, CONTACT_WIDTH, n, at + RECORD_WIDTH).walk;
             let Walk::At(middle) = w else {
                 return w;
             };
             let n = byte(s, at + BOUNDARY_CONTACTS);
-            names(s, boundaries, CONTACT_WIDTH, n, middle)
+            names(s, boundaries, CONTACT_WIDTH, n, middle).walk
         }
         Kind::Boundary => {
             let count = VECTOR_WIDTH + VECTOR_WIDTH * keeps(s, head);
             let n = byte(s, at + count);
-            names(s, boundaries, BOUNDARY_CONTACT_WIDTH, n, at + (count + 1))
+            names(s, boundaries, BOUNDARY_CONTACT_WIDTH, n, at + (count + 1)).walk
         }
     }
 }
@@ -135,7 +114,7 @@ fn models_names(
 }
 
 // The count of each model of a kind, in front of a list.
-fn fill_counts(s: &[u8], kind: Kind, models: Models, counts: &mut [usize])
+pub fn fill_counts(s: &[u8], kind: Kind, models: Models, counts: &mut [usize])
     requires { ⌜ ModelsWithin kind (now s) × (models ≡ layoutModels kind (now s)) ⌝ }
     requires { ⌜ mostModels ≤ length (now counts) ⌝ }
     ensures { λ _. ⌜ now (counts .exit) ≡ sets (now (counts .entry)) 0 (countsOf kind (now (s .entry))) ⌝ }

@@ -7,6 +7,7 @@ use borrow.Author.Needs.{needs}
 use Rattle.scene_fields.specs.Fields.{_▹_}
 use Rattle.scene_check.specs.Walk.{recordNamesOf}
 use Rattle.scene_format.specs.Format.{axes, contactWidth, recordWidth, ownWidth, contactsWidth, nextRecord}
+use Rattle.scene_check.proofs.Looks.{walk-is}
 use Rattle.scene_check.proofs.Named.{names-end, fluid-names-same, boundary-names-same}
 use Rattle.scene_check.proofs.walk_names.record_names.Statement.{statement}
 use Rattle.scene_check.proofs.walk_names.record_names.Tie as tie
@@ -18,7 +19,7 @@ Begin c = c .before .before .before .before .before .before .before
 middle : (c : tie.After-w)
     → c .w .given .0 .0
     ≡ Begin c .args .at + recordWidth axes + contactWidth axes * c .before .before .before .byte .result
-middle c = names-end _ _ _ _ _ _ (sym (c .before .before .names .ensures) ∙ c .w .given .1)
+middle c = names-end _ _ _ _ _ _ (sym (walk-is _ _ _ _ _ (c .before .before .names .ensures)) ∙ c .w .given .1)
 
 byte-requires : tie.Need-byte-requires
 unfolding ownWidth
@@ -43,7 +44,7 @@ returns c =
       p .enum-told .given .1,
       ← r .before .byte .ensures .0,
       sym
-          (r .names .ensures ∙ fluid-names-same (p .before .before .before .pre .0) _ _ _) ∙ q,
+          (walk-is _ _ _ _ _ (r .names .ensures) ∙ fluid-names-same (p .before .before .before .pre .0) _ _ _) ∙ q,
     ) q
 
 byte-requires-2 : tie.Need-byte-requires-2
@@ -95,17 +96,17 @@ returns-2 c =
     rw (
       p .enum-told .given .1,
       ← r .before .byte .ensures .0,
-      sym (r .names .ensures ∙ fluid-names-same are _ _ _) ∙ p₁ .w .given .1,
+      sym (walk-is _ _ _ _ _ (r .names .ensures) ∙ fluid-names-same are _ _ _) ∙ p₁ .w .given .1,
       ← c .before .byte2 .ensures .0,
     )
-    (c .names2 .ensures ∙ boundary-names-same are _ _ _)
+    (walk-is _ _ _ _ _ (c .names2 .ensures) ∙ boundary-names-same are _ _ _)
 
 returns-3 : tie.Need-returns-3
 unfolding recordNamesOf
 returns-3 c =
     let p = c .before .before .before in
     rw (p .enum-told3 .given .1, ← c .before .before .keeps .ensures .0, ← c .before .byte3 .ensures .0)
-    (c .names3 .ensures ∙ boundary-names-same (p .before .before .before .pre .0) _ _ _)
+    (walk-is _ _ _ _ _ (c .names3 .ensures) ∙ boundary-names-same (p .before .before .before .pre .0) _ _ _)
 
 pub record-names-spec : {M : Type 1} → statement M
 record-names-spec =

@@ -1,0 +1,158 @@
+// The check of one contact list of a scene for refusal 7, asked for by whose list it is, with the looks that it takes.
+use scene_check::contact_list::Looked;
+use scene_check::contact_list::names;
+use scene_check::walk_names::fill_counts;
+use scene_format::Kind;
+use scene_format::Refusal;
+use scene_format::Walk;
+use scene_format::format::BOUNDARY_CONTACT_WIDTH;
+use scene_format::format::BOUNDARY_CONTACTS;
+use scene_format::format::CONTACT_WIDTH;
+use scene_format::format::FLUID_CONTACTS;
+use scene_format::format::NAMEABLE_MODELS;
+use scene_format::format::RECORD_WIDTH;
+use scene_format::format::VECTOR_WIDTH;
+use scene_format::read::byte;
+use scene_format::read::first_record;
+use scene_format::read::keeps;
+use scene_format::read::next_record;
+use scene_format::read::particles;
+use scene_layout::Layout;
+use scene_layout::Models;
+use scene_layout::layout_of;
+use scene_walk::fields;
+ghost use mathlib.Core.Path.{_≡_};
+ghost use Prim.Native.Nat.{_<_};
+ghost use Rattle.scene_format.specs.Format.{particlesAt, recordAt};
+ghost use Rattle.scene_format.specs.Within.{RecordWithin, ModelWithin};
+ghost use Rattle.scene_layout.specs.Layout.{layoutModels, layoutOf};
+ghost use Rattle.scene_lists.specs.Lists.{ownerOf, namedOf, CountsOfKind, listLooked};
+ghost use Rattle.scene_lists.specs.Lists.{listAnswer};
+
+// Whose contacts a list holds, and what they name. A fluid particle has a list of each of the first two, a boundary
+// particle one of the third (the Rust's `fluid_fluid_contacts`, `fluid_boundary_contacts` and
+// `boundary_boundary_contacts`).
+pub enum Contacts {
+    FluidFluid,
+    FluidBoundary,
+    BoundaryBoundary,
+}
+
+// What is answered of a list.
+pub enum ListAnswer {
+    // The walk through it, and the looks at its contacts.
+    Checked(Looked),
+    // There is no such list.
+    NoList,
+    // The scene is refused before any list is looked at: 1 to 6.
+    Refused(Refusal),
+}
+
+// The kind of the particles that have such contacts.
+fn owner_of(contacts: Contacts) -> Kind
+    ensures { λ r. ⌜ r ≡ ownerOf contacts ⌝ }
+{
+    match contacts {
+        Contacts::FluidFluid => Kind::Fluid,
+        Contacts::FluidBoundary => Kind::Fluid,
+        Contacts::BoundaryBoundary => Kind::Boundary,
+    }
+}
+
+// The kind of the particles that they name.
+fn named_of(contacts: Contacts) -> Kind
+    ensures { λ r. ⌜ r ≡ namedOf contacts ⌝ }
+{
+    match contacts {
+        Contacts::FluidFluid => Kind::Fluid,
+        Contacts::FluidBoundary => Kind::Boundary,
+        Contacts::BoundaryBoundary => Kind::Boundary,
+    }
+}
+
+// The models of a kind.
+fn models_of(scene: &[u8], layout: Layout, kind: Kind) -> Models
+    requires { ⌜ layout ≡ layoutOf (now scene) ⌝ }
+    ensures { λ r. ⌜ r ≡ layoutModels kind (now (scene .entry)) ⌝ }
+{
+    match kind {
+        Kind::Fluid => layout.fluids,
+        Kind::Boundary => layout.boundaries,
+    }
+}
+
+// The offset of record j of the model with that head.
+fn record_offset(s: &[u8], kind: Kind, head: usize, j: usize) -> usize
+    requires { ⌜ ModelWithin kind (now s) head × (j < particlesAt kind (now s) head) ⌝ }
+    ensures { λ r. ⌜ r ≡ recordAt kind (now (s .entry)) head j .at ⌝ }
+{
+    let mut at = first_record(kind, head);
+    let mut i = 0;
+    while i < j {
+        at = next_record(s, kind, head, at);
+        i += 1;
+    }
+    at
+}
+
+// A list of the record at an offset, of the model with that head. `counts` has the count of each model that its
+// contacts may name.
+fn list_looked(
+    s: &[u8],
+    counts: &[usize; NAMEABLE_MODELS],
+    contacts: Contacts,
+    head: usize,
+    at: usize,
+) -> Looked
+    requires { ⌜ RecordWithin (ownerOf contacts) (now s) head at ⌝ }
+    requires { ⌜ CountsOfKind (namedOf contacts) (now s) (now counts) ⌝ }
+    ensures { λ r. ⌜ r ≡ listLooked contacts (now (s .entry)) (record { head = head; at = at }) ⌝ }
+{
+    match contacts {
+        Contacts::FluidFluid => {
+            let n = byte(s, at + FLUID_CONTACTS);
+            names(s, counts, CONTACT_WIDTH, n, at + RECORD_WIDTH)
+        }
+        Contacts::FluidBoundary => {
+            let before = byte(s, at + FLUID_CONTACTS);
+            let n = byte(s, at + BOUNDARY_CONTACTS);
+            names(
+                s,
+                counts,
+                CONTACT_WIDTH,
+                n,
+                at + RECORD_WIDTH + CONTACT_WIDTH * before,
+            )
+        }
+        Contacts::BoundaryBoundary => {
+            let count = VECTOR_WIDTH + VECTOR_WIDTH * keeps(s, head);
+            let n = byte(s, at + count);
+            names(s, counts, BOUNDARY_CONTACT_WIDTH, n, at + (count + 1))
+        }
+    }
+}
+
+// The check of one contact list: that of particle `particle` of model `model`.
+pub fn check_list(scene: &[u8], contacts: Contacts, model: usize, particle: usize) -> ListAnswer
+    ensures { λ r. ⌜ r ≡ listAnswer (now (scene .entry)) contacts model particle ⌝ }
+{
+    if let Walk::Refused(r) = fields(scene) {
+        return ListAnswer::Refused(r);
+    }
+    let layout = layout_of(scene);
+    let owner = owner_of(contacts);
+    let owners = models_of(scene, layout, owner);
+    let heads = owners.heads;
+    if owners.number <= model {
+        return ListAnswer::NoList;
+    }
+    let head = heads[model];
+    if particles(scene, owner, head) <= particle {
+        return ListAnswer::NoList;
+    }
+    let named = named_of(contacts);
+    let mut counts = [0usize; NAMEABLE_MODELS];
+    fill_counts(scene, named, models_of(scene, layout, named), &mut counts);
+    let at = record_offset(scene, owner, head, particle);
+    ListAnswer::Checked(list_looked(scene, &counts, contacts, head, at))
+}
