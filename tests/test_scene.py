@@ -6,35 +6,32 @@ import io
 import json
 import pathlib
 import random
-import struct
 import subprocess
 import sys
 import unittest
 
 ROOT = pathlib.Path(__file__).resolve().parent.parent
 sys.path[:0] = [str(ROOT / "tools"), str(ROOT / "checks")]
+import reference                            # noqa: E402
 import scene                                # noqa: E402
 from parts import step_rules, step_scenes   # noqa: E402
 
 
 @functools.cache
 def listed():
-    """The scenes of crates/cases_step: four bytes of length, then the scene."""
-    data, at, found = (ROOT / "crates/cases_step/data/scenes").read_bytes(), 0, []
-    while at < len(data):
-        size = struct.unpack_from(">I", data, at)[0]
-        found.append(data[at + 4:at + 4 + size])
-        at += 4 + size
-    return found
+    """The scenes of crates/cases_step."""
+    return reference.unbatch(ROOT / "crates/cases_step/data/scenes")
 
 
-def blocks():
-    """The scenes of crates/cases_check, in blocks of 512 bytes whose last two are the length, with
-    their verdicts."""
-    data = (ROOT / "crates/cases_check/data/scenes").read_bytes()
+@functools.cache
+def checked():
+    """The scenes of crates/cases_check, each with its refusal (number and place, or None) and its
+    looks."""
+    def answer(words):
+        return (None, words[1:]) if words[0] == "accepted" else (tuple(map(int, words[:2])), words[2:])
     lines = (ROOT / "crates/cases_check/stdout").read_text().splitlines()
-    found = [data[at:at + 512] for at in range(0, len(data), 512)]
-    return [(block[:struct.unpack(">H", block[510:])[0]], line) for block, line in zip(found, lines, strict=True)]
+    scenes = reference.unbatch(ROOT / "crates/cases_check/data/scenes")
+    return [(data, *answer(line.split())) for data, line in zip(scenes, lines, strict=True)]
 
 
 @functools.cache
@@ -83,8 +80,8 @@ class Packed(unittest.TestCase):
     def test_first_fault_is_the_refusal(self):
         for data in listed():
             self.assertEqual(first_fault(data), refusal(data))
-        for data, line in blocks():
-            self.assertEqual(first_fault(data), None if line == "accepted" else tuple(map(int, line.split())))
+        for data, found, _ in checked():
+            self.assertEqual(first_fault(data), found)
 
     def test_fields_cover_the_scene(self):
         for data in listed():
@@ -130,11 +127,10 @@ class Places(unittest.TestCase):
             self.assertTrue(scene.at(rich, at)[0][0].startswith(name), (at, scene.at(rich, at)))
 
     def test_a_refusal_is_explained_where_it_stands(self):
-        for data, line in blocks()[::7]:
-            if line != "accepted":
-                number, place = map(int, line.split())
-                self.assertTrue(any(said.startswith("refusal %d at %d: " % (number, place))
-                                    for said in scene.at(data, place)[0]), (line, scene.at(data, place)))
+        for data, found, _ in checked()[::7]:
+            if found:
+                said = scene.at(data, found[1])[0]
+                self.assertTrue(any(line.startswith("refusal %d at %d: " % found) for line in said), said)
 
     def test_damage_never_stops_it(self):
         draw, rich = random.Random(1), step_scenes.rich()
