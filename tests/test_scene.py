@@ -141,6 +141,38 @@ class Places(unittest.TestCase):
                     data[draw.randrange(min(len(data), draw.choice((2, 70, 500))))] = draw.randrange(256)
             self.assertTrue(scene.at(bytes(data), draw.randrange(600))[0])
             self.assertTrue(scene.show(bytes(data), False)[0])
+            self.assertEqual(len(scene.looks(bytes(data))[1]), 1 if scene.Walk(bytes(data)).faults else 0)
+
+
+class Looks(unittest.TestCase):
+    LOST = step_scenes.changed(step_scenes.rich(), 449, b"\xF0\0")
+
+    def test_a_line_for_each_list_that_is_checked(self):
+        text, notes = scene.looks(self.LOST)
+        self.assertEqual(text.splitlines(), [
+            "   162  fluid 1, particle 0, fluid contacts: 2 looks at 2 contacts",
+            "   230  fluid 1, particle 0, wall contacts: 1 look at 1 contact",
+            "   354  fluid 1, particle 1, fluid contacts: 1 look at 1 contact",
+            "   388  fluid 1, particle 1, wall contacts: none",
+            "   439  wall 0, particle 0, contacts: 2 looks at 2 contacts"])
+        self.assertEqual(notes, scene.show(self.LOST, False)[1])
+        self.assertIn(" 162  fluid 1, particle 0, fluid contacts: 1 look at 2 contacts\n",
+                      scene.looks(step_scenes.rich(near=(2, 0)))[0])
+
+    def test_the_looks_are_those_of_the_check(self):
+        for data, found, looks in checked():
+            text, notes = scene.looks(data)
+            said = [line.split(": ")[1].split()[0].replace("none", "0") for line in text.splitlines()]
+            self.assertEqual(said, looks)
+            self.assertEqual(len(notes), 1 if found else 0)
+
+    def test_status_and_outputs(self):
+        cut = self.LOST[:-1]
+        for data, status, lines, said in ((step_scenes.rich(), 0, 6, ""), (self.LOST, 1, 5, "refusal 7 at 449: "),
+                                          (cut, 1, 0, "refusal 1 at 490: ")):
+            found, text, noted = command("looks", "-", given=data)
+            self.assertEqual((found, text.count(b"\n"), noted[:len(said)], noted.count("\n")),
+                             (status, lines, said, status))
 
 
 class Mistakes(unittest.TestCase):
