@@ -2,15 +2,24 @@
 """Writes crates/cases_check/data/scenes and crates/cases_check/stdout: packed scenes, and what
 their check must answer.
 
-The answers come from `verdict`, a reader written from the specification alone: it knows nothing of
-the code or its definitions.
+data/scenes has for each scene its length in four bytes, most significant first, and its bytes;
+stdout has a line for each: the verdict, `accepted` or a refusal's number and place, and then the
+looks at each contact list that was checked for refusal 7. These are all lists, in the order of the
+scene, or those up to and with the one that is refused; of a scene that is refused 1 to 6, none. The
+looks are the list's contacts, or those up to and with the one that is refused.
+
+The answers come from a reader written from the specification alone: it knows nothing of the code or
+its definitions.
 """
 import argparse
 import math
 import pathlib
 import struct
 
-BLOCK = 512
+from parts import list_scenes
+from reference import batch
+
+CRATE = pathlib.Path(__file__).resolve().parent.parent / "crates" / "cases_check"
 
 
 class Refused(Exception):
@@ -50,7 +59,9 @@ class Reader:
         return found
 
 
-def verdict(data):
+def contact_lists(data):
+    """The contact lists of a scene whose fields are all accepted, in its order. A contact is its
+    place and whether what it names is missing."""
     r = Reader(data)
     _, first = r.take(1)
     if first >> 4 != 1:
@@ -65,7 +76,8 @@ def verdict(data):
     r.take(1)
     r.take(1)
     r.doubles(6)
-    fluids, boundaries, to_fluids, to_boundaries = [], [], [], []
+    fluids, boundaries = [], []      # the models' counts
+    lists = []                       # of each list the counts, once they are all read, for its names; and these
     for _ in range(first & 15):
         here, n = r.take(2)
         fluids.append(r.count(n, here))
@@ -74,29 +86,39 @@ def verdict(data):
             r.doubles(11)
             _, a = r.take(1)
             _, b = r.take(1)
-            to_fluids += r.names(a, 4)
-            to_boundaries += r.names(b, 4)
+            lists += [(fluids, r.names(a, 4)), (boundaries, r.names(b, 4))]
     for _ in range(second >> 4):
         here, n = r.take(2)
         boundaries.append(r.count(n & 0x7FFF, here))
         for _ in range(n & 0x7FFF):
             r.doubles(6 if n >> 15 else 3)
             _, a = r.take(1)
-            to_boundaries += r.names(a, 1)
+            lists.append((boundaries, r.names(a, 1)))
     if r.at < len(data):
         raise Refused(5, r.at)
-    lost = [at for at, m, j in to_fluids if m >= len(fluids) or j >= fluids[m]]
-    lost += [at for at, m, j in to_boundaries if m >= len(boundaries) or j >= boundaries[m]]
-    if lost:
-        raise Refused(7, min(lost))
+    return [[(at, m >= len(counts) or j >= counts[m]) for at, m, j in names] for counts, names in lists]
+
+
+# ---- the answer
+
+def until(ends, things):
+    """The things up to and with the first for which `ends` holds, or all of them."""
+    return things[:next((k + 1 for k, thing in enumerate(things) if ends(thing)), len(things))]
+
+
+def is_missing(contact): return contact[1]
+def is_refused(contacts): return any(map(is_missing, contacts))
 
 
 def line(data):
     try:
-        verdict(data)
+        lists = contact_lists(data)
     except Refused as e:
         return "%d %d\n" % e.args
-    return "accepted\n"
+    places = [at for contacts in lists for at, missing in contacts if missing]
+    verdict = "7 %d" % min(places) if places else "accepted"
+    looks = [len(until(is_missing, contacts)) for contacts in until(is_refused, lists)]
+    return " ".join([verdict, *map(str, looks)]) + "\n"
 
 
 # ---- scenes
@@ -189,20 +211,20 @@ def cases():
     yield changed(whole, (4, 0x7F), (5, 0xF0), (52, 0xFF))
     yield changed(whole, (4, 0xFF), (5, 0xF8))[:12]
     yield changed(whole, (4, 0xFF), (5, 0xF8))[:11]
+    yield from list_scenes.scenes()
 
 
-def block(data):
-    assert len(data) <= BLOCK - 2
-    return data.ljust(BLOCK - 2, b"\0") + struct.pack(">H", len(data))
+def files():
+    """What is written where."""
+    scenes = list(cases())
+    return {CRATE / "data" / "scenes": batch(scenes), CRATE / "stdout": "".join(map(line, scenes)).encode()}
 
 
 def main():
     argparse.ArgumentParser(description=__doc__, formatter_class=argparse.RawDescriptionHelpFormatter).parse_args()
-    crate = pathlib.Path(__file__).resolve().parent.parent / "crates" / "cases_check"
-    scenes = list(cases())
-    (crate / "data" / "scenes").write_bytes(b"".join(map(block, scenes)))
-    (crate / "stdout").write_text("".join(map(line, scenes)))
-    print(len(scenes), "scenes")
+    for path, content in files().items():
+        path.write_bytes(content)
+        print("%s: %d bytes" % (path.name, len(content)))
 
 
 if __name__ == "__main__":

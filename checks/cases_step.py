@@ -18,7 +18,6 @@ cases_input reads a scene of 32,769 bytes from standard input and one of 32,768 
 data/longest. The step itself is parts/step_rules.py.
 """
 import pathlib
-import struct
 import sys
 
 from parts.step_cases import readings, starred, swept
@@ -26,6 +25,7 @@ from parts.step_drawn import drawn
 from parts.step_faults import faults, most_particles, sizes
 from parts.step_rules import LONGEST, lines, step, walk
 from parts.step_scenes import pair, rich, scene, scene_a
+from reference import batch
 
 ROOT = pathlib.Path(__file__).resolve().parent.parent
 # Scenes with lengths of the lists lent, for answers and for work, and a piece of the text.
@@ -46,7 +46,7 @@ def files():
     """What is written where."""
     scenes, longest = [case[1] for case in cases()], most_particles()
     short = [lines(scene_a(), answers=a, work=w) for a, w in ((6, 14), (7, 13), (7, 14))]
-    made = {"crates/cases_step/data/scenes": b"".join(struct.pack(">I", len(data)) + data for data in scenes),
+    made = {"crates/cases_step/data/scenes": batch(scenes),
             "crates/cases_step/stdout": "".join(map(lines, scenes)).encode(),
             "crates/cases_short_lists/data/scene": scene_a(),
             "crates/cases_short_lists/stdout": "".join(short).encode(),

@@ -1,6 +1,6 @@
 #!/usr/bin/env python3
-"""The step of checks/parts/step_rules.py, loaded from its text or an edit of it; and a subject for
-compare.py.
+"""The step of checks/parts/step_rules.py, loaded from its text or an edit of it; lists of scenes,
+as programs read them; and a subject for compare.py.
 
   checks/reference.py [--any-length]    prints the lines of all cases of the file `scenes` in the
                                         current folder, as the program cases_step does; with
@@ -33,6 +33,8 @@ def load(source):
 
 
 def batch(scenes):
+    """A file of these scenes: of each its length in four bytes, most significant first, and its
+    bytes."""
     return b"".join(struct.pack(">I", len(data)) + data for data in scenes)
 
 

@@ -1,6 +1,8 @@
-"""The case programs' files are what checks/ works out, to the byte."""
+"""The case programs' files are what checks/ works out, to the byte; and the looks of cases_check at
+contact lists."""
 import contextlib
 import io
+import itertools
 import pathlib
 import sys
 import unittest
@@ -11,6 +13,9 @@ import cases_check    # noqa: E402
 import cases_clock    # noqa: E402
 import cases_kernel   # noqa: E402
 import cases_step     # noqa: E402
+from parts import list_scenes, packing    # noqa: E402
+from parts.step_rules import LONGEST      # noqa: E402
+from parts.step_scenes import EMPTY, changed, rich, scene_a, to    # noqa: E402
 
 
 class Files(unittest.TestCase):
@@ -25,10 +30,8 @@ class Files(unittest.TestCase):
             self.assertTrue(path.read_bytes() == content, path)
 
     def test_check(self):
-        crate, scenes = ROOT / "crates/cases_check", list(cases_check.cases())
-        data = b"".join(map(cases_check.block, scenes))
-        self.assertTrue((crate / "data/scenes").read_bytes() == data)
-        self.assertTrue((crate / "stdout").read_text() == "".join(map(cases_check.line, scenes)))
+        for path, content in cases_check.files().items():
+            self.assertTrue(path.read_bytes() == content, path)
 
     def test_kernel(self):
         def squeezed(text): return "".join(text.split())      # rt fmt may break lines elsewhere
@@ -36,6 +39,78 @@ class Files(unittest.TestCase):
         self.assertTrue((crate / "stdout").read_text() == cases_kernel.lines())
         listed = (crate / "src/cases.rt").read_text()
         self.assertEqual(squeezed(listed), squeezed(cases_kernel.source()))
+
+
+def why_lost(contact, models):
+    """How a contact's name is beyond what is there, or None."""
+    model, number, *_ = contact
+    if model >= len(models):
+        return {len(models): "next model", 15: "model 15"}.get(model, "model")
+    count = len(models[model][1])
+    return {count: "next particle", 4095: "particle 4095"}.get(number, "particle") if number >= count else None
+
+
+def lists_of(scene):
+    """The sort of each contact list in the order of the scene, and why each contact is lost."""
+    fluids, walls = scene["fluids"], scene["walls"]
+    found = [(sort, contacts, models) for _, particles in fluids for _, *both in particles
+             for sort, contacts, models in zip(("with fluids", "with walls"), both, (fluids, walls))]
+    found += [("kept" if keeps else "not kept", contacts, walls) for keeps, particles in walls
+              for _, contacts in particles]
+    return [(sort, [why_lost(contact, models) for contact in contacts]) for sort, contacts, models in found]
+
+
+def answered():
+    """Of each scene that is accepted or refused 7: the looks at the lists that passed, those at the
+    refused one (a list of one or none), and all lists."""
+    for data in cases_check.cases():
+        verdict, *figures = cases_check.line(data).split()
+        if verdict == "accepted":
+            yield list(map(int, figures)), [], lists_of(packing.unpack(data))
+        if verdict == "7":
+            _, *passed, refused = map(int, figures)
+            yield passed, [refused], lists_of(packing.unpack(data))
+
+
+class Looks(unittest.TestCase):
+    def test_figures_by_hand(self):
+        lost, first, second = b"\xF0\0", 4, 5      # a name of model 15; the two lists of a particle of `crowded`
+        for data, line in (
+                (EMPTY, "accepted"), (scene_a(), "accepted 1 0"), (scene_a([]), "accepted 0 0"),
+                (scene_a([to(0, 1, 2.0)]), "7 152 1"),
+                (rich(), "accepted 2 1 1 0 2 1"), (rich()[:-1], "1 490"), (rich((2, 0)) + b"\0", "5 498"),
+                *[(changed(rich(), at, lost), "7 %d %s" % (at, looks)) for at, looks in (
+                    (162, "1"), (196, "2"), (230, "2 1"), (354, "2 1 1"), (439, "2 1 1 0 1"), (449, "2 1 1 0 2"),
+                    (488, "2 1 1 0 2 1"))],
+                (list_scenes.crowded({first: [(15, 0), (0, 0)], second: [(15, 0)]}), "7 590 2 1 0 4 1"),
+                (list_scenes.crowded({first: [], second: [(0, 0), (15, 0)]}), "7 624 2 1 0 4 0 2"),
+                (list_scenes.crowded({first: [(0, 0)] * 255, second: [(15, 0)]}), "7 9260 2 1 0 4 255 1")):
+            self.assertEqual(cases_check.line(data), line + "\n")
+
+    def test_looks_end_at_the_first_lost_contact(self):
+        for passed, refused, lists in answered():
+            self.assertEqual([(n, False) for n in passed], [(len(lost), any(lost)) for _, lost in lists[:len(passed)]])
+            if refused:
+                lost = lists[len(passed)][1]
+                self.assertEqual([why is not None for why in lost[:refused[0]]], [False] * (refused[0] - 1) + [True])
+            else:
+                self.assertEqual(len(passed), len(lists))
+
+    def test_every_sort_of_list_is_there(self):
+        sorts = "with fluids", "with walls", "kept", "not kept"
+        why = "next model", "model 15", "next particle", "particle 4095"
+        sound, broken, behind = set(), set(), 0
+        for passed, refused, lists in answered():
+            sound |= {(sort, len(lost)) for sort, lost in lists[:len(passed)]}
+            for n, (sort, lost) in zip(refused, lists[len(passed):]):
+                broken.add((sort, (len(lost), n - 1), lost[n - 1]))
+                behind += any(any(lost) for _, lost in lists[len(passed) + 1:])
+        self.assertLessEqual(set(itertools.product(sorts, (0, 1, 255))), sound)
+        self.assertLessEqual(set(itertools.product(sorts, ((1, 0), (255, 0), (255, 127), (255, 254)), why)), broken)
+        self.assertGreater(behind, 4)      # scenes with a list that would be refused behind the one that is
+
+    def test_scenes_are_not_too_long(self):
+        self.assertEqual(max(map(len, cases_check.cases())), LONGEST)
 
 
 if __name__ == "__main__":

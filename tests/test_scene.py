@@ -6,35 +6,32 @@ import io
 import json
 import pathlib
 import random
-import struct
 import subprocess
 import sys
 import unittest
 
 ROOT = pathlib.Path(__file__).resolve().parent.parent
 sys.path[:0] = [str(ROOT / "tools"), str(ROOT / "checks")]
+import reference                            # noqa: E402
 import scene                                # noqa: E402
 from parts import step_rules, step_scenes   # noqa: E402
 
 
 @functools.cache
 def listed():
-    """The scenes of crates/cases_step: four bytes of length, then the scene."""
-    data, at, found = (ROOT / "crates/cases_step/data/scenes").read_bytes(), 0, []
-    while at < len(data):
-        size = struct.unpack_from(">I", data, at)[0]
-        found.append(data[at + 4:at + 4 + size])
-        at += 4 + size
-    return found
+    """The scenes of crates/cases_step."""
+    return reference.unbatch(ROOT / "crates/cases_step/data/scenes")
 
 
-def blocks():
-    """The scenes of crates/cases_check, in blocks of 512 bytes whose last two are the length, with
-    their verdicts."""
-    data = (ROOT / "crates/cases_check/data/scenes").read_bytes()
+@functools.cache
+def checked():
+    """The scenes of crates/cases_check, each with its refusal (number and place, or None) and its
+    looks."""
+    def answer(words):
+        return (None, words[1:]) if words[0] == "accepted" else (tuple(map(int, words[:2])), words[2:])
     lines = (ROOT / "crates/cases_check/stdout").read_text().splitlines()
-    found = [data[at:at + 512] for at in range(0, len(data), 512)]
-    return [(block[:struct.unpack(">H", block[510:])[0]], line) for block, line in zip(found, lines, strict=True)]
+    scenes = reference.unbatch(ROOT / "crates/cases_check/data/scenes")
+    return [(data, *answer(line.split())) for data, line in zip(scenes, lines, strict=True)]
 
 
 @functools.cache
@@ -83,8 +80,8 @@ class Packed(unittest.TestCase):
     def test_first_fault_is_the_refusal(self):
         for data in listed():
             self.assertEqual(first_fault(data), refusal(data))
-        for data, line in blocks():
-            self.assertEqual(first_fault(data), None if line == "accepted" else tuple(map(int, line.split())))
+        for data, found, _ in checked():
+            self.assertEqual(first_fault(data), found)
 
     def test_fields_cover_the_scene(self):
         for data in listed():
@@ -130,11 +127,10 @@ class Places(unittest.TestCase):
             self.assertTrue(scene.at(rich, at)[0][0].startswith(name), (at, scene.at(rich, at)))
 
     def test_a_refusal_is_explained_where_it_stands(self):
-        for data, line in blocks()[::7]:
-            if line != "accepted":
-                number, place = map(int, line.split())
-                self.assertTrue(any(said.startswith("refusal %d at %d: " % (number, place))
-                                    for said in scene.at(data, place)[0]), (line, scene.at(data, place)))
+        for data, found, _ in checked()[::7]:
+            if found:
+                said = scene.at(data, found[1])[0]
+                self.assertTrue(any(line.startswith("refusal %d at %d: " % found) for line in said), said)
 
     def test_damage_never_stops_it(self):
         draw, rich = random.Random(1), step_scenes.rich()
@@ -145,6 +141,38 @@ class Places(unittest.TestCase):
                     data[draw.randrange(min(len(data), draw.choice((2, 70, 500))))] = draw.randrange(256)
             self.assertTrue(scene.at(bytes(data), draw.randrange(600))[0])
             self.assertTrue(scene.show(bytes(data), False)[0])
+            self.assertEqual(len(scene.looks(bytes(data))[1]), 1 if scene.Walk(bytes(data)).faults else 0)
+
+
+class Looks(unittest.TestCase):
+    LOST = step_scenes.changed(step_scenes.rich(), 449, b"\xF0\0")
+
+    def test_a_line_for_each_list_that_is_checked(self):
+        text, notes = scene.looks(self.LOST)
+        self.assertEqual(text.splitlines(), [
+            "   162  fluid 1, particle 0, fluid contacts: 2 looks at 2 contacts",
+            "   230  fluid 1, particle 0, wall contacts: 1 look at 1 contact",
+            "   354  fluid 1, particle 1, fluid contacts: 1 look at 1 contact",
+            "   388  fluid 1, particle 1, wall contacts: none",
+            "   439  wall 0, particle 0, contacts: 2 looks at 2 contacts"])
+        self.assertEqual(notes, scene.show(self.LOST, False)[1])
+        self.assertIn(" 162  fluid 1, particle 0, fluid contacts: 1 look at 2 contacts\n",
+                      scene.looks(step_scenes.rich(near=(2, 0)))[0])
+
+    def test_the_looks_are_those_of_the_check(self):
+        for data, found, looks in checked():
+            text, notes = scene.looks(data)
+            said = [line.split(": ")[1].split()[0].replace("none", "0") for line in text.splitlines()]
+            self.assertEqual(said, looks)
+            self.assertEqual(len(notes), 1 if found else 0)
+
+    def test_status_and_outputs(self):
+        cut = self.LOST[:-1]
+        for data, status, lines, said in ((step_scenes.rich(), 0, 6, ""), (self.LOST, 1, 5, "refusal 7 at 449: "),
+                                          (cut, 1, 0, "refusal 1 at 490: ")):
+            found, text, noted = command("looks", "-", given=data)
+            self.assertEqual((found, text.count(b"\n"), noted[:len(said)], noted.count("\n")),
+                             (status, lines, said, status))
 
 
 class Mistakes(unittest.TestCase):

@@ -1,16 +1,20 @@
 #!/usr/bin/env python3
-"""Packed scenes that one can read: from JSON to bytes and back, and what stands at an offset.
+"""Packed scenes that one can read: from JSON to bytes and back, what stands at an offset, and how
+far each contact list is checked.
 
   tools/scene.py pack SCENE.json SCENE.bin    packs a scene that is written as JSON
   tools/scene.py show SCENE.bin               a packed scene as text, each line behind its offset
   tools/scene.py show --json SCENE.bin        the same as JSON; packed again it is the same bytes
   tools/scene.py at OFFSET SCENE.bin          which field stands at an offset: for `refused 7 152`
                                               ask for 152
+  tools/scene.py looks SCENE.bin              how many contacts of each list are looked at for
+                                              refusal 7, behind the offset of the first
 
-A file named - is standard input or output. Status: 0; 1 if `show` or `at` meets a scene that a step
-refuses for its bytes (1 to 7), if nothing stands at the offset, or if the JSON is wrong; 2 if a
-file or the command is. `pack` writes what the JSON says and ends with 0, and notes what a step will
-refuse.
+A file named - is standard input or output. Status: 0; 1 if `show`, `at` or `looks` meets a scene
+that a step refuses for its bytes (1 to 7), if nothing stands at the offset, or if the JSON is
+wrong; 2 if a file or the command is. `pack` writes what the JSON says and ends with 0, and notes
+what a step will refuse. `looks` has no line for a list behind a refused contact, and none at all
+for a scene that is refused 1 to 6: its lists are not checked.
 
 The JSON, in the words of docs/FORMAT.md. What has a value below is that where it is left out; a
 list that is left out is empty.
@@ -42,7 +46,8 @@ from scene_walk import Walk, span, titled, told
 # A command's words, how many may be beside the options, and whether an option has a value.
 COMMANDS = {"pack": ("pack SCENE.json SCENE.bin", [2], {}),
             "show": ("show [--json] SCENE.bin", [1], {"--json": False}),
-            "at": ("at OFFSET SCENE.bin", [2], {})}
+            "at": ("at OFFSET SCENE.bin", [2], {}),
+            "looks": ("looks SCENE.bin", [1], {})}
 
 
 # ---- show
@@ -104,6 +109,26 @@ def at(data, offset):
     return lines + here, elsewhere, field is not None and not walk.faults
 
 
+# ---- looks
+
+def list_lines(walk, last):
+    """A line for each contact list, if contacts are looked at up to the offset `last`: its offset,
+    whose it is, the looks at it."""
+    for found in walk.lists:
+        if found.at <= last:
+            looked, n = sum(field.at <= last for field, _, _ in found.contacts), len(found.contacts)
+            said = "%s at %s" % (counted(looked, "look"), counted(n, "contact")) if n else "none"
+            yield "%6d  %s, %ss: %s" % (found.at, titled(found.owner), found.word, said)
+
+
+def looks(data):
+    """The text, and the refusal that ends the check."""
+    walk = Walk(data)
+    number, last, _ = walk.faults[0] if walk.faults else (7, walk.end, "")
+    lines = list_lines(walk, last) if number == 7 else []
+    return "".join(line + "\n" for line in lines), told(walk.faults[:1])
+
+
 # ---- the commands
 
 def write(name, data):
@@ -117,8 +142,9 @@ def run(command, words, options):
         data, notes = pack(read(words[0]))
         write(words[1], data)
         return notes, 0
-    if command == "show":
-        text, notes = show(read(words[0]), "--json" in options)
+    if command in ("show", "looks"):
+        data = read(words[0])
+        text, notes = show(data, "--json" in options) if command == "show" else looks(data)
         write("-", text.encode())
         return notes, 1 if notes else 0
     if not re.fullmatch("[0-9]{1,12}", words[0]):

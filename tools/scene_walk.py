@@ -25,13 +25,14 @@ class Walk:
     """Goes through a packed scene as far as it can, also where a step would have refused it.
 
     `fields`: those met, the last one perhaps cut; a field's `owner` is a list of words and numbers,
-    its `parts` what it adds to the owner's JSON. `faults`: what a step refuses, as number, offset
-    and text: the first of them is its answer, unless that is 8, 9 or 10. `end`: where the last
-    field ends.
+    its `parts` what it adds to the owner's JSON. `lists`: the contact lists, each with the offset
+    of its first contact or, where it has none, of what follows. `faults`: what a step refuses, as
+    number, offset and text: the first of them is its answer, unless that is 8, 9 or 10. `end`:
+    where the last field ends.
     """
 
     def __init__(self, data):
-        self.data, self.end, self.fields, self.faults, self.contacts, self.counts = data, 0, [], [], [], {}
+        self.data, self.end, self.fields, self.faults, self.lists, self.counts = data, 0, [], [], [], {}
         try:
             self.scene()
             self.behind()
@@ -108,6 +109,7 @@ class Walk:
             self.doubles(owner, form)
             for word, n in [(word, self.whole(owner, "number of %ss" % word, 1, lambda n: counted(n, word)))
                             for word in words]:
+                self.lists.append(Record(at=self.end, owner=owner, word=word, contacts=[]))
                 for k in range(n):
                     self.contact(owner + ((word, k),), *CONTACT[word])
 
@@ -115,7 +117,7 @@ class Walk:
         name = self.whole(owner, "the particle it names", 2,
                           lambda n: "names %s %d, particle %d" % (model, n >> 12, n & 0xFFF),
                           lambda n: {model: n >> 12, "particle": n & 0xFFF})
-        self.contacts.append((self.fields[-1], (model, name >> 12), name & 0xFFF))
+        self.lists[-1].contacts.append((self.fields[-1], (model, name >> 12), name & 0xFFF))
         self.doubles(owner, form)
 
     def behind(self):
@@ -125,7 +127,7 @@ class Walk:
                        "what stands from offset %d on (%s) follows the last record; cut it off, or mend the counts "
                        "before it"
                        % (self.end, counted(len(self.data) - self.end, "byte")))
-        for field, model, k in self.contacts:
+        for field, model, k in (contact for found in self.lists for contact in found.contacts):
             if k >= self.counts.get(model, 0):
                 there = "there is no %s" % titled([model])
                 if model in self.counts:

@@ -1,4 +1,4 @@
-"""Scenes that are refused, and the longest ones, for cases_step.py."""
+"""Scenes that are refused, and the longest ones, for cases_step.py and list_scenes.py."""
 from parts.step_cases import swept
 from parts.step_rules import LONGEST, row
 from parts.step_scenes import (EMPTY, X, beside, changed, doubles, fluid, one, pair, particle, rich, scene, scene_a,

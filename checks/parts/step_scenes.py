@@ -1,5 +1,5 @@
-"""Packed scenes put together from pieces, for cases_step.py, cases_clock.py and tests/: the
-specification's scenes A and B, and others. A stone is a particle of a wall."""
+"""Packed scenes put together from pieces, for cases_step.py, cases_clock.py, list_scenes.py and
+tests/: the specification's scenes A and B, and others. A stone is a particle of a wall."""
 import struct
 
 from parts.step_rules import ZERO
