@@ -1,10 +1,10 @@
--- What a line shows first of a verdict, and which line a block comes to. Definitions only.
-use Prim.Native.Nat.{ℕ}
+-- What a line shows first of a verdict, and what is known of the scene that comes next. Definitions only.
+use Prim.Native.Nat.{ℕ, _≤_}
+use mathlib.Core.Path.{_≡_}
+use mathlib.Core.Bool.{Bool}
 use mathlib.Core.List.{List}
-use lib.Dec.{ltb}
-use lib.ListN.{length, take}
+use lib.ListN.{length}
 use Rattle.lists.specs.Lists.{choose}
-use Rattle.scene_format.specs.Bytes.{be16At}
 use Rattle.scene_check.specs.Check.{verdictOf}
 use Rattle.scene_format.specs.Refusals.{numberOf}
 use Rattle.scene_check.specs.Walk.{checked}
@@ -17,12 +17,13 @@ abbrev pub printed : Verdict → ℕ
 printed Accepted = 0
 printed (Refused r) = numberOf r
 
--- the scene in front of a block, whose length is in the last two bytes
-unfoldable pub sceneIn : List ℕ → List ℕ
-sceneIn block = take (be16At block 510) block
+-- the longest scene that is kept
+abbrev pub room : ℕ
+room = 32768
 
--- none if the block is cut short, or the length leaves no room for itself
-unfoldable pub lineOf : List ℕ → Line
-lineOf block =
-    choose (ltb (length block) 512) Nothing
-    (choose (ltb 510 (be16At block 510)) Nothing (Number (printed (verdictOf (checked (sceneIn block))))))
+-- which scene comes, if one does, is not known
+pub record FromNext (line : Line) : Type 0 where
+  pub scene : List ℕ
+  pub short : length scene ≤ room
+  pub came : Bool
+  pub is : line ≡ choose came (Number (printed (verdictOf (checked scene)))) Nothing

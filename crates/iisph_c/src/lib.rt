@@ -4,8 +4,7 @@ use iisph_codes::COUNTS;
 use iisph_codes::NUMBERS;
 use iisph_codes::TOO_SHORT;
 use iisph_codes::advance_listed;
-use iisph_codes::contact_lists::list_asked;
-use iisph_codes::contact_lists::write_list;
+use iisph_codes::contact_lists::tell_list;
 use iisph_codes::write_index;
 use iisph_codes::write_kernel;
 use iisph_codes::write_lengths;
@@ -176,7 +175,7 @@ pub extern "C" fn iisph_check_list(
         ListTo (listAsked (now (scene .entry)) contacts model particle) (now (counts .entry)) r (now (counts .exit))
         ⌝ }
 {
-    write_list(list_asked(scene, contacts, model, particle), counts)
+    tell_list(scene, contacts, model, particle, counts)
 }
 
 // The kernel at the distance r, with the radius h.

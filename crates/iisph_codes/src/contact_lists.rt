@@ -10,7 +10,7 @@ use scene_lists::check_list;
 ghost use mathlib.Core.Path.{_≡_};
 ghost use Prim.Native.Nat.{_≤_};
 ghost use lib.ListN.{length};
-ghost use Rattle.iisph_codes.specs.ContactLists.{listAsked, lookedCode, lookedCounts, ListTo};
+ghost use Rattle.iisph_codes.specs.ContactLists.{listAsked, lookedCode, lookedCounts, listCode, listCounts, ListTo};
 ghost use Rattle.iisph_codes.specs.Numbers.{countsNeeded};
 
 // The numbers that contacts have in a call.
@@ -24,7 +24,7 @@ const BOUNDARY_BOUNDARY: u64 = 2;
 const NO_LIST: u64 = 97;
 
 // The check of the list that a call asks for.
-pub fn list_asked(scene: &[u8], contacts: u64, model: usize, particle: usize) -> ListAnswer
+fn list_asked(scene: &[u8], contacts: u64, model: usize, particle: usize) -> ListAnswer
     ensures { λ r. ⌜ r ≡ listAsked (now (scene .entry)) contacts model particle ⌝ }
 {
     if contacts == FLUID_FLUID {
@@ -52,16 +52,32 @@ fn write_looked(looked: Looked, counts: &mut [u64]) -> u64
     }
 }
 
-// The answer, where the list has places for it.
-pub fn write_list(answer: ListAnswer, counts: &mut [u64]) -> u64
-    ensures { λ n. ⌜ ListTo answer (now (counts .entry)) n (now (counts .exit)) ⌝ }
+// The answer of a list's check.
+fn write_list(answer: ListAnswer, counts: &mut [u64]) -> u64
+    requires { ⌜ countsNeeded ≤ length (now counts) ⌝ }
+    ensures { λ n. ⌜ (n ≡ listCode answer) × (now (counts .exit) ≡ listCounts answer (now (counts .entry))) ⌝ }
 {
-    if counts.len() < COUNTS {
-        return TOO_SHORT;
-    }
     match answer {
         ListAnswer::Checked(looked) => write_looked(looked, counts),
         ListAnswer::NoList => NO_LIST,
         ListAnswer::Refused(refusal) => write_refusal(refusal, counts),
     }
+}
+
+// The check of the list that a call asks for, where there are places for what is told of it.
+pub fn tell_list(
+    scene: &[u8],
+    contacts: u64,
+    model: usize,
+    particle: usize,
+    counts: &mut [u64],
+) -> u64
+    ensures { λ n. ⌜
+        ListTo (listAsked (now (scene .entry)) contacts model particle) (now (counts .entry)) n (now (counts .exit))
+        ⌝ }
+{
+    if counts.len() < COUNTS {
+        return TOO_SHORT;
+    }
+    write_list(list_asked(scene, contacts, model, particle), counts)
 }

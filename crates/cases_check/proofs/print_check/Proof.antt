@@ -7,7 +7,15 @@ use Rattle.cases_check.proofs.print_check.Statement.{statement}
 use Rattle.cases_check.proofs.print_check.Tie as tie
 
 returns : tie.Need-returns
-returns c = c .print-verdict .ensures ∙ ap printed (c .before .check .ensures .verdict)
+returns c =
+    let v = c .before .before .before in
+    v .print-verdict .ensures ∙ ap printed (v .before .check .ensures .verdict)
 
 pub print-check-spec : {M : Type 1} → statement M
-print-check-spec = tie.close (tie.spec (λ c κs. search needs) (λ c κs. search needs) returns)
+print-check-spec = tie.close (tie.spec
+    (λ c κs. search needs)
+    (λ c κs. search needs)
+    (λ c κs. search needs)
+    (λ c. search needs)
+    (λ c κs. search needs)
+    returns)
