@@ -39,9 +39,10 @@
        12  a radius that is zero, negative or not finite
 
    What the functions return: 99 where a list is too short for what every answer writes, and then
-   nothing at all is written; 98 where the index lent to iisph_step_lent is too short; 100 + n for
-   refusal n, of a packed scene with its offset in counts[1]; otherwise what each says below.
-   Elements that are not named are never touched. */
+   nothing at all is written; 98 where the index lent to iisph_step_lent is too short; 97 where the
+   scene has no such contact list as iisph_check_list is asked for; 100 + n for refusal n, of a
+   packed scene with its offset in counts[1]; otherwise what each says below. Elements that are not
+   named are never touched. */
 #ifndef IISPH_H
 #define IISPH_H
 
@@ -105,6 +106,25 @@ uint64_t iisph_needed(const uint8_t *scene, size_t scene_len, uint64_t *counts, 
    stack as iisph_step. */
 uint64_t iisph_validate(const uint8_t *scene, size_t scene_len, double *work, size_t work_len,
                         uint64_t *counts, size_t counts_len);
+
+/* Whether all contacts of one contact list name particles that are there, and how many looks at a
+   contact it takes to tell. counts: at least 2 elements.
+   contacts: which list, 0 the fluid contacts of a fluid particle, 1 its boundary contacts, 2 the
+       contacts of a boundary particle.
+   model, particle: whose list, the number of the fluid or boundary and that of the particle in it,
+       both from 0.
+   Returns 0 if all do. Then counts[0] is the number of looks, one for each contact of the list, and
+   counts[1] is unchanged.
+   Refused by 7 if one does not. Then counts[1] is the offset of the first such contact, and
+   counts[0] the number of looks, which is that contact's number in the list, from 0, plus one. No
+   other list is looked at, so it also tells of lists behind the one at which a step stops.
+   Refused by 1 to 6 as a step, before any list is looked at; then counts[0] is unchanged.
+   Returns 97 if there is no such list, and then nothing is written: contacts is above 2, which is
+   told before the scene is looked at, or the model or the particle is not there, which is told once
+   1 to 6 have passed.
+   Costs a walk over the whole scene, whatever list is asked for. Takes some 1 KiB of stack. */
+uint64_t iisph_check_list(const uint8_t *scene, size_t scene_len, uint64_t contacts, size_t model,
+                          size_t particle, uint64_t *counts, size_t counts_len);
 
 /* The cubic spline at the distance r with the radius h, and its derivative there. out: at least 1
    element.

@@ -26,35 +26,50 @@ static void vector(double x, double y, double z) {
     real(z);
 }
 
-/* scene A's particle, which touches itself, and the first stone of the first boundary if there is one */
-static void pack_drop(unsigned name, int stones) {
+/* the header, of so many fluids and boundaries */
+static void pack_header(unsigned fluids, unsigned boundaries) {
+    len = 0;
+    byte(0x10 | fluids); byte(boundaries << 4); byte(1); byte(50);
+    real(0.5); real(1); real(0.05); vector(0, 0, -4);
+}
+
+static void pack_fluid_head(unsigned particles) { two_bytes(particles); real(2); }
+
+static void pack_boundary_head(int keeps_forces, unsigned particles) {
+    two_bytes((keeps_forces ? 0x8000 : 0) | particles);
+}
+
+/* scene A's particle, which touches the fluid particle and the boundary particle of those names, each so many times */
+static void pack_drop(unsigned near, unsigned drop, unsigned walls, unsigned stone) {
     for (int k = 0; k < 9; k++) real(0);
-    real(0.5); real(0); byte(1); byte(stones);
-    two_bytes(name); real(2); vector(0, 0, 0);
-    if (stones) { two_bytes(0); real(0); vector(0, 0, 0.125); }
+    real(0.5); real(0); byte(near); byte(walls);
+    for (; near > 0; near--) { two_bytes(drop); real(2); vector(0, 0, 0); }
+    for (; walls > 0; walls--) { two_bytes(stone); real(0); vector(0, 0, 0.125); }
 }
 
-/* a boundary particle that touches itself, of a boundary that keeps its forces */
-static void pack_stone(unsigned name) {
-    vector(0, 0, 0); vector(0, 0, 0); byte(1);
-    two_bytes(name); real(4);
+/* a boundary particle that touches the one of that name so many times */
+static void pack_stone(int keeps_forces, unsigned near, unsigned stone) {
+    vector(0, 0, 0);
+    if (keeps_forces) vector(0, 0, 0);
+    byte(near);
+    for (; near > 0; near--) { two_bytes(stone); real(4); }
 }
 
+/* drops that touch themselves, and the first stone of the first boundary if there is one */
 static void pack_fluid(unsigned model, unsigned particles, int stones) {
-    two_bytes(particles); real(2);
-    for (unsigned k = 0; k < particles; k++) pack_drop(model << 12 | k, stones);
+    pack_fluid_head(particles);
+    for (unsigned k = 0; k < particles; k++) pack_drop(1, model << 12 | k, stones, 0);
 }
 
+/* stones that touch themselves, of a boundary that keeps its forces */
 static void pack_boundary(unsigned model, unsigned particles) {
-    two_bytes(0x8000 | particles);
-    for (unsigned k = 0; k < particles; k++) pack_stone(model << 12 | k);
+    pack_boundary_head(1, particles);
+    for (unsigned k = 0; k < particles; k++) pack_stone(1, 1, model << 12 | k);
 }
 
 /* so many fluids and boundaries, with so many particles in each */
 static void pack_scene(unsigned fluids, unsigned boundaries, unsigned particles) {
-    len = 0;
-    byte(0x10 | fluids); byte(boundaries << 4); byte(1); byte(50);
-    real(0.5); real(1); real(0.05); vector(0, 0, -4);
+    pack_header(fluids, boundaries);
     for (unsigned model = 0; model < fluids; model++) pack_fluid(model, particles, boundaries > 0);
     for (unsigned model = 0; model < boundaries; model++) pack_boundary(model, particles);
 }

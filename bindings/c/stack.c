@@ -30,13 +30,17 @@ static void needed(void) { told = iisph_needed(scene, len, LIST(counts)); }
 
 static void validate(void) { told = iisph_validate(scene, len, LIST(work), LIST(counts)); }
 
+/* the fluid contacts of the first fluid particle, which is in each of the scenes */
+static void check_list(void) { told = iisph_check_list(scene, len, 0, 0, 0, LIST(counts)); }
+
 static void weight(void) { told = iisph_weight(0.5, 1, LIST(out)); }
 
 static void slope(void) { told = iisph_slope(0.5, 1, LIST(out)); }
 
 static const struct { const char *name; void (*call)(void); } functions[] = {
     {"iisph_step", step}, {"iisph_step_lent", step_lent}, {"iisph_step_keeping", step_keeping},
-    {"iisph_needed", needed}, {"iisph_validate", validate}, {"iisph_weight", weight}, {"iisph_slope", slope},
+    {"iisph_needed", needed}, {"iisph_validate", validate}, {"iisph_check_list", check_list},
+    {"iisph_weight", weight}, {"iisph_slope", slope},
 };
 
 /* models of each kind, and particles in each */

@@ -52,6 +52,15 @@ extern "C" {
         counts: *mut u64,
         counts_len: usize,
     ) -> u64;
+    pub fn iisph_check_list(
+        scene: *const u8,
+        scene_len: usize,
+        contacts: u64,
+        model: usize,
+        particle: usize,
+        counts: *mut u64,
+        counts_len: usize,
+    ) -> u64;
     pub fn iisph_weight(r: f64, h: f64, out: *mut f64, out_len: usize) -> u64;
     pub fn iisph_slope(r: f64, h: f64, out: *mut f64, out_len: usize) -> u64;
 }

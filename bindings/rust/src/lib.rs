@@ -35,12 +35,14 @@
 #![warn(missing_docs)]
 
 mod c;
+mod lists;
 mod pack;
 mod refusals;
 mod solver;
 
 use refusals::refusal;
 
+pub use lists::{check_list, CheckedList, Contacts, Unchecked};
 pub use pack::{Boundary, BoundaryContact, BoundaryParticle, Contact, Fluid, FluidParticle, Misfit, Scene};
 pub use refusals::{KernelRefusal, Reason, Refusal};
 pub use solver::Solver;

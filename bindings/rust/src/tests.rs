@@ -3,6 +3,7 @@
 use super::*;
 
 mod fields;
+mod lists;
 mod packing;
 mod solver;
 
