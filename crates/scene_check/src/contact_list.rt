@@ -28,15 +28,15 @@ pub fn names(s: &[u8], counts: &[usize; NAMEABLE_MODELS], w: usize, n: usize, fr
     let mut i = 0;
     while i < n {
         let seen = look(s, at, looks);
-        looks = seen.looks;
         let model = seen.name.model.0;
         let particle = seen.name.particle.0;
         if counts[model] <= particle {
             return Looked {
                 walk: Walk::Refused(Refusal::DanglingContact(at)),
-                looks,
+                looks: seen.looks,
             };
         }
+        looks = seen.looks;
         at += w;
         i += 1;
     }

@@ -1,5 +1,4 @@
 -- `cases_list::read_scene` meets its contract: a scene came whole, or nothing did. Assumes nothing.
-use native.Mathlib.Omega.{arith}
 use borrow.Author.Needs.{needs}
 use Rattle.cases_list.specs.Next.{Fits}
 use Rattle.cases_list.proofs.read_scene.Statement.{statement}
