@@ -11,6 +11,7 @@ use Rattle.worked_examples.specs.Rows.{rows}
 use Rattle.worked_examples.specs.Starred.{volumesScene, starred, refusedSteps}
 use Rattle.worked_examples.specs.Further
 use Rattle.worked_examples.proofs.Evaluation.{evaluation}
+use Rattle.worked_examples.proofs.LookRows.{looks-hold}
 use Rattle.worked_examples.proofs.RefusalRows.{refusals-hold}
 
 -- a list of values that the definitions yield, row by row
@@ -52,4 +53,4 @@ unfolding rows
 rows-hold =
     both (each math.rows doubles-hold)
     (both (each kernel.rows kernel-holds)
-    (both refusals-hold (both starred-hold (both refused-steps-hold further-hold))))
+    (both refusals-hold (both looks-hold (both starred-hold (both refused-steps-hold further-hold)))))

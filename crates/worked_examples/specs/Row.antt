@@ -13,6 +13,9 @@ use Rattle.scene_format.specs.SceneOf.{sceneOf}
 use Rattle.scene_format.specs.declared.Refusal.{Refusal}
 use Rattle.scene_format.specs.declared.Walk.{Walk}
 use Rattle.scene_check.specs.Walk.{checked}
+use Rattle.scene_lists.specs.Lists.{listAnswer}
+use Rattle.scene_lists.specs.declared.Contacts.{Contacts}
+use Rattle.scene_lists.specs.declared.ListAnswer.{ListAnswer}
 use Rattle.iisph_rules.specs.Coefficients as rules
 use Rattle.iisph_rules.specs.Coefficients.{Coefficients, boundaryVolume}
 use Rattle.iisph_rules.specs.Iteration.{Iteration, iteration}
@@ -30,6 +33,8 @@ pub data Row : Type 0 where
   value : math.Row → Row
   -- a packed scene, and what the check's walk says of it: where it ends, or a refusal
   checks : List ℕ → Walk → Row
+  -- a packed scene, one of its contact lists, of a model and a particle, and what the check of that list answers
+  looks : List ℕ → Contacts → ℕ → ℕ → ListAnswer → Row
   -- a packed scene that is accepted, its report, its answers, and how many doubles of work it needs
   done : List ℕ → Report → List ℕ → ℕ → Row
   -- a packed scene that is refused, with an answer and a work list of these lengths, and how many doubles of work are
@@ -98,6 +103,7 @@ iterations s ps (suc n) =
 abbrev pub Holds : Row → Type 0
 Holds (value r) = r .yields ≡ r .value
 Holds (checks b w) = checked b ≡ w
+Holds (looks b c m j a) = listAnswer b c m j ≡ a
 Holds (done b r answers work) =
     called b (length answers + 1) (work + 1)
     ≡ record { answer = Done r; answers = map bits answers ++ old 1; work = replicate work (bits 0) ++ old 1 }

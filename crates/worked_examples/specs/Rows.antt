@@ -5,10 +5,11 @@ use Rattle.math.specs.Rows as math
 use Rattle.cubic_spline.specs.Rows as kernel
 use Rattle.worked_examples.specs.Row.{Row, value}
 use Rattle.worked_examples.specs.RefusalRows.{refusalRows}
+use Rattle.worked_examples.specs.LookRows.{lookRows}
 use Rattle.worked_examples.specs.Starred.{starred, refusedSteps}
 use Rattle.worked_examples.specs.Further.{further}
 
 unfoldable pub rows : List Row
 rows =
     map value math.rows
-    ++ (map value kernel.rows ++ (refusalRows ++ (starred ++ (refusedSteps ++ further))))
+    ++ (map value kernel.rows ++ (refusalRows ++ (lookRows ++ (starred ++ (refusedSteps ++ further)))))
