@@ -10,7 +10,8 @@ use scene_lists::check_list;
 ghost use mathlib.Core.Path.{_≡_};
 ghost use Prim.Native.Nat.{_≤_};
 ghost use lib.ListN.{length};
-ghost use Rattle.iisph_codes.specs.ContactLists.{listAsked, lookedCode, lookedCounts, listCode, listCounts, ListTo};
+ghost use Rattle.iisph_codes.specs.ContactLists.{listAsked, lookedCode, lookedCounts, listCode, listCounts};
+ghost use Rattle.iisph_codes.specs.ContactLists.{ListTo};
 ghost use Rattle.iisph_codes.specs.Numbers.{countsNeeded};
 
 // The numbers that contacts have in a call.

@@ -1,4 +1,5 @@
--- `cases_check::print_model` meets its contract: what remains from here is the whole, particle by particle. Assumes nothing.
+-- `cases_check::print_model` meets its contract: what remains from here is the whole, particle by particle. Assumes
+-- nothing.
 use Prim.Native.Nat.{_-_}
 use borrow.Author.Needs.{needs}
 use Rattle.scene_format.specs.Format.{mostParticles}

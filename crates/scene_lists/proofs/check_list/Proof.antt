@@ -43,7 +43,8 @@ turn c = this-turn (fields-within _ (passed (told (models c))) _) (models c .mod
 particle-there : (c : tie.Else2)
     → let m = models (model c) in
     let a = start (told m) .args in
-    a .particle < particlesAt (m .before .owner-of .result) (a .scene .now) (getD (m .models-of .result .heads) (a .model) 0)
+    a .particle
+    < particlesAt (m .before .owner-of .result) (a .scene .now) (getD (m .models-of .result .heads) (a .model) 0)
 particle-there c = rw (← c .before .particles .ensures .0) (c .if2 .left)
 
 room : mostModels ≤ length (replicate {A = ℕ} nameableModels 0)

@@ -71,7 +71,8 @@ returns-2 : tie.Need-returns-2 Inv-loop μ-loop
 unfolding names
 returns-2 c =
     let l = c .before .loop in
-    all-looked _ _ _ _ _ (all-done (l .inv .0) (c .loop-test .left)) (omega (arith, l .inv .0 .within, l .inv .3, c .loop-test .left))
+    all-looked _ _ _ _ _ (all-done (l .inv .0) (c .loop-test .left))
+    (omega (arith, l .inv .0 .within, l .inv .3, c .loop-test .left))
 
 pub names-spec : {M : Type 1} → statement M
 names-spec =
