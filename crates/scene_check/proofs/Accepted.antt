@@ -58,7 +58,7 @@ module _ (b : List ℕ) where
   unfolding name
   name-steps κ w at = restated (refused-if-leads _ _ (stay _)) (λ h. (refl, name-ok κ at (leb-false _ _ (h .0))))
 
-  names-steps : (κ : Kind) (w n : ℕ) → Steps (names b (countsOf κ b) w n) (λ at. at + w * n) (NamesOk κ b w n)
+  pub names-steps : (κ : Kind) (w n : ℕ) → Steps (names b (countsOf κ b) w n) (λ at. at + w * n) (NamesOk κ b w n)
   unfolding names
   names-steps κ w n = parts-steps w (name-steps κ w) n
 

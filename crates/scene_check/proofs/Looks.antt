@@ -1,18 +1,14 @@
 -- The looks at a contact list, from how its walk ended. A refusal is at the start of one of the list's contacts, by
 -- taking the walk apart contact by contact, and that contact's number is its distance from the list's start by the
 -- width of a contact. Assumes nothing.
-use Prim.Native.Nat.{ℕ, zero, suc, _+_, _-_, _*_, _/_, _≤_, _<_}
-use mathlib.Core.Path.{_≡_, refl, sym, ap, _∙_}
-use mathlib.Core.Bool.{Bool, true, false}
+use Prim.Native.Nat.{ℕ, _+_, _-_, _*_, _/_, _≤_, _<_}
+use mathlib.Core.Path.{_≡_, sym, ap, _∙_}
 use mathlib.Core.List.{List}
-use native.Mathlib.Nat.{mul-comm, mul-zero, add-zero, mul-suc, mul-div-cancel}
+use native.Mathlib.Nat.{mul-comm, mul-div-cancel}
 use native.Mathlib.Omega.{arith}
-use lib.Dec.{leb}
-use lib.ListN.{getD}
-use Rattle.lists.specs.Lists.{choose}
-use Rattle.scene_fields.specs.Fields.{_▹_, times, refusedIf}
-use Rattle.scene_fields.proofs.Reached.{never}
-use Rattle.scene_format.specs.Format.{nameWidth, modelAt, numberAt}
+use Rattle.scene_fields.proofs.Reached.{stay, refused-if-leads}
+use Rattle.scene_fields.proofs.Stopped.{parts-refused, refused-if-by}
+use Rattle.scene_format.specs.Format.{nameWidth}
 use Rattle.scene_format.specs.declared.Refusal.{Refusal}
 use Rattle.scene_format.specs.declared.Refusal.the-variants.{DanglingContact}
 use Rattle.scene_format.specs.declared.Walk.the-variants.{At, Refused}
@@ -34,24 +30,10 @@ stopped-at w n from wide k e = rw (e, number-in w from k wide)
 -- a refusal is of one of the list's contacts
 refused-contact : (b counts : List ℕ) (w n from : ℕ) {r : Refusal} → names b counts w n from ≡ Refused r
     → (k : ℕ) × (k < n) × (r ≡ DanglingContact (from + w * k))
-unfolding names times name refusedIf choose _▹_
-refused-contact b counts w zero from q = never (sym q)
-refused-contact b counts w (suc n) from {r} q =
-    told (leb (getD counts (modelAt b from) 0) (numberAt b from)) refl (refused-contact b counts w n (from + w))
-  where
-    Refuses : ℕ → ℕ → Type 0
-    Refuses n at = (k : ℕ) × (k < n) × (r ≡ DanglingContact (at + w * k))
-
-    first : Refused (DanglingContact from) ≡ Refused r → Refuses (suc n) from
-    first p = (0, omega arith, rw (mul-zero, add-zero) cc)
-
-    later : Refuses n (from + w) → Refuses (suc n) from
-    later (k, l, e) = (suc k, omega arith, e ∙ ap DanglingContact (omega (arith, mul-suc w k)))
-
-    told : (t : Bool) → leb (getD counts (modelAt b from) 0) (numberAt b from) ≡ t
-        → (names b counts w n (from + w) ≡ Refused r → Refuses n (from + w)) → Refuses (suc n) from
-    told true h rest = first (rw h at q)
-    told false h rest = later (rest (rw h at q))
+unfolding names name
+refused-contact b counts w n from q =
+    let (k, l, p) = parts-refused w (λ at. refused-if-leads _ _ (stay _)) n from q in
+    (k, l, refused-if-by _ _ _ p)
 
 module _ (b counts : List ℕ) (w n from : ℕ) where
   -- the answer's parts

@@ -57,6 +57,13 @@ _then_ {g = g} {Q′ = Q′} l s e q =
     let k = s at e r in
     (k .0 ∙ ap g (h .0), (h .1, subst Q′ (h .0) (k .1)))
 
+-- Q holds of an offset, and of the n that follow by steps
+pub first-and-rest : (g : ℕ → ℕ) (Q : ℕ → Type 0) (n at : ℕ) → Q at → ((i : ℕ) → i < n → Q (iter i g (g at)))
+    → (i : ℕ) → i < suc n → Q (iter i g at)
+unfolding iter
+first-and-rest g Q n at p h zero l = p
+first-and-rest g Q n at p h (suc i) l = h i (le-of-suc-le-suc l)
+
 -- n steps: the i-th starts from where i steps lead
 pub times-steps : {f : ℕ → Walk} {g : ℕ → ℕ} {Q : ℕ → Type 0} → Steps f g Q → (n : ℕ)
     → Steps (times n f) (iter n g) (λ at. (i : ℕ) → i < n → Q (iter i g at))
@@ -64,14 +71,10 @@ unfolding times iter
 times-steps s zero at e q = (cc, λ i h. absurd (not-suc-le-zero h))
 times-steps {g = g} {Q = Q} s (suc n) at e q =
     let h = (s at then times-steps s n) e q in
-    (h .0, all (h .1 .0) (h .1 .1))
-  where
-    all : Q at → ((i : ℕ) → i < n → Q (iter i g (g at))) → (i : ℕ) → i < suc n → Q (iter i g at)
-    all p h zero l = p
-    all p h (suc i) l = h i (le-of-suc-le-suc l)
+    (h .0, first-and-rest g Q n at (h .1 .0) (h .1 .1))
 
 -- n steps of c bytes each
-iter-add : (c n at : ℕ) → iter n (λ x. x + c) at ≡ at + c * n
+pub iter-add : (c n at : ℕ) → iter n (λ x. x + c) at ≡ at + c * n
 unfolding iter
 iter-add c zero at = omega (arith, mul-zero c)
 iter-add c (suc n) at = iter-add c n (at + c) ∙ omega (arith, mul-suc c n)

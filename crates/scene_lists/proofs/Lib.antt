@@ -1,1 +1,3 @@
 pub mod Listed
+pub mod Passed
+pub mod Refusing

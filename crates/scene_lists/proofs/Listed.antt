@@ -1,7 +1,8 @@
 -- What the check of one contact list answers, from what its parts have found: each by opening the definitions. Assumes
 -- nothing.
 use Prim.Native.Nat.{ℕ, _≤_, _<_}
-use mathlib.Core.Path.{_≡_}
+use mathlib.Core.Path.{_≡_, sym, ap, _∙_}
+use mathlib.Core.Bool.{true}
 use mathlib.Core.List.{List}
 use borrow.Author.Tests.{lt-ltb, le-ltb}
 use Rattle.lists.specs.Lists.{choose}
@@ -13,7 +14,7 @@ use Rattle.scene_format.specs.declared.Walk.the-variants as walk
 use Rattle.scene_check.specs.Looks.{namesLooked}
 use Rattle.scene_check.specs.declared.contact_list.Looked.{Looked}
 use Rattle.scene_check.proofs.Named.{names-same}
-use Rattle.scene_lists.specs.Lists.{ownerOf, listLooked, listThere, answerAfter, listAnswer}
+use Rattle.scene_lists.specs.Lists.{ownerOf, listLooked, listThere, ownerAt, answerAfter, listAnswer}
 use Rattle.scene_lists.specs.Lists.{CountsOfKind}
 use Rattle.scene_lists.specs.declared.Contacts.{Contacts}
 use Rattle.scene_lists.specs.declared.ListAnswer.the-variants.{Checked, NoList, Refused}
@@ -29,6 +30,17 @@ module _ (b : List ℕ) (c : Contacts) (m j : ℕ) where
   unfolding listAnswer answerAfter
   refused-before q = rw q
 
+  -- a list that is there
+  pub list-there : m < modelNumber (ownerOf c) b → j < particlesAt (ownerOf c) b (headAt (ownerOf c) b m)
+      → listThere b c m j ≡ true
+  unfolding listThere
+  list-there k i = rw (lt-ltb _ _ k, lt-ltb _ _ i)
+
+  pub list-answered : {end : ℕ} → fields b ≡ walk.At end → listThere b c m j ≡ true
+      → listAnswer b c m j ≡ Checked (listLooked c b (ownerAt b c m j))
+  unfolding listAnswer answerAfter choose
+  list-answered q t = rw (q, t)
+
   module _ {end : ℕ} (q : fields b ≡ walk.At end) {κ : Kind} (is : κ ≡ ownerOf c) where
     pub no-model : modelNumber κ b ≤ m → NoList ≡ listAnswer b c m j
     unfolding listAnswer answerAfter listThere choose
@@ -41,5 +53,4 @@ module _ (b : List ℕ) (c : Contacts) (m j : ℕ) where
 
       pub list-checked : j < particlesAt κ b (headAt κ b m) → {a : Looked}
           → a ≡ listLooked c b (recordAt κ b (headAt κ b m) j) → Checked a ≡ listAnswer b c m j
-      unfolding listAnswer answerAfter listThere choose
-      list-checked i e = rw (q, ← is, lt-ltb _ _ k, lt-ltb _ _ i, e)
+      list-checked i e = ap Checked (e ∙ rw is) ∙ sym (list-answered q (list-there (rw is at k) (rw is at i)))
