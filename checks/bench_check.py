@@ -2,21 +2,27 @@
 """Times the check of a packed scene of about 4.5 MB. A benchmark, not a test: it prints
 milliseconds and judges nothing.
 
-  checks/bench_check.py    builds libiisph_c.a (rt staticlib iisph_c, which proves what changed),
-                           links it with cc and calls it
+  checks/bench_check.py                  builds libiisph_c.a (rt staticlib iisph_c, which proves
+                                         what changed) and calls it
+  checks/bench_check.py BEFORE AFTER     calls two such archives in turn, and prints AFTER's times
+                                         over BEFORE's
 
 `iisph_validate` with an empty work list is the check alone: the scene is accepted (1 to 7), and the
-list is too short (8).
+list is too short (8). Archives are linked with cc.
 """
 import argparse
 import ctypes
 import pathlib
+import statistics
 import struct
 import subprocess
 import tempfile
 import time
 
 ROOT = pathlib.Path(__file__).resolve().parent.parent
+BUILT = ROOT / "target" / "staticlib" / "libiisph_c.a"
+ROUNDS = 201
+SHORT_LIST = 108
 
 
 def scene(particles=4096, contacts=30):
@@ -28,29 +34,45 @@ def scene(particles=4096, contacts=30):
     return data
 
 
-def library(folder):
+def build():
     subprocess.run(["rt", "staticlib", "iisph_c"], cwd=ROOT, check=True, stdout=subprocess.DEVNULL)
-    shared = str(pathlib.Path(folder) / "iisph.so")
-    archive = str(ROOT / "target" / "staticlib" / "libiisph_c.a")
+    return [BUILT]
+
+
+def validate(archive, shared):
+    """The archive's `iisph_validate`, from a library that is linked for it."""
     subprocess.run(["cc", "-shared", "-o", shared, "-Wl,--whole-archive", archive, "-Wl,--no-whole-archive"],
                    check=True)
-    return ctypes.CDLL(shared)
+    function = ctypes.CDLL(str(shared)).iisph_validate
+    function.restype = ctypes.c_uint64
+    return function
+
+
+def time_of(function, data):
+    """One check, in milliseconds."""
+    none, counts, size = (ctypes.c_double * 1)(), (ctypes.c_uint64 * 2)(), ctypes.c_size_t
+    start = time.perf_counter()
+    number = function(data, size(len(data)), none, size(0), counts, size(2))
+    taken = 1000 * (time.perf_counter() - start)
+    assert number == SHORT_LIST
+    return taken
 
 
 def main():
-    argparse.ArgumentParser(description=__doc__, formatter_class=argparse.RawDescriptionHelpFormatter).parse_args()
-    data, none, counts = scene(), (ctypes.c_double * 1)(), (ctypes.c_uint64 * 2)()
+    parser = argparse.ArgumentParser(description=__doc__, formatter_class=argparse.RawDescriptionHelpFormatter)
+    parser.add_argument("archives", nargs="*", type=pathlib.Path, metavar="ARCHIVE")
+    archives, data = parser.parse_args().archives, scene()
+    if len(archives) not in (0, 2):
+        parser.error("name two archives, or none")
     with tempfile.TemporaryDirectory() as folder:
-        lib = library(folder)
-        lib.iisph_validate.restype = ctypes.c_uint64
-        size = ctypes.c_size_t
-        times = []
-        for _ in range(21):
-            start = time.perf_counter()
-            number = lib.iisph_validate(data, size(len(data)), none, size(0), counts, size(2))
-            times.append(1000 * (time.perf_counter() - start))
-            assert number == 108
-    print("%d bytes: median %.2f ms, least %.2f ms" % (len(data), sorted(times)[10], min(times)))
+        functions = [validate(archive, pathlib.Path(folder) / ("%d.so" % k))
+                     for k, archive in enumerate(archives or build())]
+        times = list(zip(*[[time_of(function, data) for function in functions] for _ in range(ROUNDS)]))
+    found = [(statistics.median(own), min(own)) for own in times]
+    for median, least in found:
+        print("%d bytes: median %.3f ms, least %.3f ms" % (len(data), median, least))
+    if archives:
+        print("after / before: median %.3f, least %.3f" % tuple(b / a for a, b in zip(*found)))
 
 
 if __name__ == "__main__":

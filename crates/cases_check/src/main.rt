@@ -14,9 +14,10 @@ use scene_lists::ListAnswer;
 use scene_lists::check_list;
 ghost use Prim.Native.Nat.{_≤_};
 ghost use mathlib.Core.Path.{_≡_};
+ghost use Rattle.cases_list.specs.Next.{FromNext};
 ghost use Rattle.scene_check.specs.Check.{verdictOf};
 ghost use Rattle.scene_check.specs.Walk.{checked};
-ghost use Rattle.cases_check.specs.Printed.{printed, FromNext};
+ghost use Rattle.cases_check.specs.Printed.{printed, room, lineOf};
 ghost use Rattle.cases_check.specs.Turns.{listTurn, particleTurn, modelTurn, kindTurn, sceneTurn};
 
 // Prints "accepted", or a refusal's number and place, and hands back the number, 0 for "accepted".
@@ -154,7 +155,7 @@ const ROOM: usize = 32768;
 
 // Checks the next scene of a list.
 fn check_next(fd: i32) -> Line
-    ensures { λ r. ⌜ FromNext r ⌝ }
+    ensures { λ r. ⌜ FromNext room lineOf Line.Nothing r ⌝ }
 {
     let mut scene = [0u8; ROOM];
     match read_next(fd, &mut scene) {

@@ -1,10 +1,14 @@
--- What fits its room: one that fits the front of a room fits the room. By whether a scene came. Assumes nothing.
+-- What fits its room: one that fits the front of a room fits the room, by whether a scene came; and what is made of a
+-- scene, which is the front of its room. Assumes nothing.
 use Prim.Native.Nat.{ℕ, _≤_}
-use mathlib.Core.Path.{_≡_}
-use mathlib.Core.List.{List, _++_}
+use mathlib.Core.Path.{_≡_, refl}
+use mathlib.Core.Bool.{true, false}
+use mathlib.Core.List.{List, [], _++_}
 use native.Mathlib.Omega.{arith}
-use lib.ListN.{length, length-append}
-use Rattle.cases_list.specs.Next.{Fits}
+use lib.ListN.{length, take, length-append}
+use lib.Seq.{length-take-le}
+use Rattle.lists.specs.Lists.{choose}
+use Rattle.cases_list.specs.Next.{Fits, FromNext}
 use Rattle.cases_list.specs.declared.Next.{Next}
 use Rattle.cases_list.specs.declared.Next.the-variants.{Scene, Nothing}
 
@@ -16,3 +20,16 @@ fits-whole Nothing front rest h = tt
 pub scene-fits : {r : Next} {n room : ℕ} → Fits r room → r ≡ Scene n → n ≤ room
 unfolding Fits
 scene-fits f q = rw q at f
+
+-- ---- what is made of a scene, the front of its room
+
+module _ {A : Type 0} (room : ℕ) (f : List ℕ → A) (none : A) where
+  pub nothing-came : FromNext room f none none
+  unfolding choose
+  nothing-came = record { scene = []; short = omega arith; came = false; is = refl }
+
+  pub scene-came : (l : List ℕ) (n : ℕ) → n ≤ length l → length l ≡ room → {r : A} → r ≡ f (take n l)
+      → FromNext room f none r
+  unfolding choose
+  scene-came l n h e q =
+      record { scene = take n l; short = omega (arith, length-take-le n l h, h, e); came = true; is = q }

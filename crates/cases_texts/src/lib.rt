@@ -4,11 +4,12 @@ use cases_list::read_next;
 use iisph_print::INPUT_ROOM;
 use iisph_print::print_text;
 ghost use Prim.Native.Nat.{_≤_};
-ghost use Rattle.cases_texts.specs.Written.{FromNext};
+ghost use Rattle.cases_list.specs.Next.{FromNext};
+ghost use Rattle.cases_texts.specs.Written.{room, written};
 
 // Writes the text of the next scene and hands back its length, or 0 where there is none.
 fn print_next(fd: i32) -> usize
-    ensures { λ r. ⌜ FromNext r ⌝ }
+    ensures { λ r. ⌜ FromNext room written 0 r ⌝ }
 {
     let mut scene = [0u8; INPUT_ROOM];
     match read_next(fd, &mut scene) {

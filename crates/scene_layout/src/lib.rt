@@ -1,5 +1,5 @@
-// Where the models of a scene stand, found by stepping over the records. `layout_of` asks that the scene's fields are
-// accepted, which its callers have from the walk.
+// Where the models of a scene stand, found by stepping over the records. `layout_of` and `record_offset` ask that the
+// scene's fields are accepted, which their callers have from the walk.
 use scene_format::Kind;
 use scene_format::Walk;
 use scene_format::format::HEADER_WIDTH;
@@ -9,8 +9,9 @@ use scene_format::read::model_number;
 use scene_format::read::next_record;
 use scene_format::read::particles;
 ghost use mathlib.Core.Path.{_≡_};
+ghost use Prim.Native.Nat.{_≤_};
 ghost use lib.ListN.{length};
-ghost use Rattle.scene_format.specs.Format.{modelNumber, modelEnd, firstHead};
+ghost use Rattle.scene_format.specs.Format.{modelNumber, particlesAt, modelEnd, firstHead, recordAt};
 ghost use Rattle.scene_format.specs.Within.{ModelWithin, ModelsWithin};
 ghost use Rattle.scene_layout.specs.Layout.{layoutModels, layoutOf};
 ghost use Rattle.scene_walk.specs.Walk as walk;
@@ -31,19 +32,26 @@ pub struct Layout {
     pub boundaries: Models,
 }
 
-// Where the model with its head at an offset ends.
-fn model_end(s: &[u8], kind: Kind, head: usize) -> usize
-    requires { ⌜ ModelWithin kind (now s) head ⌝ }
-    ensures { λ r. ⌜ r ≡ modelEnd kind (now (s .entry)) head ⌝ }
+// Where record j of the model with that head begins; for as many as it has, where the model ends.
+pub fn record_offset(s: &[u8], kind: Kind, head: usize, j: usize) -> usize
+    requires { ⌜ ModelWithin kind (now s) head × (j ≤ particlesAt kind (now s) head) ⌝ }
+    ensures { λ r. ⌜ r ≡ recordAt kind (now (s .entry)) head j .at ⌝ }
 {
-    let n = particles(s, kind, head);
     let mut at = first_record(kind, head);
     let mut i = 0;
-    while i < n {
+    while i < j {
         at = next_record(s, kind, head, at);
         i += 1;
     }
     at
+}
+
+// Where that model ends.
+fn model_end(s: &[u8], kind: Kind, head: usize) -> usize
+    requires { ⌜ ModelWithin kind (now s) head ⌝ }
+    ensures { λ r. ⌜ r ≡ modelEnd kind (now (s .entry)) head ⌝ }
+{
+    record_offset(s, kind, head, particles(s, kind, head))
 }
 
 // The n models of a kind, of which the first has its head at an offset.

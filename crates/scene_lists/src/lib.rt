@@ -13,18 +13,15 @@ use scene_format::format::NAMEABLE_MODELS;
 use scene_format::format::RECORD_WIDTH;
 use scene_format::format::VECTOR_WIDTH;
 use scene_format::read::byte;
-use scene_format::read::first_record;
 use scene_format::read::keeps;
-use scene_format::read::next_record;
 use scene_format::read::particles;
 use scene_layout::Layout;
 use scene_layout::Models;
 use scene_layout::layout_of;
+use scene_layout::record_offset;
 use scene_walk::fields;
 ghost use mathlib.Core.Path.{_≡_};
-ghost use Prim.Native.Nat.{_<_};
-ghost use Rattle.scene_format.specs.Format.{particlesAt, recordAt};
-ghost use Rattle.scene_format.specs.Within.{RecordWithin, ModelWithin};
+ghost use Rattle.scene_format.specs.Within.{RecordWithin};
 ghost use Rattle.scene_layout.specs.Layout.{layoutModels, layoutOf};
 ghost use Rattle.scene_lists.specs.Lists.{ownerOf, namedOf, CountsOfKind, listLooked};
 ghost use Rattle.scene_lists.specs.Lists.{listAnswer};
@@ -79,20 +76,6 @@ fn models_of(scene: &[u8], layout: Layout, kind: Kind) -> Models
         Kind::Fluid => layout.fluids,
         Kind::Boundary => layout.boundaries,
     }
-}
-
-// The offset of record j of the model with that head.
-fn record_offset(s: &[u8], kind: Kind, head: usize, j: usize) -> usize
-    requires { ⌜ ModelWithin kind (now s) head × (j < particlesAt kind (now s) head) ⌝ }
-    ensures { λ r. ⌜ r ≡ recordAt kind (now (s .entry)) head j .at ⌝ }
-{
-    let mut at = first_record(kind, head);
-    let mut i = 0;
-    while i < j {
-        at = next_record(s, kind, head, at);
-        i += 1;
-    }
-    at
 }
 
 // A list of the record at an offset, of the model with that head. `counts` has the count of each model that its

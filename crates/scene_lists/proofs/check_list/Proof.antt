@@ -93,7 +93,7 @@ fill-counts-requires c κs =
 record-offset-requires : tie.Need-record-offset-requires
 record-offset-requires c κs =
     let e = c .before .before .before .before .before in
-    (turn (model e) .within, particle-there e)
+    (turn (model e) .within, omega (arith, particle-there e))
 
 list-looked-requires : tie.Need-list-looked-requires
 list-looked-requires c κs =

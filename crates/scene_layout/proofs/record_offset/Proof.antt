@@ -1,4 +1,4 @@
--- `scene_lists::record_offset` meets its contract: record by record, with the records that are left within the bytes.
+-- `scene_layout::record_offset` meets its contract: record by record, with the records that are left within the bytes.
 -- Assumes nothing.
 use Prim.Native.Nat.{_-_}
 use mathlib.Core.Path.{_∙_}
@@ -7,8 +7,8 @@ use borrow.Author.Needs.{needs}
 use Rattle.scene_format.specs.Format.{nextRecord}
 use Rattle.scene_format.specs.Within.{RecordWithin}
 use Rattle.scene_fields.proofs.Walks.{Ahead, none-stepped, one-more-stepped, holds-here, all-stepped}
-use Rattle.scene_lists.proofs.record_offset.Statement.{statement}
-use Rattle.scene_lists.proofs.record_offset.Tie as tie
+use Rattle.scene_layout.proofs.record_offset.Statement.{statement}
+use Rattle.scene_layout.proofs.record_offset.Tie as tie
 
 abbrev Inv-loop : tie.InvT-loop
 Inv-loop s kind head j at₀ i₀ at i = Ahead (nextRecord kind s head) (RecordWithin kind s head) j at₀ i at
