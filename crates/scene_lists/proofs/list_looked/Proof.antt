@@ -4,7 +4,7 @@ use mathlib.Core.Path.{_∙_}
 use native.Mathlib.Omega.{arith}
 use borrow.Author.Needs.{needs}
 use Rattle.scene_format.specs.Format.{ownWidth, contactsWidth, nextRecord}
-use Rattle.scene_lists.specs.Lists.{ownerOf, namedOf, listWidth, listCount, listStart, listLooked}
+use Rattle.scene_lists.specs.Lists.{ownerOf, listWidth, listCount, listStart, listLooked}
 use Rattle.scene_lists.proofs.Listed.{looked-same}
 use Rattle.scene_lists.proofs.list_looked.Statement.{statement}
 use Rattle.scene_lists.proofs.list_looked.Tie as tie

@@ -1,5 +1,4 @@
 -- `scene_lists::models_of` meets its contract, kind by kind. Assumes nothing.
-use mathlib.Core.Path.{_∙_, ap}
 use borrow.Author.Needs.{needs}
 use Rattle.scene_check.proofs.Checks.{fluids-are, boundaries-are}
 use Rattle.scene_lists.proofs.models_of.Statement.{statement}
