@@ -17,7 +17,8 @@ use Rattle.scene_format.specs.declared.Refusal.{Refusal}
 use Rattle.scene_format.specs.declared.Walk.{Walk}
 use Rattle.scene_format.specs.declared.Walk.the-variants.{At, Refused}
 use Rattle.scene_layout.specs.Layout.{layoutModels, layoutOf}
-use Rattle.scene_check.specs.Check.{refusedWith, verdictOf, layoutFor, ChecksTo, Passed, CountsAre}
+use Rattle.scene_check.specs.Check.{refusedWith, verdictOf, layoutFor, ChecksTo, Passed, CountsOfKind}
+use Rattle.scene_check.specs.Check.{CountsAre}
 use Rattle.scene_walk.specs.Walk.{fields}
 use Rattle.scene_check.specs.Walk.{allNames, checked}
 use Rattle.scene_check.specs.declared.Checked.{Checked}
@@ -66,12 +67,14 @@ module _ (b : List ℕ) where
 
   -- the counts of a kind, stored over zeros
   pub stored-counts : (κ : Kind) → ModelsWithin κ b → {counts : List ℕ}
-      → counts ≡ sets (replicate nameableModels 0) 0 (countsOf κ b) → (m : ℕ)
-      → getD counts m 0 ≡ getD (countsOf κ b) m 0
-  stored-counts κ all e m =
+      → counts ≡ sets (replicate nameableModels 0) 0 (countsOf κ b) → CountsOfKind κ b counts
+  stored-counts κ all e =
       let few : length (countsOf κ b) ≤ nameableModels = omega (arith, length-counts κ b, all .few) in
-      ap (λ (l : List ℕ). getD l m 0) (e ∙ stored-padded nameableModels (countsOf κ b) few)
-      ∙ padded-at nameableModels (countsOf κ b) m
+      record {
+        each = λ m.
+            ap (λ (l : List ℕ). getD l m 0) (e ∙ stored-padded nameableModels (countsOf κ b) few)
+            ∙ padded-at nameableModels (countsOf κ b) m;
+      }
 
   pub counts-are : ((κ : Kind) → ModelsWithin κ b) → {fluids boundaries : List ℕ}
       → fluids ≡ sets (replicate nameableModels 0) 0 (countsOf Fluid b)

@@ -16,7 +16,7 @@ use Rattle.scene_check.specs.Looks.{looksOf, namesLooked, LooksTold}
 use Rattle.scene_check.specs.Walk.{name, names}
 use Rattle.scene_check.specs.declared.contact_list.Looked.{Looked}
 
--- contact k of a list is the k-th
+-- before contact k of a list there are k
 number-in : (w from k : ℕ) → nameWidth ≤ w → (from + w * k - from) / w ≡ k
 number-in w from k wide =
     let e : from + w * k - from ≡ k * w = omega (arith, mul-comm w k) in

@@ -3,14 +3,14 @@
 use Prim.Native.Nat.{ℕ, _+_, _*_}
 use mathlib.Core.Path.{_≡_, ap, fun-ext}
 use mathlib.Core.List.{List}
-use lib.ListN.{getD}
 use Rattle.scene_fields.specs.Fields.{times}
 use Rattle.scene_format.specs.Format.{modelAt, countsOf}
+use Rattle.scene_format.specs.declared.Kind.{Kind}
 use Rattle.scene_format.specs.declared.Kind.the-variants.{Fluid, Boundary}
 use Rattle.scene_format.specs.declared.Walk.{Walk}
 use Rattle.scene_format.specs.declared.Walk.the-variants.{At}
 use Rattle.scene_fields.proofs.Reached.{parts-steps, stay, refused-if-leads}
-use Rattle.scene_check.specs.Check.{CountsAre}
+use Rattle.scene_check.specs.Check.{CountsOfKind, CountsAre}
 use Rattle.scene_check.specs.Walk.{name, names}
 
 -- a list that is passed ends behind its contacts
@@ -18,18 +18,18 @@ pub names-end : (b counts : List ℕ) (w n at e : ℕ) → names b counts w n at
 unfolding names name
 names-end b counts w n at e q = parts-steps w (λ at. refused-if-leads _ _ (stay _)) n at e q .0
 
-module _ (b counts counts′ : List ℕ) (h : (m : ℕ) → getD counts m 0 ≡ getD counts′ m 0) (w : ℕ) where
-  name-same : (at : ℕ) → name b counts w at ≡ name b counts′ w at
+module _ {κ : Kind} {b counts : List ℕ} (are : CountsOfKind κ b counts) (w : ℕ) where
+  name-same : (at : ℕ) → name b counts w at ≡ name b (countsOf κ b) w at
   unfolding name
-  name-same at = rw (h (modelAt b at))
+  name-same at = rw (are .each (modelAt b at))
 
-  pub names-same : (n at : ℕ) → names b counts w n at ≡ names b counts′ w n at
+  pub names-same : (n at : ℕ) → names b counts w n at ≡ names b (countsOf κ b) w n at
   unfolding names
   names-same n at = ap (λ (f : ℕ → Walk). times n f at) (fun-ext name-same)
 
 module _ {b fluids boundaries : List ℕ} (are : CountsAre b fluids boundaries) where
   pub fluid-names-same : (w n at : ℕ) → names b fluids w n at ≡ names b (countsOf Fluid b) w n at
-  fluid-names-same = names-same b fluids (countsOf Fluid b) (are .fluid)
+  fluid-names-same = names-same (are .fluid)
 
   pub boundary-names-same : (w n at : ℕ) → names b boundaries w n at ≡ names b (countsOf Boundary b) w n at
-  boundary-names-same = names-same b boundaries (countsOf Boundary b) (are .boundary)
+  boundary-names-same = names-same (are .boundary)

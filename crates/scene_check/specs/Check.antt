@@ -6,6 +6,7 @@ use mathlib.Core.List.{List}
 use lib.ListN.{length, getD}
 use Rattle.scene_format.specs.Bytes.{Bytes}
 use Rattle.scene_format.specs.Format.{countsOf}
+use Rattle.scene_format.specs.declared.Kind.{Kind}
 use Rattle.scene_format.specs.declared.Kind.the-variants.{Fluid, Boundary}
 use Rattle.scene_format.specs.declared.Refusal.{Refusal}
 use Rattle.scene_format.specs.declared.Walk.{Walk}
@@ -40,8 +41,11 @@ pub record Passed (b : List ℕ) (layout : Layout) : Type 0 where
   pub walk : checked b ≡ At (length b)
   pub layoutIs : layout ≡ layoutOf b
 
--- ---- what names are held against: the count of each model, 0 for one that is not there
+-- ---- what names are held against: the count of each model of a kind, 0 for one that is not there
+
+pub record CountsOfKind (κ : Kind) (b counts : List ℕ) : Type 0 where
+  pub each : (m : ℕ) → getD counts m 0 ≡ getD (countsOf κ b) m 0
 
 pub record CountsAre (b fluids boundaries : List ℕ) : Type 0 where
-  pub fluid : (m : ℕ) → getD fluids m 0 ≡ getD (countsOf Fluid b) m 0
-  pub boundary : (m : ℕ) → getD boundaries m 0 ≡ getD (countsOf Boundary b) m 0
+  pub fluid : CountsOfKind Fluid b fluids
+  pub boundary : CountsOfKind Boundary b boundaries

@@ -11,11 +11,11 @@ use Rattle.scene_format.specs.Format.{modelNumber, particlesAt, headAt, countsO
 use Rattle.scene_format.specs.declared.Kind.{Kind}
 use Rattle.scene_format.specs.declared.Refusal.{Refusal}
 use Rattle.scene_format.specs.declared.Walk.the-variants as walk
+use Rattle.scene_check.specs.Check.{CountsOfKind}
 use Rattle.scene_check.specs.Looks.{namesLooked}
 use Rattle.scene_check.specs.declared.contact_list.Looked.{Looked}
 use Rattle.scene_check.proofs.Named.{names-same}
 use Rattle.scene_lists.specs.Lists.{ownerOf, listLooked, listThere, ownerAt, answerAfter, listAnswer}
-use Rattle.scene_lists.specs.Lists.{CountsOfKind}
 use Rattle.scene_lists.specs.declared.Contacts.{Contacts}
 use Rattle.scene_lists.specs.declared.ListAnswer.the-variants.{Checked, NoList, Refused}
 
@@ -23,7 +23,7 @@ use Rattle.scene_lists.specs.declared.ListAnswer.the-variants.{Checked, 
 pub looked-same : {κ : Kind} {b counts : List ℕ} → CountsOfKind κ b counts → (w n from : ℕ)
     → namesLooked b counts w n from ≡ namesLooked b (countsOf κ b) w n from
 unfolding namesLooked
-looked-same {κ} {b} {counts} are w n from = rw (names-same b counts (countsOf κ b) (are .each) w n from)
+looked-same are w n from = rw (names-same are w n from)
 
 module _ (b : List ℕ) (c : Contacts) (m j : ℕ) where
   pub refused-before : {r : Refusal} → fields b ≡ walk.Refused r → Refused r ≡ listAnswer b c m j

@@ -1,10 +1,8 @@
 -- The check of one contact list of a packed scene: how its walk ends, and how many looks that takes. Definitions only.
 use Prim.Native.Nat.{ℕ, _+_}
-use mathlib.Core.Path.{_≡_}
 use mathlib.Core.Bool.{Bool, _&&_}
 use mathlib.Core.List.{List}
 use lib.Dec.{ltb}
-use lib.ListN.{getD}
 use Rattle.lists.specs.Lists.{choose}
 use Rattle.scene_walk.specs.Walk.{fields}
 use Rattle.scene_format.specs.Format.{axes, modelNumber, particlesAt, keepsAt, contactWidth, boundaryContactWidth}
@@ -70,8 +68,3 @@ answerAfter (walk.Refused r) b c m j = Refused r
 
 unfoldable pub listAnswer : List ℕ → Contacts → ℕ → ℕ → ListAnswer
 listAnswer b = answerAfter (fields b) b
-
--- ---- scaffolding: what names are held against, the count of each model of a kind, 0 for one that is not there
-
-pub record CountsOfKind (κ : Kind) (b counts : List ℕ) : Type 0 where
-  pub each : (m : ℕ) → getD counts m 0 ≡ getD (countsOf κ b) m 0

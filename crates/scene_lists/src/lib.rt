@@ -23,8 +23,8 @@ use scene_walk::fields;
 ghost use mathlib.Core.Path.{_≡_};
 ghost use Rattle.scene_format.specs.Within.{RecordWithin};
 ghost use Rattle.scene_layout.specs.Layout.{layoutModels, layoutOf};
-ghost use Rattle.scene_lists.specs.Lists.{ownerOf, namedOf, CountsOfKind, listLooked};
-ghost use Rattle.scene_lists.specs.Lists.{listAnswer};
+ghost use Rattle.scene_check.specs.Check.{CountsOfKind};
+ghost use Rattle.scene_lists.specs.Lists.{ownerOf, namedOf, listLooked, listAnswer};
 
 // Whose contacts a list holds, and what they name. A fluid particle has a list of each of the first two, a boundary
 // particle one of the third (the Rust's `fluid_fluid_contacts`, `fluid_boundary_contacts` and

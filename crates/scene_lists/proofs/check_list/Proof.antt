@@ -103,10 +103,8 @@ list-looked-requires c κs =
     let m = models (model e) in (
       rw (← m .before .owner-of .ensures, c .before .record-offset .ensures)
           (turn (model e) .within .records _ (particle-there e)),
-      record {
-        each = rw (← n .named-of .ensures)
-            (stored-counts _ _ (fields-within _ (passed (told m)) _) (f .fill-counts .ensures));
-      },
+      rw (← n .named-of .ensures)
+          (stored-counts _ _ (fields-within _ (passed (told m)) _) (f .fill-counts .ensures)),
     )
 
 returns-4 : tie.Need-returns-4
