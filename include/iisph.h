@@ -3,6 +3,8 @@
    Build and link (x86-64 Linux; the archive needs no other library):
        rt staticlib iisph_c
        gcc -Iinclude program.c target/staticlib/libiisph_c.a -o program
+   iisph_check_list alone is in an archive of its own, which is made and linked likewise:
+       rt staticlib iisph_c_lists
 
    Every function is total: it takes any bytes, any doubles and any lengths, and ends. A list of n
    elements is passed as a pointer and n; the pointer may be null if n is 0, and is aligned for its
@@ -122,7 +124,8 @@ uint64_t iisph_validate(const uint8_t *scene, size_t scene_len, double *work, si
    Returns 97 if there is no such list, and then nothing is written: contacts is above 2, which is
    told before the scene is looked at, or the model or the particle is not there, which is told once
    1 to 6 have passed.
-   Costs a walk over the whole scene, whatever list is asked for. Takes some 1 KiB of stack. */
+   Costs a walk over the whole scene, whatever list is asked for. Takes some 1 KiB of stack. In
+   libiisph_c_lists.a, which needs no other archive. */
 uint64_t iisph_check_list(const uint8_t *scene, size_t scene_len, uint64_t contacts, size_t model,
                           size_t particle, uint64_t *counts, size_t counts_len);
 

@@ -1,11 +1,12 @@
-"""include/iisph.h declares the functions of crates/iisph_c, each list as a pointer and a length, and the Rust binding
-declares them alike."""
+"""include/iisph.h declares the functions of the crates of the C interface, each list as a pointer and a length, and the
+Rust binding declares them alike."""
 import pathlib
 import re
 import unittest
 
 ROOT = pathlib.Path(__file__).resolve().parent.parent
 HEADER = (ROOT / "include/iisph.h").read_text()
+CRATES = "iisph_c", "iisph_c_lists"
 IN_C = {"&[u8]": ["const uint8_t *", "size_t "], "&mut [f64]": ["double *", "size_t "],
         "&mut [u64]": ["uint64_t *", "size_t "], "&mut [usize]": ["uint64_t *", "size_t "],
         "f64": ["double "], "u64": ["uint64_t "], "usize": ["size_t "]}
@@ -20,7 +21,7 @@ def typed(parameters):
 
 def exported():
     """Name, and types in C of the result and the parameters, of each exported function."""
-    source = (ROOT / "crates/iisph_c/src/lib.rt").read_text()
+    source = "".join((ROOT / "crates" / crate / "src/lib.rt").read_text() for crate in CRATES)
     for name, parameters, result in re.findall(r'extern "C" fn (\w+)\((.*?)\) -> (\w+)', source, re.S):
         yield name, IN_C[result] + [c for t in typed(parameters) for c in IN_C[t]]
 

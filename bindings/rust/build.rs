@@ -1,7 +1,23 @@
-// Links libiisph_c.a, from the folder that IISPH_ARCHIVE_DIR names or from the repository's
+// Links the archives, from the folder that IISPH_ARCHIVE_DIR names or from the repository's
 // target/staticlib.
-use std::path::PathBuf;
+use std::path::{Path, PathBuf};
 use std::{env, process};
+
+// The step with all else, and the check of one contact list.
+const ARCHIVES: [&str; 2] = ["iisph_c", "iisph_c_lists"];
+
+fn link(folder: &Path, name: &str) {
+    let archive = folder.join(format!("lib{name}.a"));
+    let Ok(archive) = archive.canonicalize() else {
+        eprintln!("There is no {}.", archive.display());
+        eprintln!("Run `rt staticlib {name}` in the repository,");
+        eprintln!("or set IISPH_ARCHIVE_DIR to the folder that has the archives.");
+        process::exit(1);
+    };
+    println!("cargo:rerun-if-changed={}", archive.display());
+    println!("cargo:rustc-link-search=native={}", archive.with_file_name("").display());
+    println!("cargo:rustc-link-lib=static={name}");
+}
 
 fn main() {
     println!("cargo:rerun-if-env-changed=IISPH_ARCHIVE_DIR");
@@ -10,14 +26,7 @@ fn main() {
         Some(folder) => PathBuf::from(folder),
         None => here.join("../../target/staticlib"),
     };
-    let archive = folder.join("libiisph_c.a");
-    let Ok(archive) = archive.canonicalize() else {
-        eprintln!("There is no {}.", archive.display());
-        eprintln!("Run `rt staticlib iisph_c` in the repository,");
-        eprintln!("or set IISPH_ARCHIVE_DIR to the folder that has the archive.");
-        process::exit(1);
-    };
-    println!("cargo:rerun-if-changed={}", archive.display());
-    println!("cargo:rustc-link-search=native={}", archive.with_file_name("").display());
-    println!("cargo:rustc-link-lib=static=iisph_c");
+    for name in ARCHIVES {
+        link(&folder, name);
+    }
 }

@@ -1,5 +1,5 @@
 //! One IISPH pressure step over a packed scene, and its smoothing kernel: a safe interface to
-//! `libiisph_c.a`, whose functions are proved to meet their contracts for all arguments.
+//! the C archives, whose functions are proved to meet their contracts for all arguments.
 //! `include/iisph.h` has the format of a packed scene and of the lists; [`Scene::pack`] writes one.
 //! The specification's scene A, from its numbers to its answers:
 //!

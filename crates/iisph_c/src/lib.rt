@@ -4,7 +4,6 @@ use iisph_codes::COUNTS;
 use iisph_codes::NUMBERS;
 use iisph_codes::TOO_SHORT;
 use iisph_codes::advance_listed;
-use iisph_codes::contact_lists::tell_list;
 use iisph_codes::write_index;
 use iisph_codes::write_kernel;
 use iisph_codes::write_lengths;
@@ -19,7 +18,6 @@ ghost use mathlib.Core.Path.{_≡_};
 ghost use Prim.Native.Nat.{_≤_};
 ghost use lib.ListN.{length};
 ghost use Rattle.cubic_spline.specs.Shape.{weight, slope};
-ghost use Rattle.iisph_codes.specs.ContactLists.{listAsked, ListTo};
 ghost use Rattle.iisph_codes.specs.Kernel.{KernelTo};
 ghost use Rattle.iisph_codes.specs.Numbers.{countsNeeded};
 ghost use Rattle.iisph_codes.specs.Report.{numbersNeeded};
@@ -159,23 +157,6 @@ pub extern "C" fn iisph_validate(scene: &[u8], work: &mut [f64], counts: &mut [u
         Readiness::Ready => 0,
         Readiness::Refused(refusal) => write_refusal(refusal, counts),
     }
-}
-
-// The check of one contact list for refusal 7, and the looks at its contacts: 0 or 107, 97 if there is no such list; 99
-// where `counts` is too short, 101 to 106 where no list is looked at.
-#[no_mangle]
-pub extern "C" fn iisph_check_list(
-    scene: &[u8],
-    contacts: u64,
-    model: usize,
-    particle: usize,
-    counts: &mut [u64],
-) -> u64
-    ensures { λ r. ⌜
-        ListTo (listAsked (now (scene .entry)) contacts model particle) (now (counts .entry)) r (now (counts .exit))
-        ⌝ }
-{
-    tell_list(scene, contacts, model, particle, counts)
 }
 
 // The kernel at the distance r, with the radius h.

@@ -2,4 +2,3 @@ pub mod Numbers
 pub mod Report
 pub mod Kernel
 pub mod ClockList
-pub mod ContactLists

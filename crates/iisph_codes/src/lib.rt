@@ -1,7 +1,5 @@
 // What the C interface writes of an answer, and the number that it returns with it. What is public here is for the
 // crate of that interface, which shows what each function asks: the lent lists have room.
-pub mod contact_lists;
-
 use cubic_spline::KernelAnswer;
 use cubic_spline::KernelRefusal;
 use iisph_rules::Report;

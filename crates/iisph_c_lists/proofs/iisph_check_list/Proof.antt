@@ -1,10 +1,10 @@
--- `iisph_codes::contact_lists::tell_list` meets its contract: by the length of `counts`, then what is written of the
+-- `iisph_c_lists::iisph_check_list` meets its contract: by the length of `counts`, then what is written of the
 -- answer. Assumes nothing.
 use native.Mathlib.Omega.{arith}
 use borrow.Author.Needs.{needs}
-use Rattle.iisph_codes.proofs.ContactLists.{no-room, told}
-use Rattle.iisph_codes.proofs.contact_lists.tell_list.Statement.{statement}
-use Rattle.iisph_codes.proofs.contact_lists.tell_list.Tie as tie
+use Rattle.iisph_c_lists.proofs.Told.{no-room, told}
+use Rattle.iisph_c_lists.proofs.iisph_check_list.Statement.{statement}
+use Rattle.iisph_c_lists.proofs.iisph_check_list.Tie as tie
 
 returns : tie.Need-returns
 returns c = no-room _ _ (omega (arith, c .if1 .taken))
@@ -16,8 +16,8 @@ returns-2 c =
     told _ _ (omega (arith, l .before .if1 .left)) (l .list-asked .ensures) (w .write-list .ensures .0)
     (w .write-list .ensures .1)
 
-pub tell-list-spec : {M : Type 1} → statement M
-tell-list-spec =
+pub iisph-check-list-spec : {M : Type 1} → statement M
+iisph-check-list-spec =
     tie.close
     (tie.spec
     returns

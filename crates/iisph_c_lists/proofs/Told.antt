@@ -7,8 +7,8 @@ use lib.ListN.{length}
 use borrow.Author.Tests.{le-leb, lt-leb}
 use Rattle.lists.specs.Lists.{choose}
 use Rattle.scene_lists.specs.declared.ListAnswer.{ListAnswer}
-use Rattle.iisph_codes.specs.ContactLists.{listCode, listCounts, ListTo}
+use Rattle.iisph_c_lists.specs.Lists.{listCode, listCounts, ListTo}
 use Rattle.iisph_codes.specs.Numbers.{tooShort, countsNeeded}
 
 module _ (a : ListAnswer) (counts : List ℕ) where
   pub no-room : length counts < countsNeeded → ListTo a counts tooShort counts

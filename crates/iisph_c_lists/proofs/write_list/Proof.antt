@@ -1,8 +1,8 @@
--- `iisph_codes::contact_lists::write_list` meets its contract, by the answer. Assumes nothing.
+-- `iisph_c_lists::write_list` meets its contract, by the answer. Assumes nothing.
 use borrow.Author.Needs.{needs}
-use Rattle.iisph_codes.specs.ContactLists.{listCode, listCounts}
-use Rattle.iisph_codes.proofs.contact_lists.write_list.Statement.{statement}
-use Rattle.iisph_codes.proofs.contact_lists.write_list.Tie as tie
+use Rattle.iisph_c_lists.specs.Lists.{listCode, listCounts}
+use Rattle.iisph_c_lists.proofs.write_list.Statement.{statement}
+use Rattle.iisph_c_lists.proofs.write_list.Tie as tie
 
 returns : tie.Need-returns
 unfolding listCode listCounts

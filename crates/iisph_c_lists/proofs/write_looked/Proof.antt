@@ -1,10 +1,10 @@
--- `iisph_codes::contact_lists::write_looked` meets its contract: one store, and a refusal's. Assumes nothing.
+-- `iisph_c_lists::write_looked` meets its contract: one store, and a refusal's. Assumes nothing.
 use mathlib.Core.Path.{ap, _∙_}
 use lib.ListN.{length, length-set}
 use borrow.Author.Needs.{needs}
 use Rattle.iisph_codes.specs.Numbers.{walkCode, walkCounts}
-use Rattle.iisph_codes.proofs.contact_lists.write_looked.Statement.{statement}
-use Rattle.iisph_codes.proofs.contact_lists.write_looked.Tie as tie
+use Rattle.iisph_c_lists.proofs.write_looked.Statement.{statement}
+use Rattle.iisph_c_lists.proofs.write_looked.Tie as tie
 
 returns : tie.Need-returns
 unfolding walkCode walkCounts

@@ -1,7 +1,8 @@
-// What the C interface asks and writes of one contact list's check.
-use crate::COUNTS;
-use crate::TOO_SHORT;
-use crate::write_refusal;
+// The C interface to the check of one contact list (include/iisph.h). It makes an archive of its own, so that what a
+// step runs through has no caller beside the step: see docs/DECISIONS.md.
+use iisph_codes::COUNTS;
+use iisph_codes::TOO_SHORT;
+use iisph_codes::write_refusal;
 use scene_check::contact_list::Looked;
 use scene_format::Walk;
 use scene_lists::Contacts;
@@ -10,9 +11,9 @@ use scene_lists::check_list;
 ghost use mathlib.Core.Path.{_≡_};
 ghost use Prim.Native.Nat.{_≤_};
 ghost use lib.ListN.{length};
-ghost use Rattle.iisph_codes.specs.ContactLists.{listAsked, lookedCode, lookedCounts, listCode, listCounts};
-ghost use Rattle.iisph_codes.specs.ContactLists.{ListTo};
+ghost use Rattle.iisph_c_lists.specs.Lists.{listAsked, lookedCode, lookedCounts, listCode, listCounts};
+ghost use Rattle.iisph_c_lists.specs.Lists.{ListTo};
 ghost use Rattle.iisph_codes.specs.Numbers.{countsNeeded};
 
 // The numbers that contacts have in a call.
 const FLUID_FLUID: u64 = 0;
@@ -65,8 +66,10 @@ fn write_list(answer: ListAnswer, counts: &mut [u64]) -> u64
     }
 }
 
-// The check of the list that a call asks for, where there are places for what is told of it.
-pub fn tell_list(
+// The check of one contact list for refusal 7, and the looks at its contacts: 0 or 107, 97 if there is no such list; 99
+// where `counts` is too short, 101 to 106 where no list is looked at.
+#[no_mangle]
+pub extern "C" fn iisph_check_list(
     scene: &[u8],
     contacts: u64,
     model: usize,

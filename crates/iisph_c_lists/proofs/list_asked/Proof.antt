@@ -1,10 +1,10 @@
--- `iisph_codes::contact_lists::list_asked` meets its contract, number by number. Assumes nothing.
+-- `iisph_c_lists::list_asked` meets its contract, number by number. Assumes nothing.
 use borrow.Author.Needs.{needs}
 use borrow.Author.Tests.{eq-eqb, ne-eqb}
 use Rattle.lists.specs.Lists.{choose}
-use Rattle.iisph_codes.specs.ContactLists.{listAsked}
-use Rattle.iisph_codes.proofs.contact_lists.list_asked.Statement.{statement}
-use Rattle.iisph_codes.proofs.contact_lists.list_asked.Tie as tie
+use Rattle.iisph_c_lists.specs.Lists.{listAsked}
+use Rattle.iisph_c_lists.proofs.list_asked.Statement.{statement}
+use Rattle.iisph_c_lists.proofs.list_asked.Tie as tie
 
 returns : tie.Need-returns
 unfolding listAsked choose
