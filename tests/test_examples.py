@@ -19,10 +19,12 @@ NAMES = sorted(path.stem for path in EXAMPLES.glob("*.json"))
 
 class Examples(unittest.TestCase):
     def test_each_is_packed_and_answered(self):
-        self.assertEqual(NAMES, ["chamber", "scene-a", "scene-b", "torn-droplet", "torn-droplet-faint"])
+        self.assertEqual(NAMES, ["chamber", "lost-neighbour", "scene-a", "scene-b", "torn-droplet",
+                                 "torn-droplet-faint"])
         for name in NAMES:
             data, text = (EXAMPLES / (name + ".bin")).read_bytes(), (EXAMPLES / (name + ".txt")).read_text()
-            self.assertEqual(scene.pack((EXAMPLES / (name + ".json")).read_text()), (data, []))
+            packed, notes = scene.pack((EXAMPLES / (name + ".json")).read_text())
+            self.assertEqual((packed, len(notes)), (data, name == "lost-neighbour"))
             self.assertEqual(step_rules.lines(data), text)
             if "IISPH" in os.environ:      # the built program: IISPH=target/bin/iisph python3 -m unittest
                 done = subprocess.run([os.environ["IISPH"]], input=data, capture_output=True)
@@ -37,6 +39,11 @@ class Examples(unittest.TestCase):
                                (1.5, 0.0, 0.0)):
             self.assertEqual((chamber.weight(r, 1.0), chamber.slope(r, 1.0)),
                              (8.0 / math.pi * shape, 8.0 / math.pi * fall))
+
+    def test_the_lost_neighbour_is_met_at_the_second_look(self):
+        lines, refusals = scene.looks((EXAMPLES / "lost-neighbour.bin").read_bytes())
+        self.assertEqual(lines.splitlines()[-1], "   276  fluid 0, particle 1, fluid contacts: 2 looks at 3 contacts")
+        self.assertEqual([refusal.split(":")[0] for refusal in refusals], ["refusal 7 at 310"])
 
     def test_the_faint_droplet_hides_a_coefficient(self):
         read = step_rules.walk((EXAMPLES / "torn-droplet-faint.bin").read_bytes())

@@ -1,4 +1,4 @@
-/* Each function through the archive, on scene A of docs/FORMAT.md, and the check of one contact list on a scene that
+/* Each function through the archives, on scene A of docs/FORMAT.md, and the check of one contact list on a scene that
    has ten. Prints `ok`, or the line of the first difference.
    gcc -O2 -Wall -Wextra -Iinclude bindings/c/smoke.c target/staticlib/libiisph_c*.a -o target/smoke && target/smoke */
 #include "iisph.h"
