@@ -15,7 +15,7 @@ pub struct Seen {
 
 // The name of the contact at an offset, after so many looks. The check of a list reads its contacts by nothing else.
 pub fn look(s: &[u8], at: usize, looks: usize) -> Seen
-    requires { ⌜ (at + nameWidth ≤ length (now s)) × (looks < 0xFFFF_FFFF_FFFF_FFFF) ⌝ }
+    requires { ⌜ (at + nameWidth ≤ length (now s)) × (looks < length (now s)) ⌝ }
     ensures { λ r. ⌜ NameIs (now (s .entry)) at (r .name) × (r .looks ≡ looks + 1) ⌝ }
 {
     Seen {

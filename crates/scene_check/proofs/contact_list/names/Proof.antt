@@ -2,7 +2,7 @@
 -- within the bytes; and at contact i there were i looks. Assumes nothing.
 use Prim.Native.Nat.{ℕ, suc, _+_, _*_, _-_, _≤_, _<_}
 use mathlib.Core.Path.{_≡_, refl}
-use native.Mathlib.Nat.{sub-zero, add-zero, mul-zero, mul-suc}
+use native.Mathlib.Nat.{sub-zero, add-zero, one-mul, mul-zero, mul-suc, mul-le-mul-right}
 use native.Mathlib.Omega.{arith}
 use lib.ListN.{length}
 use borrow.Author.Needs.{needs}
@@ -38,7 +38,11 @@ within c =
     omega (arith, c .before .loop .inv .1, one-and-rest (a .w) (a .n) (c .before .loop .i) (c .loop-test .taken))
 
 look-requires : tie.Need-look-requires Inv-loop μ-loop
-look-requires c κs = (omega (arith, within c), omega (arith, c .before .loop .inv .3, c .loop-test .taken))
+look-requires c κs =
+    let p = c .before .before .before .pre in
+    let a = c .before .before .before .args in
+    let few : 1 * a .n ≤ a .w * a .n = mul-le-mul-right (a .n) (omega (arith, p .0)) in
+    (omega (arith, within c), omega (arith, few, one-mul (a .n), p .1, c .before .loop .inv .3, c .loop-test .taken))
 
 returns : tie.Need-returns Inv-loop μ-loop
 unfolding names name refusedIf choose
