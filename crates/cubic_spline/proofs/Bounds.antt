@@ -1,14 +1,16 @@
--- The error bounds, for all finite q from 0 on: 2 ^ -50 for the weight's shape, 2 ^ -49 for the slope's (METHOD 1.5). A
--- shape has the same three pieces on doubles as on fractions, and Chains bounds each; Rows has -0. Assumes nothing.
-use mathlib.Core.Path.{_≡_, refl}
-use Prim.Native.Nat.{ℕ, _-_, _*_, _/_, _^_, _≤_, _<_, zero-le}
-use native.Mathlib.Nat.{zero-mul, mul-one}
+-- The error bounds of the shapes, for all finite q from 0 on (METHOD 1.5). A shape has the same three pieces on doubles
+-- as on fractions, and Chains bounds each; up to 1e-5 the exact slope falls; Rows has -0 and 1e-5. Assumes nothing.
+use mathlib.Core.Path.{_≡_, refl, sym, _∙_}
+use Prim.Native.Nat.{ℕ, _+_, _-_, _*_, _/_, _^_, _≤_, _<_, zero-le}
+use native.Mathlib.Nat.{le-trans, add-sub-of-le, zero-mul, mul-one, mul-add, add-mul, mul-right-comm}
+use native.Mathlib.Nat.{mul-le-mul-left, mul-le-mul-right, le-of-mul-le-mul-right}
 use native.Mathlib.Omega.{arith}
 use mathlib.Core.Bool.{Bool, true, false, not, _||_, cond}
 use lib.Dec.{T, leb, lit≤, lit<}
 use lib.Ieee.{Float, binary64, fits, ofBits, le, lt}
+use lib.Ieee.Bits.{is-true}
 use lib.Ieee.Scale.{finite}
-use borrow.Author.Tests.{leb-true, leb-false}
+use borrow.Author.Tests.{leb-true, leb-false, le-leb, not-true}
 use Rattle.math.specs.Real.{_⊖_, +0, half, one}
 use Rattle.rounding.specs.Exact.{unit, count}
 use Rattle.math.proofs.Doubles.{holds}
@@ -18,9 +20,10 @@ use Rattle.rounding.proofs.Counts.{fraction-finite, fraction-count, at-least-ze
 use Rattle.rounding.proofs.Counts.{minus-zero-or-fraction}
 use Rattle.rounding.proofs.Steps.{Scale, Within}
 use Rattle.cubic_spline.specs.Shape.{epsilon, nearWeight, farWeight, weightShape, nearSlope, farSlope, slopeShape}
-use Rattle.cubic_spline.specs.Exact.{pieces, exactWeight, monaghanFall, exactFall}
-use Rattle.cubic_spline.specs.Bound.{ShapeWithin, WeightWithin, SlopeWithin, WeightPromise, SlopePromise}
-use Rattle.cubic_spline.proofs.Rows.{WeightNear, SlopeNear, weight-minus-zero, slope-minus-zero}
+use Rattle.cubic_spline.specs.Exact.{pieces, exactWeight, monaghanFall}
+use Rattle.cubic_spline.specs.Bound.{ShapeWithin, WeightWithin, WeightNear, WeightPromise}
+use Rattle.cubic_spline.specs.Bound.{SlopeWithin, SlopeNear, SlopeFlat, SlopeBound, SlopePromise}
+use Rattle.cubic_spline.proofs.Rows.{weight-minus-zero, slope-minus-zero, slope-least}
 use Rattle.cubic_spline.proofs.Chains.{near-weight, far-weight, near-slope, far-slope}
 
 -- ---- the three pieces
@@ -66,9 +69,16 @@ module _ {q : Float} {n : ℕ} (Q : Fraction false q n unit) where
   one-test : le q one ≡ leb n unit
   one-test = rw (mul-one n) at (le-is q one n unit 1 1 (lit< tt) (lit< tt) (value-of Q) (value-of one-fraction))
 
-  epsilon-test : le q epsilon ≡ leb (n * unit) (count epsilon * unit)
-  epsilon-test =
-      le-is q epsilon n unit (count epsilon) unit (lit< tt) (lit< tt) (value-of Q) (value-of epsilon-fraction)
+  under-epsilon : le q epsilon ≡ true → n ≤ count epsilon
+  under-epsilon e =
+      let E = value-of epsilon-fraction in
+      let t = le-is q epsilon n unit (count epsilon) unit (lit< tt) (lit< tt) (value-of Q) E in
+      le-of-mul-le-mul-right (leb-true (n * unit) (count epsilon * unit) (sym t ∙ e)) (lit< tt)
+
+  past-epsilon : T (lt epsilon q) → le q epsilon ≡ false
+  past-epsilon a =
+      let t = lt-is epsilon q (count epsilon) unit n unit (value-of epsilon-fraction) (value-of Q) in
+      not-true (le q epsilon) (sym t ∙ is-true (lt epsilon q) a)
 
   weight-pieces : weightShape q ≡ pieces unit n (nearWeight q) (farWeight (one ⊖ q)) +0
   unfolding weightShape pieces
@@ -120,42 +130,58 @@ zero-found m c b = record { isFinite = tt; sign = side m; near = rw (zero-mul c)
 
 -- ---- the weight
 
-weight-at : {q : Float} {n : ℕ} → Fraction false q n unit → WeightWithin (exactWeight unit n) (weightShape q)
+weight-at : {q : Float} → Fraction false q (count q) unit → WeightNear q (weightShape q)
 unfolding exactWeight grain
-weight-at {q} {n} Q =
+weight-at {q} Q =
     rw (weight-pieces Q)
-    (by-pieces (λ x v. WeightWithin v x) unit n
+    (by-pieces (λ x v. WeightWithin v x) unit (count q)
     (λ h. found _ (lit≤ tt) (near-weight scale Q h))
-    (λ h l. found _ (lit≤ tt) (far-weight scale Q l (past-half unit n h)))
+    (λ h l. found _ (lit≤ tt) (far-weight scale Q l (past-half unit (count q) h)))
     (zero-found false _ _))
 
-weight-bound : (q : Float) → T (fits binary64 q) → T (finite q) → T (le +0 q) → WeightNear q
-weight-bound = minus-zero-or-fraction WeightNear weight-minus-zero (λ q Q. weight-at Q)
+weight-bound : (q : Float) → T (fits binary64 q) → T (finite q) → T (le +0 q) → WeightNear q (weightShape q)
+weight-bound = minus-zero-or-fraction (λ q. WeightNear q (weightShape q)) weight-minus-zero (λ q Q. weight-at Q)
 
 -- ---- the slope
 
--- above the double 1e-5 it is near Monaghan's
-pub slope-above : {q : Float} {n : ℕ} → Fraction false q n unit → le q epsilon ≡ false
-    → SlopeWithin (monaghanFall unit n) (slopeShape q)
+-- above the double 1e-5 it is near the exact one
+slope-above : {q : Float} → Fraction false q (count q) unit → T (lt epsilon q) → SlopeNear q (slopeShape q)
 unfolding monaghanFall grain
-slope-above {q} {n} Q e =
-    rw (slope-pieces Q e)
-    (by-pieces (λ x v. SlopeWithin v x) unit n
+slope-above {q} Q a =
+    rw (slope-pieces Q (past-epsilon Q a))
+    (by-pieces (λ x v. SlopeWithin v x) unit (count q)
     (λ h. found _ (lit≤ tt) (near-slope scale Q h))
-    (λ h l. found _ (lit≤ tt) (far-slope scale Q l (past-half unit n h)))
+    (λ h l. found _ (lit≤ tt) (far-slope scale Q l (past-half unit (count q) h)))
     (zero-found true _ _))
 
--- and up to there it is 0, as METHOD 1.5 has it
-slope-at : {q : Float} {n : ℕ} → Fraction false q n unit → SlopeWithin (exactFall unit n) (slopeShape q)
-unfolding exactFall
-slope-at {q} {n} Q = rw (← epsilon-test Q) (go (le q epsilon) refl)
-  where
-    go : (t : Bool) → le q epsilon ≡ t → SlopeWithin (cond t 0 (monaghanFall unit n)) (slopeShape q)
-    go true e = rw (slope-up-to-epsilon q e) (zero-found true _ _)
-    go false e = slope-above Q e
+-- up to 1 / 3 the exact slope falls: k is how much more the second number is than the first
+products-rise : (u n k : ℕ) → (n + k) * 3 ≤ u → (2 * u - 3 * n) * n ≤ (2 * u - 3 * (n + k)) * (n + k)
+products-rise u n k h =
+    let s = 2 * u - 3 * (n + k) in
+    let d : 2 * u - 3 * n ≡ s + 3 * k = omega arith in
+    let m : 3 * n * k ≤ s * k = mul-le-mul-right k (omega arith) in
+    rw (d, mul-add s n k, add-mul s (3 * k) n, mul-right-comm 3 k n) (omega arith)
 
-slope-bound : (q : Float) → T (fits binary64 q) → T (finite q) → T (le +0 q) → SlopeNear q
-slope-bound = minus-zero-or-fraction SlopeNear slope-minus-zero (λ q Q. slope-at Q)
+falls-rise : (u n e : ℕ) → n ≤ e → e * 3 ≤ u → monaghanFall u n ≤ monaghanFall u e
+unfolding monaghanFall pieces
+falls-rise u n e l h =
+    let d : n + (e - n) ≡ e = add-sub-of-le l in
+    rw (le-leb (n * 2) u (omega arith), le-leb (e * 2) u (omega arith))
+    (mul-le-mul-left 6 (rw d at (products-rise u n (e - n) (rw d h))))
+
+-- up to the double 1e-5 it is 0, and the exact one is not below that at 1e-5
+slope-up-to : {q : Float} → Fraction false q (count q) unit → T (le q epsilon) → SlopeFlat q (slopeShape q)
+unfolding ofBits le
+slope-up-to {q} Q a =
+    let t = is-true (le q epsilon) a in
+    let l = falls-rise unit (count q) (count epsilon) (under-epsilon Q t) (lit≤ tt) in
+    let m = slope-least .upTo tt .least in
+    record { zero = slope-up-to-epsilon q t; least = le-trans (mul-le-mul-right 100000 l) m }
+
+slope-bound : (q : Float) → T (fits binary64 q) → T (finite q) → T (le +0 q) → SlopeBound q (slopeShape q)
+slope-bound =
+    minus-zero-or-fraction (λ q. SlopeBound q (slopeShape q)) slope-minus-zero
+    (λ q Q. record { above = slope-above Q; upTo = slope-up-to Q })
 
 -- ---- what the two functions promise
 

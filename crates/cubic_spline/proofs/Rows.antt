@@ -1,16 +1,19 @@
--- What holds at single doubles, by evaluation: the definitions yield every row of specs/Rows.antt, and the error bounds
--- hold at -0 and where the errors are the largest that are known. Assumes nothing.
+-- What holds at single doubles, by evaluation: the definitions yield every row of specs/Rows.antt; the error bounds
+-- hold at -0, and where the errors are the largest that are known closer bounds do not. Assumes nothing.
 use mathlib.Core.Path.{refl}
-use lib.Dec.{lit≤}
+use Prim.Native.Nat.{_*_, _≤_}
+use native.Mathlib.Nat.{not-le-of-lt}
+use mathlib.Core.Bool.{true, false}
+use lib.Dec.{lit≤, lit<}
 use lib.Ieee.{Float, ofBits, toBits, add, sub, mul, div, neg, le, lt}
 use Rattle.math.specs.Real.{bits}
 use Rattle.math.specs.Rows.{Yielded}
 use Rattle.rounding.specs.Exact.{unit, count}
 use Rattle.rounding.proofs.Counts.{minus-zero}
-use Rattle.cubic_spline.specs.Shape.{weightShape, slopeShape}
+use Rattle.cubic_spline.specs.Shape.{epsilon, weightShape, slopeShape}
 use Rattle.cubic_spline.specs.Answer.{kernelAnswer}
-use Rattle.cubic_spline.specs.Exact.{pieces, exactWeight, monaghanFall, exactFall}
-use Rattle.cubic_spline.specs.Bound.{WeightWithin, SlopeWithin}
+use Rattle.cubic_spline.specs.Exact.{pieces, exactWeight, monaghanFall}
+use Rattle.cubic_spline.specs.Bound.{ShapeWithin, WeightNear, SlopeNear, SlopeBound}
 use Rattle.cubic_spline.specs.Rows.{rows}
 
 pub rows-hold : Yielded rows
@@ -19,27 +22,45 @@ rows-hold = refl
 
 -- ---- the error bounds
 
--- of the weight at q, and of the slope
-abbrev pub WeightNear : Float → Type 0
-WeightNear q = WeightWithin (exactWeight unit (count q)) (weightShape q)
-
-abbrev pub SlopeNear : Float → Type 0
-SlopeNear q = SlopeWithin (exactFall unit (count q)) (slopeShape q)
-
-pub weight-minus-zero : WeightNear minus-zero
+pub weight-minus-zero : WeightNear minus-zero (weightShape minus-zero)
 unfolding weightShape exactWeight pieces ofBits add sub mul le
 weight-minus-zero = record { isFinite = tt; sign = tt; near = (lit≤ tt, lit≤ tt) }
 
-pub slope-minus-zero : SlopeNear minus-zero
-unfolding slopeShape exactFall ofBits le lt
-slope-minus-zero = record { isFinite = tt; sign = tt; near = (lit≤ tt, lit≤ tt) }
+pub slope-minus-zero : SlopeBound minus-zero (slopeShape minus-zero)
+unfolding slopeShape monaghanFall pieces ofBits le lt
+slope-minus-zero = record { above = λ a. absurd a; upTo = λ a. record { zero = refl; least = lit≤ tt } }
 
--- q close to 0.35546744: the error is 2 ^ -52.38
-pub weight-farthest : WeightNear (bits 0x3FD6BFFA7D7A1E96)
+-- q = 0.3554674363481153: the error is 2 ^ -52.38, so within 2 ^ -50 and not within 2 ^ -53
+abbrev farthest-weight : Float
+farthest-weight = bits 0x3FD6BFFA7D7A1E96
+
+pub weight-farthest : WeightNear farthest-weight (weightShape farthest-weight)
 unfolding weightShape exactWeight pieces ofBits add sub mul le
 weight-farthest = record { isFinite = tt; sign = tt; near = (lit≤ tt, lit≤ tt) }
 
--- q close to 0.49989478: the error is 2 ^ -50.54
-pub slope-farthest : SlopeNear (bits 0x3FDFFE46B0677C46)
-unfolding slopeShape exactFall monaghanFall pieces ofBits add sub mul le lt
+pub weight-no-nearer : ShapeWithin false (exactWeight unit (count farthest-weight)) (unit * unit) 53
+    (weightShape farthest-weight) → ⊥
+unfolding weightShape exactWeight pieces ofBits add sub mul le
+weight-no-nearer W = not-le-of-lt (lit< tt) (W .near .1)
+
+-- q = 0.4998947832772881: the error is 2 ^ -50.54, so within 2 ^ -49 and not within 2 ^ -51
+abbrev farthest-slope : Float
+farthest-slope = bits 0x3FDFFE46B0677C46
+
+pub slope-farthest : SlopeNear farthest-slope (slopeShape farthest-slope)
+unfolding slopeShape monaghanFall pieces ofBits add sub mul le lt
 slope-farthest = record { isFinite = tt; sign = tt; near = (lit≤ tt, lit≤ tt) }
+
+pub slope-no-nearer : ShapeWithin true (monaghanFall unit (count farthest-slope)) unit 51
+    (slopeShape farthest-slope) → ⊥
+unfolding slopeShape monaghanFall pieces ofBits add sub mul le lt
+slope-no-nearer W = not-le-of-lt (lit< tt) (W .near .0)
+
+-- at the double 1e-5 the computed slope is 0 and the exact one below -0.00011, the least of those up to there
+pub slope-least : SlopeBound epsilon (slopeShape epsilon)
+unfolding slopeShape monaghanFall pieces ofBits le lt
+slope-least = record { above = λ a. absurd a; upTo = λ a. record { zero = refl; least = lit≤ tt } }
+
+pub slope-no-flatter : monaghanFall unit (count epsilon) * 100000 ≤ 11 * (unit * unit) → ⊥
+unfolding monaghanFall pieces ofBits
+slope-no-flatter l = not-le-of-lt (lit< tt) l

@@ -3,8 +3,6 @@
 use Prim.Native.Nat.{ℕ, _-_, _*_}
 use mathlib.Core.Bool.{cond}
 use lib.Dec.{leb}
-use Rattle.rounding.specs.Exact.{unit, count}
-use Rattle.cubic_spline.specs.Shape.{epsilon}
 
 -- the spline's three pieces: up to 1 / 2, up to 1, and beyond. In its piece no difference below falls under 0
 unfoldable pub pieces : {A : Type 0} → ℕ → ℕ → A → A → A → A
@@ -17,7 +15,3 @@ exactWeight u n = pieces u n (u * u * u - 6 * (n * n * u - n * n * n)) (2 * ((u 
 -- Monaghan's slope, its sign turned, times u ^ 2: 6 q (2 - 3 q), then 6 (1 - q) ^ 2, then 0
 unfoldable pub monaghanFall : ℕ → ℕ → ℕ
 monaghanFall u n = pieces u n (6 * ((2 * u - 3 * n) * n)) (6 * ((u - n) * (u - n))) 0
-
--- METHOD's slope: 0 where q is at most the double 1e-5, which is count epsilon / unit
-unfoldable pub exactFall : ℕ → ℕ → ℕ
-exactFall u n = cond (leb (n * unit) (count epsilon * u)) 0 (monaghanFall u n)
