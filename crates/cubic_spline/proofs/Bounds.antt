@@ -2,7 +2,7 @@
 -- as on fractions, and Chains bounds each; up to 1e-5 the exact slope falls; Rows has -0 and 1e-5. Assumes nothing.
 use mathlib.Core.Path.{_≡_, refl, sym, _∙_}
 use Prim.Native.Nat.{ℕ, _+_, _-_, _*_, _/_, _^_, _≤_, _<_, zero-le}
-use native.Mathlib.Nat.{le-trans, add-sub-of-le, zero-mul, mul-one, mul-add, add-mul, mul-right-comm}
+use native.Mathlib.Nat.{le-trans, add-sub-of-le, zero-mul, mul-one, one-mul, mul-add, add-mul, mul-right-comm}
 use native.Mathlib.Nat.{mul-le-mul-left, mul-le-mul-right, le-of-mul-le-mul-right}
 use native.Mathlib.Omega.{arith}
 use mathlib.Core.Bool.{Bool, true, false, not, _||_, cond}
@@ -107,8 +107,8 @@ scale : Scale binary64 unit grain
 unfolding grain
 scale = record { exponent = 1017; unit-is = refl; grain-is = refl; grains = refl; digits = refl; room = lit< tt }
 
-found : {m : Bool} {x : Float} {v c k : ℕ} (b : ℕ) → k * (grain * c) ≤ unit * c / 2 ^ b → Within unit grain m x v c k
-    → ShapeWithin m v c b x
+found : {m : Bool} {x : Float} {v c k t : ℕ} (b : ℕ) → k * (grain * c) ≤ unit * c / 2 ^ b
+    → Within unit grain m x v c k t → ShapeWithin m v c b x
 found {m} {x} {v} {c} {k} b l W =
     record {
       isFinite = fraction-finite (W .is);
@@ -130,14 +130,19 @@ zero-found m c b = record { isFinite = tt; sign = side m; near = rw (zero-mul c)
 
 -- ---- the weight
 
+at-most-one : {m : Bool} {x : Float} {v c k : ℕ} → Within unit grain m x v c k 1 → count x ≤ unit
+at-most-one W = rw (fraction-count (W .is)) (rw (one-mul unit) at (W .top))
+
 weight-at : {q : Float} → Fraction false q (count q) unit → WeightNear q (weightShape q)
-unfolding exactWeight grain
+unfolding exactWeight grain ofBits
 weight-at {q} Q =
     rw (weight-pieces Q)
     (by-pieces (λ x v. WeightWithin v x) unit (count q)
-    (λ h. found _ (lit≤ tt) (near-weight scale Q h))
-    (λ h l. found _ (lit≤ tt) (far-weight scale Q l (past-half unit (count q) h)))
-    (zero-found false _ _))
+    (λ h. let W = near-weight scale Q h in record { within = found _ (lit≤ tt) W; most = at-most-one W })
+    (λ h l.
+    let W = far-weight scale Q l (past-half unit (count q) h) in
+    record { within = found _ (lit≤ tt) W; most = at-most-one W })
+    (record { within = zero-found false _ _; most = zero-le }))
 
 weight-bound : (q : Float) → T (fits binary64 q) → T (finite q) → T (le +0 q) → WeightNear q (weightShape q)
 weight-bound = minus-zero-or-fraction (λ q. WeightNear q (weightShape q)) weight-minus-zero (λ q Q. weight-at Q)

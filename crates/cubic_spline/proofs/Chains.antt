@@ -10,7 +10,7 @@ use lib.Ieee.{Float, binary64, ofBits}
 use Rattle.math.specs.Real.{_⊖_, _⊗_, one}
 use Rattle.rounding.specs.Exact.{Near}
 use Rattle.rounding.proofs.Fractions.{Fraction, fraction, rescaled, negated, one-fraction}
-use Rattle.rounding.proofs.Steps.{Scale, Step, Within, near-whole, unit-pos, mul-units, mul-number, add-units}
+use Rattle.rounding.proofs.Steps.{Scale, Step, Within, near-whole, unit-pos, top-of, mul-units, mul-number, add-units}
 use Rattle.rounding.proofs.Steps.{sub-units, sub-units-under}
 use Rattle.cubic_spline.specs.Shape.{two, three, six, nearWeight, farWeight, nearSlope, farSlope}
 use Rattle.cubic_spline.proofs.Errors.{half-times, half-top, drop-error, drop-top, near-weight-error}
@@ -39,7 +39,7 @@ module _ {u w : ℕ} (S : Scale binary64 u w) where
     -- ---- up to 1 / 2
 
     -- (q2 × q) - q2, which is not above 0
-    drop : n * 2 ≤ u → Within u w true (q ⊗ q ⊗ q ⊖ q ⊗ q) (n * n * u - n * n * n) (u * u) 6
+    drop : n * 2 ≤ u → Within u w true (q ⊗ q ⊗ q ⊖ q ⊗ q) (n * n * u - n * n * n) (u * u) 6 1
     drop N =
         let A = mul-units S 1 Q Q (lit≤ tt) (half-top n n u w (2 ^ 55) N (quarter (S .grains))) in
         let a = A .count in
@@ -48,7 +48,7 @@ module _ {u w : ℕ} (S : Scale binary64 u w) where
         let l : b ≤ a = le-of-mul-le-mul-right (le-trans (B .double) (half-times a n u N)) (unit-pos S) in
         let D = sub-units-under S 1 (B .is) (A .is) l (lit≤ tt) (under a b (A .top)) in
         let near = drop-error u w n a b (D .count) N (A .near) (B .near) (near-whole D) in
-        record { count = D .count; is = D .is; near = near }
+        record { count = D .count; is = D .is; top = top-of S 1 (lit≤ tt) D; near = near }
       where
         quarter : u ≡ 2 ^ 57 * w → n ≤ 2 ^ 56 * w
         quarter h = omega arith
@@ -56,14 +56,14 @@ module _ {u w : ℕ} (S : Scale binary64 u w) where
         under : (a b : ℕ) → a ≤ 2 ^ 55 * w → a - b ≤ 2 ^ 55 * w
         under a b h = omega arith
 
-    pub near-weight : n * 2 ≤ u → Within u w false (nearWeight q) (u * u * u - 6 * (n * n * u - n * n * n)) (u * u) 52
+    pub near-weight : n * 2 ≤ u → Within u w false (nearWeight q) (u * u * u - 6 * (n * n * u - n * n * n)) (u * u) 52 1
     near-weight N = go (drop N)
       where
         less : (p : ℕ) → u ≡ 2 ^ 57 * w → u - p ≤ 2 ^ 57 * w
         less p h = omega arith
 
-        go : Within u w true (q ⊗ q ⊗ q ⊖ q ⊗ q) (n * n * u - n * n * n) (u * u) 6
-            → Within u w false (nearWeight q) (u * u * u - 6 * (n * n * u - n * n * n)) (u * u) 52
+        go : Within u w true (q ⊗ q ⊗ q ⊖ q ⊗ q) (n * n * u - n * n * n) (u * u) 6 1
+            → Within u w false (nearWeight q) (u * u * u - 6 * (n * n * u - n * n * n)) (u * u) 52 1
         go D =
             let d = D .count in
             let top = drop-top u w n d (S .grains) (unit-pos S) N (D .near) in
@@ -72,9 +72,9 @@ module _ {u w : ℕ} (S : Scale binary64 u w) where
             let under = le-trans (P .top) (le-of-eq (sym (S .grains))) in
             let R = add-units S 3 one-in-units (P .is) under (lit≤ tt) (less p (S .grains)) in
             let near = near-weight-error u w n d p (R .count) (D .near) (near-whole P) (near-whole R) in
-            record { count = R .count; is = R .is; near = near }
+            record { count = R .count; is = R .is; top = top-of S 1 (lit≤ tt) R; near = near }
 
-    pub near-slope : n * 2 ≤ u → Within u w true (nearSlope q) (6 * ((2 * u - 3 * n) * n)) u 208
+    pub near-slope : n * 2 ≤ u → Within u w true (nearSlope q) (6 * ((2 * u - 3 * n) * n)) u 208 8
     near-slope N =
         let A = mul-number S 4 Q three-fraction (lit≤ tt) (thrice (S .grains)) in
         let a = A .count in
@@ -85,7 +85,7 @@ module _ {u w : ℕ} (S : Scale binary64 u w) where
         let t = T .count in
         let R = mul-number S 6 (T .is) six-fraction (lit≤ tt) (six-times t (T .top)) in
         let near = near-slope-error u w n a s t (R .count) N (near-whole A) (near-whole B) (T .near) (near-whole R) in
-        record { count = R .count; is = R .is; near = near }
+        record { count = R .count; is = R .is; top = top-of S 8 (lit≤ tt) R; near = near }
       where
         thrice : u ≡ 2 ^ 57 * w → n * 3 ≤ 2 ^ 58 * w
         thrice h = omega arith
@@ -125,7 +125,7 @@ module _ {u w : ℕ} (S : Scale binary64 u w) where
     near-square T K A = square-error u w (u - n) (T .count) (A .count) K (half-rest T) (near-whole T) (A .near)
 
     pub far-weight : n ≤ u → (u - n) * 2 ≤ u
-        → Within u w false (farWeight (one ⊖ q)) (2 * ((u - n) * (u - n) * (u - n))) (u * u) 12
+        → Within u w false (farWeight (one ⊖ q)) (2 * ((u - n) * (u - n) * (u - n))) (u * u) 12 1
     far-weight L K =
         let T = rest L K in
         let t = T .count in
@@ -137,19 +137,19 @@ module _ {u w : ℕ} (S : Scale binary64 u w) where
         let T2 = near-square T K A in
         let H = half-rest T in
         let near = far-weight-error u w (u - n) t s c (R .count) K H (near-whole T) T2 (C .near) (near-whole R) in
-        record { count = R .count; is = R .is; near = near }
+        record { count = R .count; is = R .is; top = top-of S 1 (lit≤ tt) R; near = near }
       where
         twice : (c : ℕ) → c ≤ 2 ^ 54 * w → c * 2 ≤ 2 ^ 55 * w
         twice c h = omega arith
 
-    pub far-slope : n ≤ u → (u - n) * 2 ≤ u → Within u w true (farSlope (one ⊖ q)) (6 * ((u - n) * (u - n))) u 52
+    pub far-slope : n ≤ u → (u - n) * 2 ≤ u → Within u w true (farSlope (one ⊖ q)) (6 * ((u - n) * (u - n))) u 52 2
     far-slope L K =
         let T = rest L K in
         let A = square T (negated (T .is)) in
         let s = A .count in
         let R = mul-number S 4 (A .is) six-fraction (lit≤ tt) (six-times s (A .top)) in
         let near = far-slope-error u w (u - n) s (R .count) (near-square T K A) (near-whole R) in
-        record { count = R .count; is = R .is; near = near }
+        record { count = R .count; is = R .is; top = top-of S 2 (lit≤ tt) R; near = near }
       where
         six-times : (s : ℕ) → s ≤ 2 ^ 55 * w → s * 6 ≤ 2 ^ 58 * w
         six-times s h = omega arith

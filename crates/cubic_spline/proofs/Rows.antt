@@ -24,7 +24,8 @@ rows-hold = refl
 
 pub weight-minus-zero : WeightNear minus-zero (weightShape minus-zero)
 unfolding weightShape exactWeight pieces ofBits add sub mul le
-weight-minus-zero = record { isFinite = tt; sign = tt; near = (lit≤ tt, lit≤ tt) }
+weight-minus-zero =
+    record { within = record { isFinite = tt; sign = tt; near = (lit≤ tt, lit≤ tt) }; most = lit≤ tt }
 
 pub slope-minus-zero : SlopeBound minus-zero (slopeShape minus-zero)
 unfolding slopeShape monaghanFall pieces ofBits le lt
@@ -36,7 +37,8 @@ farthest-weight = bits 0x3FD6BFFA7D7A1E96
 
 pub weight-farthest : WeightNear farthest-weight (weightShape farthest-weight)
 unfolding weightShape exactWeight pieces ofBits add sub mul le
-weight-farthest = record { isFinite = tt; sign = tt; near = (lit≤ tt, lit≤ tt) }
+weight-farthest =
+    record { within = record { isFinite = tt; sign = tt; near = (lit≤ tt, lit≤ tt) }; most = lit≤ tt }
 
 pub weight-no-nearer : ShapeWithin false (exactWeight unit (count farthest-weight)) (unit * unit) 53
     (weightShape farthest-weight) → ⊥

@@ -20,10 +20,12 @@ pub record ShapeWithin (m : Bool) (v c b : ℕ) (x : Float) : Type 0 where
 
 -- ---- the weight
 
-abbrev pub WeightWithin : ℕ → Float → Type 0
-WeightWithin v x = ShapeWithin false v (unit * unit) 50 x
+-- x lies within 2 ^ -50 of the fraction v / unit ^ 3, and is at most 1
+pub record WeightWithin (v : ℕ) (x : Float) : Type 0 where
+  pub within : ShapeWithin false v (unit * unit) 50 x
+  pub most : count x ≤ unit
 
--- x lies within 2 ^ -50 of the exact weight at q
+-- of the exact weight at q
 abbrev pub WeightNear : Float → Float → Type 0
 WeightNear q x = WeightWithin (exactWeight unit (count q)) x
 
@@ -33,10 +35,11 @@ pub record WeightPromise (q r : Float) : Type 0 where
 
 -- ---- the slope
 
+-- x lies within 2 ^ -49 of minus the fraction v / unit ^ 2
 abbrev pub SlopeWithin : ℕ → Float → Type 0
 SlopeWithin v x = ShapeWithin true v unit 49 x
 
--- x lies within 2 ^ -49 of the exact slope at q
+-- of the exact slope at q
 abbrev pub SlopeNear : Float → Float → Type 0
 SlopeNear q x = SlopeWithin (monaghanFall unit (count q)) x
 

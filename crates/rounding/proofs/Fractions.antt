@@ -26,7 +26,7 @@ at-fraction P nan s a c h p = absurd h
 at-fraction P (inf t) s a c h p = absurd h
 at-fraction P (fin t m e) s a c h p = subst (λ z. P (fin z m e)) (sym (h .0)) (p m e (h .1))
 
-at-fractions : (P : Float → Float → Type 0) (x y : Float) (s t : Bool) (a c b d : ℕ)
+pub at-fractions : (P : Float → Float → Type 0) (x y : Float) (s t : Bool) (a c b d : ℕ)
     → HasValue x s a c → HasValue y t b d
     → ((m : ℕ) (e : ℤ) (n : ℕ) (i : ℤ) → m * up e * c ≡ a * down e → n * up i * d ≡ b * down i
     → P (fin s m e) (fin t n i))

@@ -3,3 +3,4 @@ pub mod Fractions
 pub mod Rounding
 pub mod Counts
 pub mod Steps
+pub mod Quotients

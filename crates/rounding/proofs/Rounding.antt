@@ -4,8 +4,9 @@ use mathlib.Core.Path.{_≡_, refl, sym, ap, _∙_, subst}
 use mathlib.Core.Logic.{inl, inr}
 use Prim.Native.Nat.{ℕ, zero, suc, _+_, _-_, _*_, _/_, _%_, _^_, _≤_, _<_, compare, Ordering, Ordering·lt, Ordering·eq}
 use Prim.Native.Nat.{Ordering·gt}
-use native.Mathlib.Nat.{le-refl, le-trans, le-of-eq, le-of-lt, lt-of-le-of-lt, eq-or-lt-of-le, suc-mul, mul-assoc}
-use native.Mathlib.Nat.{mul-right-comm, mul-pos, mul-le-mul-left, mul-le-mul-right, div-add-mod', mod-lt}
+use native.Mathlib.Nat.{le-refl, le-trans, le-of-eq, le-of-lt, lt-of-le-of-lt, lt-of-lt-of-le, lt-of-not-le}
+use native.Mathlib.Nat.{not-le-of-lt, eq-or-lt-of-le, add-sub-of-le, suc-mul, mul-comm, mul-assoc}
+use native.Mathlib.Nat.{mul-right-comm, mul-pos, mul-le-mul-left, mul-le-mul-right, pow-succ', div-add-mod', mod-lt}
 use native.Mathlib.Nat.{div-lt-iff-lt-mul, div-div-eq-div-mul}
 use native.Mathlib.Omega.{arith}
 use mathlib.Core.Bool.{Bool, not}
@@ -13,13 +14,13 @@ use lib.Dec.{T, isLe, isEq, eqb, leb→le, nleb→lt, eqb→eq, eqb-refl}
 use lib.Arith.{lt-of-le-ne}
 use lib.Pow.{pow-add, pow-pos, pow-mono, pow-lt}
 use lib.Ieee.{Format, prec, emax, low, size, nearest, round}
-use lib.Ieee.Digits.{size-le}
+use lib.Ieee.Digits.{size-lt, size-le, size-reaches}
 use lib.Ieee.Fits.{nearest-le, kept-lt, round-is, two}
 use lib.Ieee.Exact.{HasValue, units-val, round-exact}
 use lib.Ieee.Nearest.{closest}
 use lib.Ieee.Order.{drop, kept}
 use Rattle.rounding.specs.Exact.{Near}
-use Rattle.rounding.proofs.Near.{near-weak}
+use Rattle.rounding.proofs.Near.{near-weak, near-times}
 use Rattle.rounding.proofs.Fractions.{same-fraction}
 
 -- In every format, and on whole numbers alone. A unit is the smallest positive value, 2 ^ -low. num / den, which is num
@@ -143,3 +144,65 @@ module _ (f : Format) (s : Bool) (num den i : ℕ) (D : 0 < den) (room : prec f 
 
   pub round-near : num * 2 ^ low f ≤ 2 ^ (prec f + i) * den → RoundedNear f s num den i
   round-near h = elim (eq-or-lt-of-le h) [ inl e ↦ at-top e | inr l ↦ below-top l ]
+
+-- ---- relative to a bound
+
+-- num / den is at most z units, and z is so large that z units are a normal value: the error is at most 2 ^ -prec of z
+pub record RoundedBelow (f : Format) (s : Bool) (num den z : ℕ) : Type 0 where
+  pub units : ℕ
+  pub value : HasValue (round f s num den) s units (2 ^ low f)
+  pub near : Near (units * den * 2 ^ prec f) (num * 2 ^ low f * 2 ^ prec f) (z * den)
+
+module _ (f : Format) (s : Bool) (num den z : ℕ) (D : 0 < den) (normal : 2 ^ (prec f - 1) ≤ z) where
+  digits : prec f ≤ size z
+  digits = go (prec f) (two f) (lt-of-not-le (λ g. not-le-of-lt (lt-of-lt-of-le (size-lt z) (pow-mono g)) normal))
+    where
+      go : (p : ℕ) → 2 ≤ p → p - 1 < size z → p ≤ size z
+      go p h l = omega arith
+
+  -- the digits beyond those that are kept
+  beyond : ℕ
+  beyond = size z - prec f
+
+  size-is : prec f + beyond ≡ size z
+  unfolding beyond
+  size-is = add-sub-of-le digits
+
+  half-is : prec f - 1 + beyond ≡ size z - 1
+  unfolding beyond
+  half-is = go (prec f) (two f) digits
+    where
+      go : (p : ℕ) → 2 ≤ p → p ≤ size z → p - 1 + (size z - p) ≡ size z - 1
+      go p h l = omega arith
+
+  half-under : 2 ^ beyond * 2 ^ (prec f - 1) ≤ z
+  half-under =
+      rw (mul-comm (2 ^ beyond) (2 ^ (prec f - 1)), ← pow-add 2 (prec f - 1) beyond, half-is)
+      (size-reaches z (size z - 1) (go (size z) (le-trans (two f) digits)))
+    where
+      go : (i : ℕ) → 2 ≤ i → i - 1 < i
+      go i h = omega arith
+
+  pub round-below : z < 2 ^ (low f + emax f) → num * 2 ^ low f ≤ z * den → RoundedBelow f s num den z
+  round-below R l =
+      let room : prec f + beyond < low f + suc (emax f) = rw size-is (below (size z) (size-le z (low f + emax f) R)) in
+      let top : num * 2 ^ low f ≤ 2 ^ (prec f + beyond) * den =
+      le-trans l (mul-le-mul-right den (rw size-is (le-of-lt (size-lt z)))) in
+      let N = round-near f s num den beyond D room top in
+      record { units = N .units; value = N .value; near = weak (N .units * den) (num * 2 ^ low f) (N .near) }
+    where
+      below : (i : ℕ) → i ≤ low f + emax f → i < low f + suc (emax f)
+      below i h = omega arith
+
+      next : (p : ℕ) → 2 ≤ p → suc (p - 1) ≡ p
+      next p h = omega arith
+
+      whole : (x : ℕ) → x * 2 * 2 ^ (prec f - 1) ≡ x * 2 ^ prec f
+      whole x = rw (mul-assoc x 2 (2 ^ (prec f - 1)), ← pow-succ' 2 (prec f - 1), next (prec f) (two f))
+
+      weak : (x y : ℕ) → Near (x * 2) (y * 2) (den * 2 ^ beyond) → Near (x * 2 ^ prec f) (y * 2 ^ prec f) (z * den)
+      weak x y h =
+          rw (← whole x, ← whole y)
+          (near-weak (den * 2 ^ beyond * 2 ^ (prec f - 1)) (z * den)
+          (rw (mul-assoc den (2 ^ beyond) (2 ^ (prec f - 1)), mul-comm z den) (mul-le-mul-left den half-under))
+          (near-times (den * 2 ^ beyond) (2 ^ (prec f - 1)) h))

@@ -2,8 +2,8 @@
 -- it, and how far it is from the exact result. By the law of Rounding at what Fractions gives. Assumes nothing.
 use mathlib.Core.Path.{_≡_, subst}
 use Prim.Native.Nat.{ℕ, suc, _+_, _-_, _*_, _^_, _≤_, _<_}
-use native.Mathlib.Nat.{mul-comm, mul-assoc, mul-left-comm, mul-right-comm, zero-mul, mul-one, mul-pos}
-use native.Mathlib.Nat.{mul-le-mul-right, le-of-mul-le-mul-right, pow-suc, zero-lt-suc}
+use native.Mathlib.Nat.{le-trans, mul-comm, mul-assoc, mul-left-comm, mul-right-comm, zero-mul, mul-one, mul-pos}
+use native.Mathlib.Nat.{mul-le-mul-left, mul-le-mul-right, le-of-mul-le-mul-right, pow-suc, zero-lt-suc}
 use native.Mathlib.Omega.{arith}
 use mathlib.Core.Bool.{Bool, true, false}
 use lib.Arith.{le-zero}
@@ -13,7 +13,7 @@ use Rattle.rounding.specs.Exact.{Near}
 use Rattle.rounding.proofs.Near.{near-times, near-cancel}
 use Rattle.rounding.proofs.Fractions.{Signed, Fraction, Rounded, mul-rounded, add-rounded, sub-rounded}
 use Rattle.rounding.proofs.Fractions.{sub-rounded-under}
-use Rattle.rounding.proofs.Rounding.{RoundedNear, round-near}
+use Rattle.rounding.proofs.Rounding.{RoundedNear, round-near, round-below}
 
 -- A format of 53 digits, of which u units make 1, and w units a grain, 2 ^ -57. They are variables, so that nothing
 -- computes with 2 ^ 1074.
@@ -37,15 +37,27 @@ pub record Step (u w : ℕ) (m : Bool) (x : Float) (v c j : ℕ) : Type 0 where
 pub near-whole : {u w : ℕ} {m : Bool} {x : Float} {v j : ℕ} (T : Step u w m x v 1 j) → Near (T .count) v (2 ^ j * w)
 near-whole {w = w} T = rw (mul-one (T .count), mul-one w) at (T .near)
 
--- Several operations: x is `count` units, or minus that where m is true, within k grains of v / c units.
-pub record Within (u w : ℕ) (m : Bool) (x : Float) (v c k : ℕ) : Type 0 where
+-- Several operations: x is `count` units, or minus that where m is true, of magnitude at most l, and within k grains of
+-- v / c units.
+pub record Within (u w : ℕ) (m : Bool) (x : Float) (v c k l : ℕ) : Type 0 where
   pub count : ℕ
   pub is : Fraction m x count u
+  pub top : count ≤ l * u
   pub near : Near (count * c) v (k * (w * c))
+
+-- A part of a number: x is `count` units, and n * b / u units is the exact product of n units and b, of at most 1.
+pub record Part (u : ℕ) (x : Float) (n b : ℕ) : Type 0 where
+  pub count : ℕ
+  pub is : Fraction false x count u
+  pub near : Near (count * u * 2 ^ 53) (n * b * 2 ^ 53) (n * u)
 
 module _ {f : Format} {u w : ℕ} (S : Scale f u w) where
   pub unit-pos : 0 < u
   unit-pos = subst (λ x. 0 < x) (S .unit-is) (pow-pos (low f))
+
+  pub top-of : {m : Bool} {x : Float} {v c j : ℕ} (l : ℕ) → 2 ^ (54 + j) ≤ l * 2 ^ 57 → (T : Step u w m x v c j)
+      → T .count ≤ l * u
+  top-of l h T = le-trans (T .top) (rw (S .grains, ← mul-assoc l (2 ^ 57) w) (mul-le-mul-right w h))
 
   -- ---- the law of rounding in grains
 
@@ -98,7 +110,7 @@ module _ {f : Format} {u w : ℕ} (S : Scale f u w) where
       signed false h = h
       signed true h = λ z. le-zero (le-of-mul-le-mul-right (simp zero-mul (simp (h z, zero-mul) at (N .double))) D)
 
-  step : {m : Bool} {x : Float} {num den : ℕ} (v c j : ℕ) → Rounded f m x num den → 0 < den → 0 < c → j ≤ 6
+  pub step : {m : Bool} {x : Float} {num den : ℕ} (v c j : ℕ) → Rounded f m x num den → 0 < den → 0 < c → j ≤ 6
       → num * u * c ≡ v * den → v ≤ 2 ^ (54 + j) * w * c → Step u w m x v c j
   unfolding index
   step {num = num} {den} v c j R D C k e l =
@@ -140,3 +152,28 @@ module _ {f : Format} {u w : ℕ} (S : Scale f u w) where
   pub sub-units-under : {x y : Float} {a b : ℕ} (j : ℕ) → Fraction false x a u → Fraction false y b u → a ≤ b → j ≤ 6
       → b - a ≤ 2 ^ (54 + j) * w → Step u w true (sub f x y) (b - a) 1 j
   sub-units-under j X Y o k l = whole j (sub-rounded-under f unit-pos o X Y) k l
+
+  -- n units are a normal number, and so many that none above it is reached
+  pub mul-part : {x y : Float} {n b : ℕ} → 2 ^ 52 ≤ n → n < 2 ^ (low f + emax f) → b ≤ u
+      → Fraction false x n u → Fraction false y b u → Part u (mul f x y) n b
+  mul-part {x} {y} {n} {b} L R B X Y =
+      let P = mul-rounded f unit-pos unit-pos X Y in
+      let N = round-below f (P .sign) (n * b) (u * u) n (mul-pos unit-pos unit-pos) (normal (S .digits)) R under in
+      record {
+        count = N .units;
+        is = record { sign = P .sign; signed = P .signed; value = rw (P .is) (rw (S .unit-is) at (N .value)) };
+        near = near (N .units) (rw (S .unit-is, S .digits) at (N .near));
+      }
+    where
+      normal : prec f ≡ 53 → 2 ^ (prec f - 1) ≤ n
+      normal e = rw e L
+
+      under : n * b * 2 ^ low f ≤ n * (u * u)
+      under = rw (S .unit-is, ← mul-assoc n u u) (mul-le-mul-right u (mul-le-mul-left n B))
+
+      near : (g : ℕ) → Near (g * (u * u) * 2 ^ 53) (n * b * u * 2 ^ 53) (n * (u * u))
+          → Near (g * u * 2 ^ 53) (n * b * 2 ^ 53) (n * u)
+      near g h =
+          let l : g * u * 2 ^ 53 * u ≡ g * (u * u) * 2 ^ 53 = rw (mul-right-comm (g * u) (2 ^ 53) u, mul-assoc g u u) in
+          let r : n * b * 2 ^ 53 * u ≡ n * b * u * 2 ^ 53 = mul-right-comm (n * b) (2 ^ 53) u in
+          near-cancel (g * u * 2 ^ 53) (n * b * 2 ^ 53) (n * u) u unit-pos (rw (l, r, mul-assoc n u u) h)
