@@ -2,8 +2,9 @@
 -- What later operations make of an error is bounded first; one sum of inequalities closes each law. Assumes nothing.
 use mathlib.Core.Path.{_≡_, ap, _∙_}
 use Prim.Native.Nat.{ℕ, _+_, _-_, _*_, _^_, _≤_, _<_}
-use native.Mathlib.Nat.{mul-comm, mul-assoc, mul-left-comm, mul-right-comm, mul-add, mul-sub, add-mul, mul-le-mul}
+use native.Mathlib.Nat.{add-comm, mul-comm, mul-assoc, mul-left-comm, mul-right-comm, mul-sub, mul-le-mul}
 use native.Mathlib.Nat.{mul-le-mul-left, mul-le-mul-right, le-of-mul-le-mul-right, mul-pos}
+use native.Mathlib.Decide.{decLe}
 use native.Mathlib.Omega.{arith}
 use Rattle.rounding.specs.Exact.{Near}
 use Rattle.rounding.proofs.Near.{near-times, sub-times}
@@ -22,16 +23,21 @@ half-top x n u w c N X =
 
 -- ---- the drop n ^ 2 u - n ^ 3 is at most an eighth of u ^ 3
 
--- four times a product is at most the square of the sum: k is how much more the second number is than the first
-four-times : (n k : ℕ) → 4 * (n * (n + k)) ≤ (n + (n + k)) * (n + (n + k))
-four-times n k = simp (mul-add, add-mul) (let c : k * n ≡ n * k = mul-comm k n in omega arith)
+-- four times a product is at most the square of the sum
+pub four-times : (x y : ℕ) → 4 * (x * y) ≤ (x + y) * (x + y)
+four-times x y = elim (decLe x y) [ yes h ↦ go x y h | no h ↦ rw (mul-comm x y, add-comm x y) (go y x (omega arith)) ]
+  where
+    -- k is how much more the second number is than the first
+    apart : (x k : ℕ) → 4 * (x * (x + k)) ≤ (x + (x + k)) * (x + (x + k))
+    apart x k = omega arith
 
-eighth : (n u : ℕ) → n * 2 ≤ u → 8 * (n * n * u - n * n * n) ≤ u * u * u
+    go : (x y : ℕ) → x ≤ y → 4 * (x * y) ≤ (x + y) * (x + y)
+    go x y h = let e : x + (y - x) ≡ y = omega arith in rw e at (apart x (y - x))
+
+pub eighth : (n u : ℕ) → n * 2 ≤ u → 8 * (n * n * u - n * n * n) ≤ u * u * u
 eighth n u N =
-    let k = u - n * 2 in
-    let d : u - n ≡ n + k = omega arith in
-    let e : n + (n + k) ≡ u = omega arith in
-    let f : 4 * (n * (u - n)) ≤ u * u = rw d (rw e at (four-times n k)) in
+    let e : n + (u - n) ≡ u = omega arith in
+    let f : 4 * (n * (u - n)) ≤ u * u = rw e at (four-times n (u - n)) in
     let g : n * 2 * (4 * (n * (u - n))) ≤ u * (u * u) = mul-le-mul N f in
     let h : n * 2 * (4 * (n * (u - n))) ≡ 2 * (4 * (n * n * (u - n))) = simp (mul-assoc, mul-comm, mul-left-comm) in
     rw (← mul-sub (n * n) u n, mul-assoc u u u) (omega arith)

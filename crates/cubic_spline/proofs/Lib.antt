@@ -1,5 +1,6 @@
 pub mod Rows
 pub mod Errors
+pub mod Exact
 pub mod Chains
 pub mod Bounds
 pub mod Answers
