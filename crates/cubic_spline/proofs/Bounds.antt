@@ -100,10 +100,10 @@ slope-up-to-epsilon q e = rw e (go (lt one q))
 
 -- ---- so many grains are at most 2 ^ -b
 
-grain : ℕ
+pub grain : ℕ
 grain = 2 ^ 1017
 
-scale : Scale binary64 unit grain
+pub scale : Scale binary64 unit grain
 unfolding grain
 scale = record { exponent = 1017; unit-is = refl; grain-is = refl; grains = refl; digits = refl; room = lit< tt }
 
@@ -130,22 +130,36 @@ zero-found m c b = record { isFinite = tt; sign = side m; near = rw (zero-mul c)
 
 -- ---- the weight
 
-at-most-one : {m : Bool} {x : Float} {v c k : ℕ} → Within unit grain m x v c k 1 → count x ≤ unit
+-- so near to v / unit ^ 3, and the fraction of its count, which -0 is not
+pub record Weighed (v : ℕ) (x : Float) : Type 0 where
+  pub near : WeightWithin v x
+  pub is : Fraction false x (count x) unit
+
+own-count : {x : Float} {v c k : ℕ} → Within unit grain false x v c k 1 → Fraction false x (count x) unit
+own-count W = rw (fraction-count (W .is)) (W .is)
+
+at-most-one : {x : Float} {v c k : ℕ} → Within unit grain false x v c k 1 → count x ≤ unit
 at-most-one W = rw (fraction-count (W .is)) (rw (one-mul unit) at (W .top))
 
-weight-at : {q : Float} → Fraction false q (count q) unit → WeightNear q (weightShape q)
-unfolding exactWeight grain ofBits
+pub zero-weighed : Weighed 0 +0
+unfolding ofBits
+zero-weighed = record { near = record { within = zero-found false _ _; most = zero-le }; is = fraction (refl, refl) }
+
+pub weight-at : {q : Float} → Fraction false q (count q) unit → Weighed (exactWeight unit (count q)) (weightShape q)
+unfolding exactWeight grain
 weight-at {q} Q =
     rw (weight-pieces Q)
-    (by-pieces (λ x v. WeightWithin v x) unit (count q)
-    (λ h. let W = near-weight scale Q h in record { within = found _ (lit≤ tt) W; most = at-most-one W })
+    (by-pieces (λ x v. Weighed v x) unit (count q)
+    (λ h.
+    let W = near-weight scale Q h in
+    record { near = record { within = found _ (lit≤ tt) W; most = at-most-one W }; is = own-count W })
     (λ h l.
     let W = far-weight scale Q l (past-half unit (count q) h) in
-    record { within = found _ (lit≤ tt) W; most = at-most-one W })
-    (record { within = zero-found false _ _; most = zero-le }))
+    record { near = record { within = found _ (lit≤ tt) W; most = at-most-one W }; is = own-count W })
+    zero-weighed)
 
 weight-bound : (q : Float) → T (fits binary64 q) → T (finite q) → T (le +0 q) → WeightNear q (weightShape q)
-weight-bound = minus-zero-or-fraction (λ q. WeightNear q (weightShape q)) weight-minus-zero (λ q Q. weight-at Q)
+weight-bound = minus-zero-or-fraction (λ q. WeightNear q (weightShape q)) weight-minus-zero (λ q Q. weight-at Q .near)
 
 -- ---- the slope
 

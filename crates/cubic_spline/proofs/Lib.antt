@@ -4,4 +4,6 @@ pub mod Exact
 pub mod Lipschitz
 pub mod Chains
 pub mod Bounds
+pub mod Quotient
+pub mod Apply
 pub mod Answers

@@ -2,4 +2,5 @@ pub mod Shape
 pub mod Exact
 pub mod Bound
 pub mod Answer
+pub mod Apply
 pub mod Rows

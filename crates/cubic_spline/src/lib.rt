@@ -6,6 +6,7 @@ ghost use lib.Ieee.Scale.{finite};
 ghost use Rattle.cubic_spline.specs.Shape as Shape;
 ghost use Rattle.cubic_spline.specs.Bound.{WeightPromise, SlopePromise};
 ghost use Rattle.cubic_spline.specs.Answer.{KernelPromise};
+ghost use Rattle.cubic_spline.specs.Apply.{ApplyPromise};
 
 // The argument that is turned down: refusal 11, the distance, and refusal 12, the radius.
 pub enum KernelRefusal {
@@ -95,7 +96,7 @@ fn answer(r: f64, h: f64, value: f64) -> KernelAnswer
 
 // The kernel at the distance r, with the radius h.
 pub fn scalar_apply(r: f64, h: f64) -> KernelAnswer
-    ensures { λ a. ⌜ KernelPromise r h (Shape.weight r h) a ⌝ }
+    ensures { λ a. ⌜ ApplyPromise r h a ⌝ }
 {
     answer(r, h, normalizer(h) * weight_shape(r / h))
 }

@@ -3,19 +3,24 @@
 -- nothing.
 use mathlib.Core.Path.{_≡_, refl, sym, ap, _∙_}
 use mathlib.Core.Logic.{inl, inr}
-use Prim.Native.Nat.{ℕ, _+_, _*_, _^_, _≤_, _<_}
+use Prim.Native.Nat.{ℕ, _+_, _*_, _^_, _≤_, _<_, zero-le}
 use native.Mathlib.Nat.{lt-irrefl, eq-zero-or-pos, zero-mul, mul-comm, mul-assoc, mul-left-comm, mul-pos}
-use native.Mathlib.Nat.{mul-le-mul-right}
-use mathlib.Core.Bool.{Bool, false}
-use lib.Dec.{T}
-use lib.Ieee.{Float, Format, unlike, up, down, round, div, le}
-use lib.Ieee.Fits.{down-pos}
+use native.Mathlib.Nat.{mul-le-mul-right, le-of-mul-le-mul-right}
+use mathlib.Core.Bool.{Bool, true, false}
+use lib.Arith.{le-zero}
+use lib.Dec.{T, lit<}
+use lib.Ieee.{Float, Format, binary64, unlike, up, down, round, div, le, fits, ofBits}
+use lib.Ieee.Back.{whole-unique}
+use lib.Ieee.Fits.{down-pos, div-fits}
 use lib.Ieee.Exact.{HasValue}
 use lib.Ieee.Order.{round-mono}
 use lib.Ieee.Positive.{num, den, positive, den-pos, own-value, value-pos, le→cross}
 use lib.Ieee.Scale.{round-same}
 use borrow.Author.Tests.{ne-eqb}
-use Rattle.rounding.proofs.Fractions.{Fraction, Rounded, at-fractions, value-of}
+use Rattle.rounding.specs.Exact.{unit}
+use Rattle.rounding.proofs.Fractions.{Fraction, Rounded, at-fractions, same-fraction, value-of}
+use Rattle.rounding.proofs.Counts.{minus-zero}
+use Rattle.rounding.proofs.Rounding.{round-near}
 use Rattle.rounding.proofs.Steps.{Scale, Step, unit-pos, step}
 
 pub div-is : (f : Format) (x y : Float) (s t : Bool) (a c b d : ℕ) → 0 < c → 0 < b → 0 < d
@@ -81,3 +86,26 @@ div-anti f x y z X Y Z l =
     crossed =
         rw (across (num x) (den x) (num y) (den z), across (num x) (den x) (num z) (den y))
         (mul-le-mul-right (num x * den x) (le→cross y z Y Z l))
+
+-- ---- -0 divided is -0
+
+pub minus-zero-over : {y : Float} {b : ℕ} → 0 < b → Fraction false y b unit → div binary64 minus-zero y ≡ minus-zero
+unfolding ofBits fits
+minus-zero-over {y} {b} B Y =
+    whole-unique binary64 (div binary64 minus-zero y) minus-zero true 0 (div-fits binary64 minus-zero y) tt
+    (rw e rounded) (refl, refl)
+  where
+    D : 0 < b * 1
+    D = mul-pos B (lit< tt)
+
+    e : div binary64 minus-zero y ≡ round binary64 true (0 * unit) (b * 1)
+    e = div-is binary64 minus-zero y true false 0 1 b unit (lit< tt) B (lit< tt) (refl, refl) (value-of Y)
+
+    none : (g d : ℕ) → 0 < d → g * d ≤ 0 → g ≡ 0
+    none g d P l = le-zero (le-of-mul-le-mul-right (rw (zero-mul d) l) P)
+
+    rounded : HasValue (round binary64 true (0 * unit) (b * 1)) true 0 1
+    rounded =
+        let N = round-near binary64 true (0 * unit) (b * 1) 0 D (lit< tt) (rw (zero-mul unit) zero-le) in
+        let z : N .units ≡ 0 = none (N .units) (b * 1) D (N .double) in
+        same-fraction (round binary64 true (0 * unit) (b * 1)) true (N .units) unit 0 1 (lit< tt) (rw z refl) (N .value)

@@ -7,7 +7,7 @@ use Rattle.iisph_c.proofs.iisph_weight.Tie as tie
 returns : tie.Need-returns
 returns c =
     let k = c .before .before in
-    answered (k .before .before .scalar-apply .ensures .answer) (k .write-kernel .ensures)
+    answered (k .before .before .scalar-apply .ensures .kernel .answer) (k .write-kernel .ensures)
 
 pub iisph-weight-spec : {M : Type 1} → statement M
 iisph-weight-spec =
