@@ -19,6 +19,7 @@ from types import SimpleNamespace as Record
 from xml.sax.saxutils import escape
 
 from parts.layout import in_rows, linked, orders, placed, strain
+from parts.pictures import SANS, kept
 
 ROOT = pathlib.Path(__file__).resolve().parent.parent
 LIST, PICTURE = ROOT / "crates.txt", ROOT / "docs/crates.svg"
@@ -146,7 +147,7 @@ def laid_out(crates):
 
 # ---- the picture
 
-SANS, MONO = "Helvetica, Arial, sans-serif", "DejaVu Sans Mono, Menlo, Consolas, monospace"
+MONO = "DejaVu Sans Mono, Menlo, Consolas, monospace"
 TINTS = [("#eef0f4", "#56627a"), ("#fbf2e1", "#9a6a12"), ("#e4f3f0", "#22756a"),
          ("#e6eefa", "#2c5ba6"), ("#f0e9f8", "#6a479f"), ("#fae9ec", "#a63f57")]
 CAPTION = ("An arrow leads from a crate to one that it builds on. Left out are arrows that others "
@@ -217,14 +218,7 @@ def main():
         for other, builders in crates.unlisted.items():
             print("crates.txt: %s has no line and is left out; on it build %s"
                   % (other, ", ".join(builders)), file=sys.stderr)
-        made = svg(crates)
-        if not options.check:
-            PICTURE.write_text(made, encoding="utf-8")
-            return 0
-        same = PICTURE.is_file() and PICTURE.read_text(encoding="utf-8") == made
-        print("docs/crates.svg is what would be written" if same else
-              "docs/crates.svg is not what would be written; checks/crate_picture.py writes it")
-        return 0 if same else 1
+        return kept(PICTURE, svg(crates), options.check, "checks/crate_picture.py")
     except Wrong as e:
         print("crates.txt: %s" % e, file=sys.stderr)
     except OSError as e:

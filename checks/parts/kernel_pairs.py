@@ -1,4 +1,5 @@
-"""compare.py --kernel: distances and radii, and METHOD 1's weight and slope of each."""
+"""compare.py --kernel and shape_picture.py --subject: distances and radii, and METHOD 1's weight and
+slope of each, here and by a command."""
 import collections
 import math
 import struct
@@ -31,13 +32,22 @@ def divided(a, b):
     return math.nan if a == 0.0 or math.isnan(a) else math.copysign(math.inf, a) * math.copysign(1.0, b)
 
 
+def normalizer(h): return divided(8.0, ((math.pi * h) * h) * h)
+
+
 def kernel_line(r, h):
     if not (math.isfinite(r) and r >= 0.0):
         return "refused 11"
     if not (math.isfinite(h) and h > 0.0):
         return "refused 12"
-    normaliser, (weight, slope) = divided(8.0, ((math.pi * h) * h) * h), shapes(r / h)
-    return "%s %s" % (bits(normaliser * weight), bits((normaliser * slope) / h))
+    scale, (weight, slope) = normalizer(h), shapes(r / h)
+    return "%s %s" % (bits(scale * weight), bits((scale * slope) / h))
+
+
+def answers(command, cases):
+    """The lines that a command prints for these distances and radii."""
+    given = "".join("%s %s\n" % (bits(r), bits(h)) for r, h in cases)
+    return ran(command, None, given.encode()).splitlines()
 
 
 def kernel_kind(answer):
@@ -49,12 +59,8 @@ def kernel_kind(answer):
 
 def kernel_run(options):
     cases = list(pairs(options.seed, options.kernel))
-    lines = "".join("%s %s\n" % (bits(r), bits(h)) for r, h in cases)
-    rust = ran([str(options.oracle), "kernel"], None, lines.encode()).splitlines()
-    if options.command:
-        ours = ran(options.command, None, lines.encode()).splitlines()
-    else:
-        ours = [kernel_line(r, h) for r, h in cases]
+    rust = answers([str(options.oracle), "kernel"], cases)
+    ours = answers(options.command, cases) if options.command else [kernel_line(r, h) for r, h in cases]
     for (r, h), a, b in zip(cases, rust, ours):
         if a != b:
             print("distance %s radius %s\nthe Rust:    %s\nthe subject: %s" % (bits(r), bits(h), a, b))
