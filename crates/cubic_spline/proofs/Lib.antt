@@ -5,5 +5,6 @@ pub mod Lipschitz
 pub mod Chains
 pub mod Bounds
 pub mod Quotient
+pub mod Normal
 pub mod Apply
 pub mod Answers

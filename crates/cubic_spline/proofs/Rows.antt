@@ -6,15 +6,17 @@ use native.Mathlib.Nat.{not-le-of-lt}
 use mathlib.Core.Bool.{true, false}
 use lib.Dec.{lit≤, lit<}
 use lib.Ieee.{Float, ofBits, toBits, add, sub, mul, div, neg, le, lt}
-use Rattle.math.specs.Real.{bits}
+use Rattle.math.specs.Real.{bits, +0}
 use Rattle.math.specs.Rows.{Yielded}
 use Rattle.rounding.specs.Exact.{unit, count}
 use Rattle.rounding.proofs.Counts.{minus-zero}
-use Rattle.cubic_spline.specs.Shape.{epsilon, weightShape, slopeShape}
-use Rattle.cubic_spline.specs.Answer.{kernelAnswer}
+use Rattle.cubic_spline.specs.Shape.{epsilon, weightShape, slopeShape, weight}
+use Rattle.cubic_spline.specs.Answer.{refusal, kernelAnswer}
 use Rattle.cubic_spline.specs.Exact.{pieces, exactWeight, monaghanFall}
 use Rattle.cubic_spline.specs.Bound.{ShapeWithin, WeightNear, SlopeNear, SlopeBound}
+use Rattle.cubic_spline.specs.Apply.{AppliedWithin, AppliedNear, ApplyPromise}
 use Rattle.cubic_spline.specs.Rows.{rows}
+use Rattle.cubic_spline.specs.declared.KernelAnswer.the-variants.{Value}
 
 pub rows-hold : Yielded rows
 unfolding weightShape slopeShape kernelAnswer ofBits toBits add sub mul div neg le lt
@@ -66,3 +68,28 @@ slope-least = record { above = λ a. absurd a; upTo = λ a. record { zero = refl
 pub slope-no-flatter : monaghanFall unit (count epsilon) * 100000 ≤ 11 * (unit * unit) → ⊥
 unfolding monaghanFall pieces ofBits
 slope-no-flatter l = not-le-of-lt (lit< tt) l
+
+-- ---- the weight, relative to the normalizer
+
+-- r / h close to 0.35431894: the error is 1.198 × 2 ^ -52 × normalizer, so within 5 × 2 ^ -52 and not within 2 ^ -52
+abbrev farthest-distance : Float
+farthest-distance = bits 0x3FE343B9F47FAFF0
+
+abbrev farthest-radius : Float
+farthest-radius = bits 0x3FFB2F71F4FD8038
+
+pub applied-farthest : AppliedNear farthest-distance farthest-radius (weight farthest-distance farthest-radius)
+unfolding weightShape exactWeight pieces ofBits add sub mul div le
+applied-farthest = record { isFinite = tt; sign = tt; near = (lit≤ tt, lit≤ tt) }
+
+pub applied-no-nearer : AppliedWithin 1 farthest-distance farthest-radius (weight farthest-distance farthest-radius) → ⊥
+unfolding weightShape exactWeight pieces ofBits add sub mul div le
+applied-no-nearer W = not-le-of-lt (lit< tt) (W .near .1)
+
+-- the radius 2 ^ -341: the normalizer is infinite, so the answer is promised, and not how near it is
+abbrev tiny-radius : Float
+tiny-radius = bits 0x2AA0000000000000
+
+pub applied-tiny : ApplyPromise +0 tiny-radius (Value (weight +0 tiny-radius))
+unfolding weightShape kernelAnswer refusal ofBits add sub mul div le lt
+applied-tiny = record { kernel = record { answer = refl; numbered = refl }; bound = λ r h n. absurd n }

@@ -3,7 +3,7 @@
 use mathlib.Core.Path.{_≡_, refl, sym, ap, _∙_, subst}
 use Prim.Native.Nat.{ℕ, zero, suc, _+_, _-_, _*_, _/_, _%_, _^_, _≤_, _<_, zero-le}
 use native.Mathlib.Nat.{le-trans, le-of-eq, le-of-suc-le-suc, lt-of-not-le, not-le-of-lt, mul-le-mul-right, mul-one}
-use native.Mathlib.Nat.{le-of-mul-le-mul-right, one-mul, zero-mul, mul-assoc, mul-div-cancel, div-one}
+use native.Mathlib.Nat.{one-mul, zero-mul, mul-assoc, mul-div-cancel, div-one}
 use native.Mathlib.Omega.{arith}
 use mathlib.Core.Bool.{Bool, true, false, _&&_, _||_}
 use lib.IntN.{ℤ, pos, negsuc}
@@ -14,7 +14,6 @@ use lib.Ieee.Digits.{back}
 use lib.Ieee.Fits.{and-l, and-r, up-pos, down-pos}
 use lib.Ieee.Exact.{HasValue}
 use lib.Ieee.Order.{le-of-values}
-use lib.Ieee.Positive.{positive, values-of-le}
 use lib.Ieee.Scale.{grid, finite, round-val, round-under}
 use borrow.Author.Tests.{lt-ltb}
 use Rattle.math.specs.Real.{+0}
@@ -84,21 +83,6 @@ at-most-zero {x} {a} {c} C X = go (X .sign) (X .signed) (X .value)
         (λ m e w. minus-under (m * up e * 1) (0 * 1 * down e) (zero-mul (down e)))
     go false h v =
         le-of-values x +0 a c 0 1 C (lit< tt) v (value-of zero-fraction) (le-of-eq (rw (h refl) (sym (zero-mul c))))
-
--- ---- the doubles above 0
-
-pub positive-fraction : (x : Float) → T (fits binary64 x) → T (positive x) → Fraction false x (count x) unit
-positive-fraction nan t p = absurd p
-positive-fraction (inf s) t p = absurd p
-positive-fraction (fin true m e) t p = absurd p
-positive-fraction (fin false m e) t p = fraction (count-value false m e t)
-
-pub counts-of-le : (x y : Float) → T (fits binary64 x) → T (fits binary64 y) → T (positive x) → T (positive y)
-    → T (le x y) → count x ≤ count y
-counts-of-le x y s t p q l =
-    let X = value-of (positive-fraction x s p) in
-    let Y = value-of (positive-fraction y t q) in
-    le-of-mul-le-mul-right (values-of-le x y (count x) unit (count y) unit p q X Y l) (lit< tt)
 
 -- ---- what is rounded from a fraction that is not below 0, where it is finite
 

@@ -1,20 +1,18 @@
--- The quotient of two fractions that are not below 0, the second above 0: `round` of the exact one, a step of a chain,
--- and falling as the divisor grows. By the laws that Fractions, Steps and the order of rounded values have. Assumes
--- nothing.
+-- The quotient of two fractions, the second not 0: `round` of the exact one, and a step of a chain; -0 stays -0. By the
+-- laws that Fractions, Rounding and Steps have. Assumes nothing.
 use mathlib.Core.Path.{_≡_, refl, sym, ap, _∙_}
 use mathlib.Core.Logic.{inl, inr}
 use Prim.Native.Nat.{ℕ, _+_, _*_, _^_, _≤_, _<_, zero-le}
 use native.Mathlib.Nat.{lt-irrefl, eq-zero-or-pos, zero-mul, mul-comm, mul-assoc, mul-left-comm, mul-pos}
-use native.Mathlib.Nat.{mul-le-mul-right, le-of-mul-le-mul-right}
+use native.Mathlib.Nat.{le-of-mul-le-mul-right}
 use mathlib.Core.Bool.{Bool, true, false}
+use lib.IntN.{ℤ}
 use lib.Arith.{le-zero}
-use lib.Dec.{T, lit<}
-use lib.Ieee.{Float, Format, binary64, unlike, up, down, round, div, le, fits, ofBits}
+use lib.Dec.{eqb, lit<}
+use lib.Ieee.{Float, Format, binary64, unlike, up, down, round, div, fits, ofBits}
 use lib.Ieee.Back.{whole-unique}
-use lib.Ieee.Fits.{down-pos, div-fits}
+use lib.Ieee.Fits.{up-pos, down-pos, div-fits}
 use lib.Ieee.Exact.{HasValue}
-use lib.Ieee.Order.{round-mono}
-use lib.Ieee.Positive.{num, den, positive, den-pos, own-value, value-pos, le→cross}
 use lib.Ieee.Scale.{round-same}
 use borrow.Author.Tests.{ne-eqb}
 use Rattle.rounding.specs.Exact.{unit}
@@ -23,21 +21,34 @@ use Rattle.rounding.proofs.Counts.{minus-zero}
 use Rattle.rounding.proofs.Rounding.{round-near}
 use Rattle.rounding.proofs.Steps.{Scale, Step, unit-pos, step}
 
+-- ---- what is not 0 has a significand above 0
+
+pub significand-pos : (n : ℕ) (i : ℤ) (b d : ℕ) → 0 < b → n * up i * d ≡ b * down i → 0 < n
+significand-pos n i b d B e =
+    elim (eq-zero-or-pos n) [
+      | inl z ↦
+          let l : 0 < n * up i * d = rw e (mul-pos B (down-pos i)) in
+          absurd (lt-irrefl 0 (rw (z, zero-mul (up i), zero-mul d) at l))
+      | inr p ↦ p
+    ]
+
+pub not-zero : (n : ℕ) → 0 < n → eqb n 0 ≡ false
+not-zero n p = ne-eqb n 0 (λ z. lt-irrefl 0 (rw z at p))
+
+-- ---- the quotient
+
 pub div-is : (f : Format) (x y : Float) (s t : Bool) (a c b d : ℕ) → 0 < c → 0 < b → 0 < d
     → HasValue x s a c → HasValue y t b d → div f x y ≡ round f (unlike s t) (a * d) (b * c)
 unfolding div
 div-is f x y s t a c b d C B D h k =
     at-fractions (λ x y. div f x y ≡ round f (unlike s t) (a * d) (b * c)) x y s t a c b d h k
     (λ m e n i v w.
-    let N : 0 < n * up i = factor-pos (n * up i) d (rw w (mul-pos B (down-pos i))) in
-    simp (ne-eqb n 0 (λ z. lt-irrefl 0 (rw (z, zero-mul (up i)) at N)))
+    let N = significand-pos n i b d B w in
+    simp (not-zero n N)
     (round-same f (unlike s t) (m * up e * down i) (n * up i * down e) (a * d) (b * c)
-    (mul-pos N (down-pos e)) (mul-pos B C)
+    (mul-pos (mul-pos N (up-pos i)) (down-pos e)) (mul-pos B C)
     (cross (m * up e) (down e) (n * up i) (down i) v w)))
   where
-    factor-pos : (x y : ℕ) → 0 < x * y → 0 < x
-    factor-pos x y l = elim (eq-zero-or-pos x) [ inl z ↦ absurd (lt-irrefl 0 (rw (z, zero-mul y) at l)) | inr p ↦ p ]
-
     cross : (x p y q : ℕ) → x * c ≡ a * p → y * d ≡ b * q → x * q * (b * c) ≡ a * d * (y * p)
     cross x p y q v w =
         let l : x * q * (b * c) ≡ x * c * (b * q) = simp (mul-assoc, mul-comm, mul-left-comm) in
@@ -60,32 +71,6 @@ pub div-units : {f : Format} {u w : ℕ} {x y : Float} {a b : ℕ} (S : Scale f 
 div-units {f} {u} {a = a} {b} S j B X Y k l =
     let U = unit-pos S in
     step S (a * u) b j (div-rounded f U B U X Y) (mul-pos B U) B k (simp (mul-assoc, mul-comm, mul-left-comm)) l
-
--- ---- the order
-
--- the greater divisor gives the lesser quotient
-pub div-anti : (f : Format) (x y z : Float) → T (positive x) → T (positive y) → T (positive z) → T (le y z)
-    → T (le (div f x z) (div f x y))
-div-anti f x y z X Y Z l =
-    rw (at y Y, at z Z)
-    (round-mono f (num x * den z) (num z * den x) (num x * den y) (num y * den x)
-    (mul-pos (above z Z) (den-pos x)) (mul-pos (above y Y) (den-pos x)) crossed)
-  where
-    above : (y : Float) → T (positive y) → 0 < num y
-    above y Y = value-pos y (num y) (den y) Y (den-pos y) (own-value y Y)
-
-    at : (y : Float) → T (positive y) → div f x y ≡ round f false (num x * den y) (num y * den x)
-    at y Y =
-        div-is f x y false false (num x) (den x) (num y) (den y) (den-pos x) (above y Y) (den-pos y)
-        (own-value x X) (own-value y Y)
-
-    across : (a c b d : ℕ) → a * d * (b * c) ≡ b * d * (a * c)
-    across a c b d = simp (mul-assoc, mul-comm, mul-left-comm)
-
-    crossed : num x * den z * (num y * den x) ≤ num x * den y * (num z * den x)
-    crossed =
-        rw (across (num x) (den x) (num y) (den z), across (num x) (den x) (num z) (den y))
-        (mul-le-mul-right (num x * den x) (le→cross y z Y Z l))
 
 -- ---- -0 divided is -0
 

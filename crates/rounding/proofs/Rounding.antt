@@ -4,9 +4,8 @@ use mathlib.Core.Path.{_≡_, refl, sym, ap, _∙_, subst}
 use mathlib.Core.Logic.{inl, inr}
 use Prim.Native.Nat.{ℕ, zero, suc, _+_, _-_, _*_, _/_, _%_, _^_, _≤_, _<_, compare, Ordering, Ordering·lt, Ordering·eq}
 use Prim.Native.Nat.{Ordering·gt}
-use native.Mathlib.Nat.{le-refl, le-trans, le-of-eq, le-of-lt, lt-of-le-of-lt, lt-of-lt-of-le, lt-of-not-le}
-use native.Mathlib.Nat.{not-le-of-lt, eq-or-lt-of-le, add-sub-of-le, suc-mul, mul-comm, mul-assoc}
-use native.Mathlib.Nat.{mul-right-comm, mul-pos, mul-le-mul-left, mul-le-mul-right, pow-succ', div-add-mod', mod-lt}
+use native.Mathlib.Nat.{le-refl, le-trans, le-of-eq, le-of-lt, lt-of-le-of-lt, eq-or-lt-of-le, suc-mul, mul-assoc}
+use native.Mathlib.Nat.{mul-right-comm, mul-pos, mul-le-mul-left, mul-le-mul-right, div-add-mod', mod-lt}
 use native.Mathlib.Nat.{div-lt-iff-lt-mul, div-div-eq-div-mul}
 use native.Mathlib.Omega.{arith}
 use mathlib.Core.Bool.{Bool, not}
@@ -14,13 +13,14 @@ use lib.Dec.{T, isLe, isEq, eqb, leb→le, nleb→lt, eqb→eq, eqb-refl}
 use lib.Arith.{lt-of-le-ne}
 use lib.Pow.{pow-add, pow-pos, pow-mono, pow-lt}
 use lib.Ieee.{Format, prec, emax, low, size, nearest, round}
-use lib.Ieee.Digits.{size-lt, size-le, size-reaches}
+use lib.Ieee.Digits.{size-le}
 use lib.Ieee.Fits.{nearest-le, kept-lt, round-is, two}
 use lib.Ieee.Exact.{HasValue, units-val, round-exact}
 use lib.Ieee.Nearest.{closest}
 use lib.Ieee.Order.{drop, kept}
+use lib.Ieee.Scale.{grid}
 use Rattle.rounding.specs.Exact.{Near}
-use Rattle.rounding.proofs.Near.{near-weak, near-times}
+use Rattle.rounding.proofs.Near.{near-weak}
 use Rattle.rounding.proofs.Fractions.{same-fraction}
 
 -- In every format, and on whole numbers alone. A unit is the smallest positive value, 2 ^ -low. num / den, which is num
@@ -83,12 +83,35 @@ closest-nearest a b B =
 
 -- ---- `round`, where nothing overflows
 
-kept-le : (p n den : ℕ) → kept p n den ≤ 2 ^ p
+pub kept-le : (p n den : ℕ) → kept p n den ≤ 2 ^ p
 kept-le p n den =
     let k = drop p n den in
     let u = den * 2 ^ k in
     le-trans (nearest-le (n / u) (compare (n % u * 2) u))
     (subst (λ x. x < 2 ^ p) (div-div-eq-div-mul n den (2 ^ k)) (kept-lt p (n / den)))
+
+-- of what is below 2 ^ (prec + i) units at most i digits are dropped
+drop-le : (f : Format) (num den i : ℕ) → 0 < den → num * 2 ^ low f < 2 ^ (prec f + i) * den
+    → drop (prec f) (num * 2 ^ low f) den ≤ i
+drop-le f num den i D h =
+    let w = num * 2 ^ low f / den in
+    spare (size w) (prec f) (size-le w (prec f + i) (div-lt-iff-lt-mul D .1 h))
+  where
+    spare : (z p : ℕ) → z ≤ p + i → z - p ≤ i
+    spare z p h = omega arith
+
+-- the kept digits, moved back to their place, are off by half of 2 ^ i units at most, and at most the double
+pub grid-near : (f : Format) (num den i : ℕ) → 0 < den → num * 2 ^ low f < 2 ^ (prec f + i) * den
+    → Near (grid f num den * den * 2) (num * 2 ^ low f * 2) (den * 2 ^ i)
+    × (grid f num den * den ≤ num * 2 ^ low f * 2)
+grid-near f num den i D h =
+    let n = num * 2 ^ low f in
+    let k = drop (prec f) n den in
+    let g = kept (prec f) n den in
+    let N = closest-nearest n (den * 2 ^ k) (mul-pos D (pow-pos k)) in
+    let e : g * (den * 2 ^ k) ≡ g * 2 ^ k * den = sym (mul-assoc g den (2 ^ k)) ∙ mul-right-comm g den (2 ^ k) in
+    let l : den * 2 ^ k ≤ den * 2 ^ i = mul-le-mul-left den (pow-mono (drop-le f num den i D h)) in
+    (near-weak (den * 2 ^ k) (den * 2 ^ i) l (rw e at (N .0)), rw e at (N .1))
 
 module _ (f : Format) (s : Bool) (num den i : ℕ) (D : 0 < den) (room : prec f + i < low f + suc (emax f)) where
   below-top : num * 2 ^ low f < 2 ^ (prec f + i) * den → RoundedNear f s num den i
@@ -96,23 +119,17 @@ module _ (f : Format) (s : Bool) (num den i : ℕ) (D : 0 < den) (room : prec f 
       let p = prec f in
       let n = num * 2 ^ low f in
       let k = drop p n den in
-      let g = kept p n den in
-      let K : k ≤ i = spare (size (n / den)) p (size-le (n / den) (p + i) (div-lt-iff-lt-mul D .1 h)) in
-      let N = closest-nearest n (den * 2 ^ k) (mul-pos D (pow-pos k)) in
-      let e : g * (den * 2 ^ k) ≡ g * 2 ^ k * den = sym (mul-assoc g den (2 ^ k)) ∙ mul-right-comm g den (2 ^ k) in
-      let t : g * 2 ^ k ≤ 2 ^ (p + i) =
-      le-trans (mul-le-mul-right (2 ^ k) (kept-le p n den)) (rw (← pow-add 2 p k) (pow-mono (more p k K))) in
+      let l : 2 ^ p * 2 ^ k ≤ 2 ^ (p + i) = rw (← pow-add 2 p k) (pow-mono (more p k (drop-le f num den i D h))) in
+      let t : grid f num den ≤ 2 ^ (p + i) = le-trans (mul-le-mul-right (2 ^ k) (kept-le p n den)) l in
+      let N = grid-near f num den i D h in
       record {
-        units = g * 2 ^ k;
-        value = rw round-is (units-val f s g k (lt-of-le-of-lt t (pow-lt room)));
+        units = grid f num den;
+        value = rw round-is (units-val f s (kept p n den) k (lt-of-le-of-lt t (pow-lt room)));
         top = t;
-        near = near-weak (den * 2 ^ k) (den * 2 ^ i) (mul-le-mul-left den (pow-mono K)) (rw e at (N .0));
-        double = rw e at (N .1);
+        near = N .0;
+        double = N .1;
       }
     where
-      spare : (z p : ℕ) → z ≤ p + i → z - p ≤ i
-      spare z p h = omega arith
-
       more : (p k : ℕ) → k ≤ i → p + k ≤ p + i
       more p k h = omega arith
 
@@ -144,65 +161,3 @@ module _ (f : Format) (s : Bool) (num den i : ℕ) (D : 0 < den) (room : prec f 
 
   pub round-near : num * 2 ^ low f ≤ 2 ^ (prec f + i) * den → RoundedNear f s num den i
   round-near h = elim (eq-or-lt-of-le h) [ inl e ↦ at-top e | inr l ↦ below-top l ]
-
--- ---- relative to a bound
-
--- num / den is at most z units, and z is so large that z units are a normal value: the error is at most 2 ^ -prec of z
-pub record RoundedBelow (f : Format) (s : Bool) (num den z : ℕ) : Type 0 where
-  pub units : ℕ
-  pub value : HasValue (round f s num den) s units (2 ^ low f)
-  pub near : Near (units * den * 2 ^ prec f) (num * 2 ^ low f * 2 ^ prec f) (z * den)
-
-module _ (f : Format) (s : Bool) (num den z : ℕ) (D : 0 < den) (normal : 2 ^ (prec f - 1) ≤ z) where
-  digits : prec f ≤ size z
-  digits = go (prec f) (two f) (lt-of-not-le (λ g. not-le-of-lt (lt-of-lt-of-le (size-lt z) (pow-mono g)) normal))
-    where
-      go : (p : ℕ) → 2 ≤ p → p - 1 < size z → p ≤ size z
-      go p h l = omega arith
-
-  -- the digits beyond those that are kept
-  beyond : ℕ
-  beyond = size z - prec f
-
-  size-is : prec f + beyond ≡ size z
-  unfolding beyond
-  size-is = add-sub-of-le digits
-
-  half-is : prec f - 1 + beyond ≡ size z - 1
-  unfolding beyond
-  half-is = go (prec f) (two f) digits
-    where
-      go : (p : ℕ) → 2 ≤ p → p ≤ size z → p - 1 + (size z - p) ≡ size z - 1
-      go p h l = omega arith
-
-  half-under : 2 ^ beyond * 2 ^ (prec f - 1) ≤ z
-  half-under =
-      rw (mul-comm (2 ^ beyond) (2 ^ (prec f - 1)), ← pow-add 2 (prec f - 1) beyond, half-is)
-      (size-reaches z (size z - 1) (go (size z) (le-trans (two f) digits)))
-    where
-      go : (i : ℕ) → 2 ≤ i → i - 1 < i
-      go i h = omega arith
-
-  pub round-below : z < 2 ^ (low f + emax f) → num * 2 ^ low f ≤ z * den → RoundedBelow f s num den z
-  round-below R l =
-      let room : prec f + beyond < low f + suc (emax f) = rw size-is (below (size z) (size-le z (low f + emax f) R)) in
-      let top : num * 2 ^ low f ≤ 2 ^ (prec f + beyond) * den =
-      le-trans l (mul-le-mul-right den (rw size-is (le-of-lt (size-lt z)))) in
-      let N = round-near f s num den beyond D room top in
-      record { units = N .units; value = N .value; near = weak (N .units * den) (num * 2 ^ low f) (N .near) }
-    where
-      below : (i : ℕ) → i ≤ low f + emax f → i < low f + suc (emax f)
-      below i h = omega arith
-
-      next : (p : ℕ) → 2 ≤ p → suc (p - 1) ≡ p
-      next p h = omega arith
-
-      whole : (x : ℕ) → x * 2 * 2 ^ (prec f - 1) ≡ x * 2 ^ prec f
-      whole x = rw (mul-assoc x 2 (2 ^ (prec f - 1)), ← pow-succ' 2 (prec f - 1), next (prec f) (two f))
-
-      weak : (x y : ℕ) → Near (x * 2) (y * 2) (den * 2 ^ beyond) → Near (x * 2 ^ prec f) (y * 2 ^ prec f) (z * den)
-      weak x y h =
-          rw (← whole x, ← whole y)
-          (near-weak (den * 2 ^ beyond * 2 ^ (prec f - 1)) (z * den)
-          (rw (mul-assoc den (2 ^ beyond) (2 ^ (prec f - 1)), mul-comm z den) (mul-le-mul-left den half-under))
-          (near-times (den * 2 ^ beyond) (2 ^ (prec f - 1)) h))

@@ -1,19 +1,20 @@
 -- One rounded operation on doubles counted in units of the smallest positive one: the count of the result, a bound on
 -- it, and how far it is from the exact result. By the law of Rounding at what Fractions gives. Assumes nothing.
 use mathlib.Core.Path.{_≡_, subst}
-use Prim.Native.Nat.{ℕ, suc, _+_, _-_, _*_, _^_, _≤_, _<_}
+use Prim.Native.Nat.{ℕ, suc, _+_, _-_, _*_, _^_, _≤_, _<_, zero-le}
 use native.Mathlib.Nat.{le-trans, mul-comm, mul-assoc, mul-left-comm, mul-right-comm, zero-mul, mul-one, mul-pos}
 use native.Mathlib.Nat.{mul-le-mul-left, mul-le-mul-right, le-of-mul-le-mul-right, pow-suc, zero-lt-suc}
 use native.Mathlib.Omega.{arith}
 use mathlib.Core.Bool.{Bool, true, false}
 use lib.Arith.{le-zero}
 use lib.Pow.{pow-add, pow-pos}
-use lib.Ieee.{Float, Format, prec, emax, low, add, sub, mul}
+use lib.Ieee.{Float, Format, prec, emax, low, round, add, sub, mul}
 use Rattle.rounding.specs.Exact.{Near}
 use Rattle.rounding.proofs.Near.{near-times, near-cancel}
-use Rattle.rounding.proofs.Fractions.{Signed, Fraction, Rounded, mul-rounded, add-rounded, sub-rounded}
-use Rattle.rounding.proofs.Fractions.{sub-rounded-under}
-use Rattle.rounding.proofs.Rounding.{RoundedNear, round-near, round-below}
+use Rattle.rounding.proofs.Fractions.{Signed, Fraction, Rounded, fraction, value-of, mul-is, mul-rounded}
+use Rattle.rounding.proofs.Fractions.{add-rounded, sub-rounded, sub-rounded-under}
+use Rattle.rounding.proofs.Rounding.{RoundedNear, round-near}
+use Rattle.rounding.proofs.Relative.{Held, round-below}
 
 -- A format of 53 digits, of which u units make 1, and w units a grain, 2 ^ -57. They are variables, so that nothing
 -- computes with 2 ^ 1074.
@@ -153,16 +154,28 @@ module _ {f : Format} {u w : ℕ} (S : Scale f u w) where
       → b - a ≤ 2 ^ (54 + j) * w → Step u w true (sub f x y) (b - a) 1 j
   sub-units-under j X Y o k l = whole j (sub-rounded-under f unit-pos o X Y) k l
 
-  -- n units are a normal number, and so many that none above it is reached
-  pub mul-part : {x y : Float} {n b : ℕ} → 2 ^ 52 ≤ n → n < 2 ^ (low f + emax f) → b ≤ u
+  -- ---- parts
+
+  pub zero-part : {x y : Float} {b : ℕ} → Fraction false x 0 u → Fraction false y b u → Part u (mul f x y) 0 b
+  zero-part {b = b} X Y =
+      let T = mul-units 0 X Y zero-le (rw (zero-mul b) zero-le) in
+      record { count = T .count; is = T .is; near = near (T .count) (T .double) }
+    where
+      near : (g : ℕ) → g * u ≤ 0 * b * 2 → Near (g * u * 2 ^ 53) (0 * b * 2 ^ 53) (0 * u)
+      near g l = omega arith
+
+  -- n units are a number of f, and a normal one
+  pub normal-part : {x y : Float} {n b : ℕ} → Held f n → 2 ^ 52 ≤ n → b ≤ u
       → Fraction false x n u → Fraction false y b u → Part u (mul f x y) n b
-  mul-part {x} {y} {n} {b} L R B X Y =
-      let P = mul-rounded f unit-pos unit-pos X Y in
-      let N = round-below f (P .sign) (n * b) (u * u) n (mul-pos unit-pos unit-pos) (normal (S .digits)) R under in
+  normal-part {x} {y} {n} {b} N L B X Y =
+      let U = unit-pos in
+      let R = round-below f n (normal (S .digits)) N (n * b) (u * u) (mul-pos U U) under in
+      let e : mul f x y ≡ round f false (n * b) (u * u) =
+      mul-is f x y false false n u b u U U (value-of X) (value-of Y) in
       record {
-        count = N .units;
-        is = record { sign = P .sign; signed = P .signed; value = rw (P .is) (rw (S .unit-is) at (N .value)) };
-        near = near (N .units) (rw (S .unit-is, S .digits) at (N .near));
+        count = R .units;
+        is = fraction (rw e (rw (S .unit-is) at (R .value)));
+        near = near (R .units) (rw (S .unit-is, S .digits) at (R .near));
       }
     where
       normal : prec f ≡ 53 → 2 ^ (prec f - 1) ≤ n
