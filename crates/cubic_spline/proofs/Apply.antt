@@ -2,8 +2,8 @@
 -- is rounded once more, by 2 ^ -53 of the normalizer at most where that is normal. Assumes nothing.
 use mathlib.Core.Path.{_≡_, refl, sym, _∙_}
 use mathlib.Core.Logic.{_⊎_, ⊎-elim}
-use Prim.Native.Nat.{ℕ, _*_, _^_, _<_}
-use native.Mathlib.Nat.{mul-one, mul-pos}
+use Prim.Native.Nat.{ℕ, _*_, _^_, _≤_, _<_}
+use native.Mathlib.Nat.{mul-one, mul-pos, le-of-mul-le-mul-right}
 use native.Mathlib.Omega.{arith}
 use mathlib.Core.Bool.{true, false}
 use lib.Dec.{T, lit<}
@@ -11,7 +11,7 @@ use lib.Ieee.{Float, nan, inf, fin, binary64, le, lt, fits, ofBits}
 use lib.Ieee.Bits.{is-true}
 use lib.Ieee.Fits.{and-l, and-r}
 use lib.Ieee.Scale.{finite}
-use borrow.Author.Tests.{leb-false, not-true}
+use borrow.Author.Tests.{leb-true, leb-false, not-true}
 use Rattle.math.specs.Real.{_⊗_, _⊘_, +0}
 use Rattle.rounding.specs.Exact.{unit, count, Near}
 use Rattle.math.proofs.Doubles.{holds}
@@ -23,12 +23,12 @@ use Rattle.rounding.proofs.Steps.{Part, zero-part, normal-part}
 use Rattle.cubic_spline.specs.Shape.{normalizer, weightShape, weight, isDistance, isRadius}
 use Rattle.cubic_spline.specs.Exact.{exactWeight}
 use Rattle.cubic_spline.specs.Answer.{kernelAnswer, KernelPromise}
-use Rattle.cubic_spline.specs.Apply.{cube, AppliedNear, ApplyPromise}
+use Rattle.cubic_spline.specs.Apply.{leastRadius, cube, AppliedNear, ApplyPromise}
 use Rattle.cubic_spline.specs.declared.KernelAnswer.{KernelAnswer}
 use Rattle.cubic_spline.specs.declared.KernelAnswer.the-variants.{Value}
 use Rattle.cubic_spline.proofs.Bounds.{scale}
 use Rattle.cubic_spline.proofs.Quotient.{ShapeAt, quotient-shape, minus-zero-shape}
-use Rattle.cubic_spline.proofs.Normal.{Normal, normalizer-normal}
+use Rattle.cubic_spline.proofs.Normal.{Normal, normalizer-normal, normalizer-finite}
 
 -- ---- the product's errors, where u units make 1: n is the normalizer, x the shape, v what is rounded of their product
 
@@ -96,6 +96,16 @@ radius (fin false m e) t R =
     let H = fraction (count-value false m e t) in
     (H, above-zero (fin false m e) H (and-l (lt +0 (fin false m e)) true R))
 
+least-radius-fraction : Fraction false leastRadius (2 ^ 734) unit
+unfolding ofBits
+least-radius-fraction = fraction (refl, refl)
+
+from-least : (h : Float) → Fraction false h (count h) unit → T (le leastRadius h) → 2 ^ 734 ≤ count h
+from-least h H l =
+    let L = value-of least-radius-fraction in
+    let t = le-is leastRadius h (2 ^ 734) unit (count h) unit (lit< tt) (lit< tt) L (value-of H) in
+    le-of-mul-le-mul-right (leb-true (2 ^ 734 * unit) (count h * unit) (sym t ∙ is-true (le leastRadius h) l)) (lit< tt)
+
 pub apply-promise : (r h : Float) (a : KernelAnswer) → fits binary64 r ≡ true → fits binary64 h ≡ true
     → KernelPromise r h (weight r h) a → ApplyPromise r h a
 apply-promise r h a s t K =
@@ -109,4 +119,5 @@ apply-promise r h a s t K =
             near =
                 weight-near (H .0) (H .1) f r (holds _ s) (and-r (le +0 r) (finite r) d) (and-l (le +0 r) (finite r) d);
           };
+      normalizes = λ R l. let H = radius h (holds _ t) R in normalizer-finite (H .0) (from-least h (H .0) l);
     }

@@ -1,9 +1,10 @@
 -- The normalizer for a radius that is taken is infinite, +0, or normal. The divisor is a rounded product, so infinite
 -- or a fraction below 2 ^ 1024; 8 divided by that is above 2 ^ -1021, or infinite. Assumes nothing.
-use mathlib.Core.Path.{_≡_, refl}
+use mathlib.Core.Path.{_≡_, refl, sym}
 use mathlib.Core.Logic.{_⊎_, inl, inr, ⊎-elim}
-use Prim.Native.Nat.{ℕ, _*_, _^_, _≤_, _<_}
-use native.Mathlib.Nat.{le-trans, le-of-lt, lt-irrefl, eq-zero-or-pos, zero-mul, mul-one, mul-pos, mul-le-mul-left}
+use Prim.Native.Nat.{ℕ, _*_, _^_, _≤_, _<_, zero-le}
+use native.Mathlib.Nat.{le-trans, le-of-lt, lt-irrefl, eq-zero-or-pos, zero-mul, mul-one, one-mul, mul-assoc, mul-pos}
+use native.Mathlib.Nat.{mul-le-mul, mul-le-mul-left, mul-le-mul-right}
 use mathlib.Core.Bool.{false}
 use lib.IntN.{ℤ}
 use lib.Dec.{T, lit≤, lit<}
@@ -14,8 +15,8 @@ use lib.Ieee.Scale.{grid, overflow, finite, round-val, round-under}
 use Rattle.math.specs.Real.{_⊗_, _⊘_, +0}
 use Rattle.rounding.specs.Exact.{unit, count}
 use Rattle.rounding.proofs.Fractions.{Fraction, fraction, value-of, at-fraction, mul-is}
-use Rattle.rounding.proofs.Relative.{Held, rounded-held, at-least, finite-or-infinite}
-use Rattle.rounding.proofs.Counts.{count-is}
+use Rattle.rounding.proofs.Relative.{Held, rounded-held, at-least, below-finite, finite-or-infinite}
+use Rattle.rounding.proofs.Counts.{count-is, fraction-finite}
 use Rattle.rounding.proofs.Quotients.{significand-pos, not-zero, div-is}
 use Rattle.cubic_spline.specs.Shape.{eight, pi, normalizer}
 
@@ -37,32 +38,49 @@ number a c l =
     let e = count-is (round binary64 false a c) false (grid binary64 a c) v in
     record { counted = e; is = fraction (rw e v); held = rw e (rounded-held binary64 a c l) }
 
--- a product of numbers above 0: overflow has as many units as the numbers stay below
-abbrev Up : Float → Type 0
-Up x = (x ≡ inf false) ⊎ (Fraction false x (count x) unit × (count x < overflow binary64))
+power : (j : ℕ) → 2 ^ j < overflow binary64 → Held binary64 (2 ^ j)
+power j l = record { digits = 1; place = j; is = sym (one-mul (2 ^ j)); few = lit≤ tt; finite = l }
 
-rounded-up : (a c : ℕ) → Up (round binary64 false a c)
-rounded-up a c =
-    ⊎-elim (λ l. let N = number a c l in inr (N .is, N .held .finite)) (λ e. inl e) (finite-or-infinite binary64 a c)
+-- what numbers make when multiplied: an infinity, or a fraction of l units or more
+record Finite (l : ℕ) (x : Float) : Type 0 where
+  is : Fraction false x (count x) unit
+  most : count x < overflow binary64
+  least : l ≤ count x
 
-module _ {h : Float} {b : ℕ} (H : Fraction false h b unit) (B : 0 < b) where
+abbrev Product : ℕ → Float → Type 0
+Product l x = (x ≡ inf false) ⊎ Finite l x
+
+rounded-product : (l a c : ℕ) → Held binary64 l → 0 < c → l * c ≤ a * unit → Product l (round binary64 false a c)
+rounded-product l a c L C h = ⊎-elim (λ g. inr (finite-one g)) (λ e. inl e) (finite-or-infinite binary64 a c)
+  where
+    finite-one : grid binary64 a c < overflow binary64 → Finite l (round binary64 false a c)
+    finite-one g =
+        let N = number a c g in
+        record { is = N .is; most = N .held .finite; least = rw (N .counted) (at-least L a c C h g) }
+
+-- ---- the divisor, for a radius of b units that are not fewer than k
+
+module _ {h : Float} {b : ℕ} (H : Fraction false h b unit) (B : 0 < b) (k : ℕ) (K : k ≤ b) where
   infinity-times : inf false ⊗ h ≡ inf false
   unfolding mul
   infinity-times =
       at-fraction (λ y. inf false ⊗ y ≡ inf false) h false b unit (value-of H)
       (λ m e v. rw (not-zero m (significand-pos m e b unit B v)))
 
-  times-up : (x : Float) → Up x → Up (x ⊗ h)
-  times-up x (inl e) = inl (rw (e, infinity-times))
-  times-up x (inr X) =
-      rw (mul-is binary64 x h false false (count x) unit b unit (lit< tt) (lit< tt) (value-of (X .0)) (value-of H))
-      (rounded-up (count x * b) (unit * unit))
+  times : (l m : ℕ) → Held binary64 m → m * unit ≤ l * k → (x : Float) → Product l x → Product m (x ⊗ h)
+  times l m M o x (inl e) = inl (rw (e, infinity-times))
+  times l m M o x (inr X) =
+      let n = count x in
+      rw (mul-is binary64 x h false false n unit b unit (lit< tt) (lit< tt) (value-of (X .is)) (value-of H))
+      (rounded-product m (n * b) (unit * unit) M (lit< tt)
+      (rw (← mul-assoc m unit unit) (mul-le-mul-right unit (le-trans o (mul-le-mul (X .least) K)))))
 
-  divisor-up : Up (pi ⊗ h ⊗ h ⊗ h)
+  divisor-product : (l m n : ℕ) → Held binary64 l → Held binary64 m → Held binary64 n
+      → l * unit ≤ count pi * k → m * unit ≤ l * k → n * unit ≤ m * k → Product n (pi ⊗ h ⊗ h ⊗ h)
   unfolding ofBits
-  divisor-up =
-      let P : Up pi = inr (fraction (refl, refl), lit< tt) in
-      times-up (pi ⊗ h ⊗ h) (times-up (pi ⊗ h) (times-up pi P))
+  divisor-product l m n L M N p q r =
+      let P : Product (count pi) pi = inr (record { is = fraction (refl, refl); most = lit< tt; least = lit≤ tt }) in
+      times m n N r (pi ⊗ h ⊗ h) (times l m M q (pi ⊗ h) (times (count pi) l L p pi P))
 
 -- ---- 8 divided by it
 
@@ -85,10 +103,6 @@ over-zero y k = at-fraction (λ y. eight ⊘ y ≡ inf false) y false 0 unit k (
               absurd (lt-irrefl 0 (rw (v, zero-mul (down e)) at l))
         ]
 
--- 2 ^ 52 units, with which the normal numbers begin
-least-normal : Held binary64 (2 ^ 52)
-least-normal = record { digits = 1; place = 52; is = refl; few = lit≤ tt; finite = lit< tt }
-
 over-rounded : (d : ℕ) → 0 < d → d < overflow binary64 → T (finite (round binary64 false (8 * unit) (d * 1)))
     → Normal (round binary64 false (8 * unit) (d * 1))
 over-rounded d D l f =
@@ -99,7 +113,7 @@ over-rounded d D l f =
     record {
       is = N .is;
       held = N .held;
-      normal = rw (N .counted) (at-least least-normal (8 * unit) (d * 1) (mul-pos D (lit< tt)) eighth h);
+      normal = rw (N .counted) (at-least (power 52 (lit< tt)) (8 * unit) (d * 1) (mul-pos D (lit< tt)) eighth h);
     }
 
 over-number : (y : Float) → Fraction false y (count y) unit → 0 < count y → count y < overflow binary64
@@ -113,18 +127,54 @@ over-number y Y P l f = rw e (over-rounded (count y) P l (rw e at f))
 
 -- ---- the normalizer
 
+zero-held : Held binary64 0
+zero-held = record { digits = 0; place = 0; is = refl; few = zero-le; finite = lit< tt }
+
 pub normalizer-normal : {h : Float} {b : ℕ} → Fraction false h b unit → 0 < b → T (finite (normalizer h))
     → (normalizer h ≡ +0) ⊎ Normal (normalizer h)
 unfolding div ofBits
-normalizer-normal {h} H B f = go (pi ⊗ h ⊗ h ⊗ h) (divisor-up H B) f
+normalizer-normal {h} H B f =
+    go (pi ⊗ h ⊗ h ⊗ h) (divisor-product H B 0 zero-le 0 0 0 zero-held zero-held zero-held zero-le zero-le zero-le) f
   where
     infinite : (y : Float) → eight ⊘ y ≡ inf false → T (finite (eight ⊘ y)) → ⊥
     infinite y e f = rw e at f
 
-    go : (y : Float) → Up y → T (finite (eight ⊘ y)) → (eight ⊘ y ≡ +0) ⊎ Normal (eight ⊘ y)
+    go : (y : Float) → Product 0 y → T (finite (eight ⊘ y)) → (eight ⊘ y ≡ +0) ⊎ Normal (eight ⊘ y)
     go y (inl e) f = inl (rw e refl)
     go y (inr Y) f =
         elim (eq-zero-or-pos (count y)) [
-          | inl z ↦ absurd (infinite y (over-zero y (rw z at (value-of (Y .0)))) f)
-          | inr P ↦ inr (over-number y (Y .0) P (Y .1) f)
+          | inl z ↦ absurd (infinite y (over-zero y (rw z at (value-of (Y .is)))) f)
+          | inr P ↦ inr (over-number y (Y .is) P (Y .most) f)
         ]
+
+-- ---- it is finite for radii of 2 ^ 734 units, 2 ^ -340, or more
+
+-- the divisor is then infinite, or 2 ^ 55 units or more
+finite-over : (y : Float) → Product (2 ^ 55) y → T (finite (eight ⊘ y))
+unfolding div ofBits
+finite-over y (inl e) = rw e tt
+finite-over y (inr Y) = rw e (fraction-finite (number (8 * unit) (d * 1) under .is))
+  where
+    d : ℕ
+    d = count y
+
+    P : 0 < d
+    P = le-trans (lit≤ tt) (Y .least)
+
+    e : eight ⊘ y ≡ round binary64 false (8 * unit) (d * 1)
+    e =
+        div-is binary64 eight y false false 8 1 d unit (lit< tt) P (lit< tt) (value-of eight-fraction)
+        (value-of (Y .is))
+
+    under : grid binary64 (8 * unit) (d * 1) < overflow binary64
+    under =
+        let l : 2 ^ 55 ≤ d * 1 = rw (mul-one d) (Y .least) in
+        below-finite (power 2096 (lit< tt)) (8 * unit) (d * 1) (mul-pos P (lit< tt))
+        (le-trans (lit≤ tt) (mul-le-mul-left (2 ^ 2096) l))
+
+pub normalizer-finite : {h : Float} {b : ℕ} → Fraction false h b unit → 2 ^ 734 ≤ b → T (finite (normalizer h))
+unfolding ofBits
+normalizer-finite {h} H L =
+    finite-over (pi ⊗ h ⊗ h ⊗ h)
+    (divisor-product H (le-trans (lit≤ tt) L) (2 ^ 734) L (2 ^ 735) (2 ^ 395) (2 ^ 55) (power 735 (lit< tt))
+    (power 395 (lit< tt)) (power 55 (lit< tt)) (lit≤ tt) (lit≤ tt) (lit≤ tt))

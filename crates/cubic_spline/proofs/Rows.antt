@@ -92,4 +92,9 @@ tiny-radius = bits 0x2AA0000000000000
 
 pub applied-tiny : ApplyPromise +0 tiny-radius (Value (weight +0 tiny-radius))
 unfolding weightShape kernelAnswer refusal ofBits add sub mul div le lt
-applied-tiny = record { kernel = record { answer = refl; numbered = refl }; bound = λ r h n. absurd n }
+applied-tiny =
+    record {
+      kernel = record { answer = refl; numbered = refl };
+      bound = λ d t n. absurd n;
+      normalizes = λ t l. absurd l;
+    }

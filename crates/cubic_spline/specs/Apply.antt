@@ -5,13 +5,17 @@ use mathlib.Core.Path.{_≡_}
 use lib.Dec.{T}
 use lib.Ieee.{Float, le}
 use lib.Ieee.Scale.{finite}
-use Rattle.math.specs.Real.{+0}
+use Rattle.math.specs.Real.{bits, +0}
 use Rattle.rounding.specs.Exact.{count, Near}
 use Rattle.cubic_spline.specs.Shape.{normalizer, weight, isDistance, isRadius}
 use Rattle.cubic_spline.specs.Exact.{exactWeight}
 use Rattle.cubic_spline.specs.Answer.{KernelPromise}
 use Rattle.cubic_spline.specs.declared.KernelAnswer.{KernelAnswer}
 use Rattle.cubic_spline.specs.declared.KernelAnswer.the-variants.{Value}
+
+-- 2 ^ -340, some 4.5e-103: for no radius from there on is the normalizer infinite
+abbrev pub leastRadius : Float
+leastRadius = bits 0x2AB0000000000000
 
 abbrev pub cube : ℕ → ℕ
 cube n = n * n * n
@@ -37,3 +41,4 @@ pub record Applied (r h : Float) (a : KernelAnswer) : Type 0 where
 pub record ApplyPromise (r h : Float) (a : KernelAnswer) : Type 0 where
   pub kernel : KernelPromise r h (weight r h) a
   pub bound : T (isDistance r) → T (isRadius h) → T (finite (normalizer h)) → Applied r h a
+  pub normalizes : T (isRadius h) → T (le leastRadius h) → T (finite (normalizer h))

@@ -81,7 +81,7 @@ module _ {f : Format} {z : ℕ} (Z : Held f z) where
           exact (2 ^ (p - 1)) (suc j) (pow-lt (less p (two f))) (Z .is ∙ rw e s)
 
   -- and what is at most it is finite
-  below-finite : (num den : ℕ) → 0 < den → num * 2 ^ low f ≤ z * den → grid f num den < overflow f
+  pub below-finite : (num den : ℕ) → 0 < den → num * 2 ^ low f ≤ z * den → grid f num den < overflow f
   unfolding le
   below-finite num den D l = ⊎-elim (λ h. h) (λ e. absurd (none e)) (finite-or-infinite f num den)
     where
