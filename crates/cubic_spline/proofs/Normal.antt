@@ -11,12 +11,12 @@ use lib.Dec.{T, lit≤, lit<}
 use lib.Ieee.{Float, inf, fin, binary64, up, down, round, mul, div, ofBits}
 use lib.Ieee.Fits.{up-pos}
 use lib.Ieee.Exact.{HasValue}
-use lib.Ieee.Scale.{grid, overflow, finite, round-val, round-under}
+use lib.Ieee.Scale.{grid, overflow, finite, round-under}
 use Rattle.math.specs.Real.{_⊗_, _⊘_, +0}
 use Rattle.rounding.specs.Exact.{unit, count}
 use Rattle.rounding.proofs.Fractions.{Fraction, fraction, value-of, at-fraction, mul-is}
-use Rattle.rounding.proofs.Relative.{Held, rounded-held, at-least, below-finite, finite-or-infinite}
-use Rattle.rounding.proofs.Counts.{count-is, fraction-finite}
+use Rattle.rounding.proofs.Relative.{Held, at-least, below-finite, finite-or-infinite}
+use Rattle.rounding.proofs.Counts.{number, fraction-finite}
 use Rattle.rounding.proofs.Quotients.{significand-pos, not-zero, div-is}
 use Rattle.cubic_spline.specs.Shape.{eight, pi, normalizer}
 
@@ -25,18 +25,6 @@ unfolding ofBits
 eight-fraction = fraction (refl, refl)
 
 -- ---- infinite, or a number of the format
-
--- a number x of n units
-record Number (x : Float) (n : ℕ) : Type 0 where
-  counted : count x ≡ n
-  is : Fraction false x (count x) unit
-  held : Held binary64 (count x)
-
-number : (a c : ℕ) → grid binary64 a c < overflow binary64 → Number (round binary64 false a c) (grid binary64 a c)
-number a c l =
-    let v = round-val binary64 a c l in
-    let e = count-is (round binary64 false a c) false (grid binary64 a c) v in
-    record { counted = e; is = fraction (rw e v); held = rw e (rounded-held binary64 a c l) }
 
 power : (j : ℕ) → 2 ^ j < overflow binary64 → Held binary64 (2 ^ j)
 power j l = record { digits = 1; place = j; is = sym (one-mul (2 ^ j)); few = lit≤ tt; finite = l }
@@ -103,27 +91,33 @@ over-zero y k = at-fraction (λ y. eight ⊘ y ≡ inf false) y false 0 unit k (
               absurd (lt-irrefl 0 (rw (v, zero-mul (down e)) at l))
         ]
 
-over-rounded : (d : ℕ) → 0 < d → d < overflow binary64 → T (finite (round binary64 false (8 * unit) (d * 1)))
-    → Normal (round binary64 false (8 * unit) (d * 1))
-over-rounded d D l f =
-    let h = round-under binary64 (8 * unit) (d * 1) f in
-    let N = number (8 * unit) (d * 1) h in
-    let under : d * 1 ≤ overflow binary64 = rw (mul-one d) (le-of-lt l) in
-    let eighth : 2 ^ 52 * (d * 1) ≤ 8 * unit * unit = le-trans (mul-le-mul-left (2 ^ 52) under) (lit≤ tt) in
-    record {
-      is = N .is;
-      held = N .held;
-      normal = rw (N .counted) (at-least (power 52 (lit< tt)) (8 * unit) (d * 1) (mul-pos D (lit< tt)) eighth h);
-    }
+module _ (y : Float) (Y : Fraction false y (count y) unit) (P : 0 < count y) where
+  over-is : eight ⊘ y ≡ round binary64 false (8 * unit) (count y * 1)
+  over-is =
+      div-is binary64 eight y false false 8 1 (count y) unit (lit< tt) P (lit< tt) (value-of eight-fraction)
+      (value-of Y)
 
-over-number : (y : Float) → Fraction false y (count y) unit → 0 < count y → count y < overflow binary64
-    → T (finite (eight ⊘ y)) → Normal (eight ⊘ y)
-over-number y Y P l f = rw e (over-rounded (count y) P l (rw e at f))
-  where
-    e : eight ⊘ y ≡ round binary64 false (8 * unit) (count y * 1)
-    e =
-        div-is binary64 eight y false false 8 1 (count y) unit (lit< tt) P (lit< tt) (value-of eight-fraction)
-        (value-of Y)
+  above : 0 < count y * 1
+  above = mul-pos P (lit< tt)
+
+  over-normal : count y < overflow binary64 → T (finite (eight ⊘ y)) → Normal (eight ⊘ y)
+  over-normal l f =
+      let d = count y * 1 in
+      let g = round-under binary64 (8 * unit) d (rw over-is at f) in
+      let N = number (8 * unit) d g in
+      let under : d ≤ overflow binary64 = rw (mul-one (count y)) (le-of-lt l) in
+      let eighth : 2 ^ 52 * d ≤ 8 * unit * unit = le-trans (mul-le-mul-left (2 ^ 52) under) (lit≤ tt) in
+      let normal = at-least (power 52 (lit< tt)) (8 * unit) d above eighth g in
+      rw over-is (record { is = N .is; held = N .held; normal = rw (N .counted) normal })
+
+  -- 2 ^ 55 units are 2 ^ -1019, which goes into 8 as often as 2 ^ 2096 units are
+  over-finite : 2 ^ 55 ≤ count y → T (finite (eight ⊘ y))
+  over-finite l =
+      let d = count y * 1 in
+      let l' : 2 ^ 55 ≤ d = rw (mul-one (count y)) l in
+      let most : 8 * unit * unit ≤ 2 ^ 2096 * d = le-trans (lit≤ tt) (mul-le-mul-left (2 ^ 2096) l') in
+      let g = below-finite (power 2096 (lit< tt)) (8 * unit) d above most in
+      rw over-is (fraction-finite (number (8 * unit) d g .is))
 
 -- ---- the normalizer
 
@@ -144,7 +138,7 @@ normalizer-normal {h} H B f =
     go y (inr Y) f =
         elim (eq-zero-or-pos (count y)) [
           | inl z ↦ absurd (infinite y (over-zero y (rw z at (value-of (Y .is)))) f)
-          | inr P ↦ inr (over-number y (Y .is) P (Y .most) f)
+          | inr P ↦ inr (over-normal y (Y .is) P (Y .most) f)
         ]
 
 -- ---- it is finite for radii of 2 ^ 734 units, 2 ^ -340, or more
@@ -153,24 +147,7 @@ normalizer-normal {h} H B f =
 finite-over : (y : Float) → Product (2 ^ 55) y → T (finite (eight ⊘ y))
 unfolding div ofBits
 finite-over y (inl e) = rw e tt
-finite-over y (inr Y) = rw e (fraction-finite (number (8 * unit) (d * 1) under .is))
-  where
-    d : ℕ
-    d = count y
-
-    P : 0 < d
-    P = le-trans (lit≤ tt) (Y .least)
-
-    e : eight ⊘ y ≡ round binary64 false (8 * unit) (d * 1)
-    e =
-        div-is binary64 eight y false false 8 1 d unit (lit< tt) P (lit< tt) (value-of eight-fraction)
-        (value-of (Y .is))
-
-    under : grid binary64 (8 * unit) (d * 1) < overflow binary64
-    under =
-        let l : 2 ^ 55 ≤ d * 1 = rw (mul-one d) (Y .least) in
-        below-finite (power 2096 (lit< tt)) (8 * unit) (d * 1) (mul-pos P (lit< tt))
-        (le-trans (lit≤ tt) (mul-le-mul-left (2 ^ 2096) l))
+finite-over y (inr Y) = over-finite y (Y .is) (le-trans (lit≤ tt) (Y .least)) (Y .least)
 
 pub normalizer-finite : {h : Float} {b : ℕ} → Fraction false h b unit → 2 ^ 734 ≤ b → T (finite (normalizer h))
 unfolding ofBits

@@ -11,13 +11,13 @@ use lib.Dec.{T, leb, lit≤, lit<}
 use lib.Ieee.{Float, nan, inf, fin, binary64, round, add, sub, mul, le, ofBits}
 use lib.Ieee.Bits.{is-true}
 use lib.Ieee.Order.{round-mono}
-use lib.Ieee.Scale.{finite}
+use lib.Ieee.Scale.{finite, round-under}
 use borrow.Author.Tests.{leb-true}
 use Rattle.math.specs.Real.{_⊘_, one}
 use Rattle.rounding.specs.Exact.{unit, count, Near}
 use Rattle.rounding.proofs.Near.{near-weak, near-times, near-cancel}
 use Rattle.rounding.proofs.Fractions.{Fraction, fraction, value-of, le-is, one-fraction}
-use Rattle.rounding.proofs.Counts.{minus-zero, fraction-count, rounded-count}
+use Rattle.rounding.proofs.Counts.{minus-zero, fraction-count, number}
 use Rattle.rounding.proofs.Steps.{Step}
 use Rattle.rounding.proofs.Quotients.{div-is, div-units, minus-zero-over}
 use Rattle.cubic_spline.specs.Shape.{weightShape}
@@ -104,14 +104,18 @@ one-rounded = refl
 
 beyond-one : {r h : Float} {a b : ℕ} → Fraction false r a unit → Fraction false h b unit → 0 < b → b < a
     → ShapeAt a b (weightShape (r ⊘ h))
-beyond-one {r} {h} {a} {b} R H B l =
-    beyond a b l (weighed-beyond (r ⊘ h) (rw e least) (rw e (rounded-count (a * unit) (b * unit))))
+beyond-one {r} {h} {a} {b} R H B l = beyond a b l (weighed-beyond (r ⊘ h) (rw e least) (rw e whole))
   where
     D : 0 < b * unit
     D = mul-pos B (lit< tt)
 
     e : r ⊘ h ≡ round binary64 false (a * unit) (b * unit)
     e = div-is binary64 r h false false a unit b unit (lit< tt) B (lit< tt) (value-of R) (value-of H)
+
+    whole : T (finite (round binary64 false (a * unit) (b * unit)))
+        → Fraction false (round binary64 false (a * unit) (b * unit))
+        (count (round binary64 false (a * unit) (b * unit))) unit
+    whole f = number (a * unit) (b * unit) (round-under binary64 (a * unit) (b * unit) f) .is
 
     least : T (le one (round binary64 false (a * unit) (b * unit)))
     least =

@@ -14,12 +14,13 @@ use lib.Ieee.Digits.{back}
 use lib.Ieee.Fits.{and-l, and-r, up-pos, down-pos}
 use lib.Ieee.Exact.{HasValue}
 use lib.Ieee.Order.{le-of-values}
-use lib.Ieee.Scale.{grid, finite, round-val, round-under}
+use lib.Ieee.Scale.{grid, overflow, finite, round-val}
 use borrow.Author.Tests.{lt-ltb}
 use Rattle.math.specs.Real.{+0}
 use Rattle.rounding.specs.Exact.{unit, count}
 use Rattle.math.proofs.Doubles.{zero-is}
 use Rattle.rounding.proofs.Fractions.{Signed, Fraction, fraction, value-of, zero-fraction, at-fraction}
+use Rattle.rounding.proofs.Relative.{Held, rounded-held}
 
 -- ---- a count is exact
 
@@ -86,11 +87,17 @@ at-most-zero {x} {a} {c} C X = go (X .sign) (X .signed) (X .value)
 
 -- ---- what is rounded from a fraction that is not below 0, where it is finite
 
-pub rounded-count : (a c : ℕ) → T (finite (round binary64 false a c))
-    → Fraction false (round binary64 false a c) (count (round binary64 false a c)) unit
-rounded-count a c f =
-    let v = round-val binary64 a c (round-under binary64 a c f) in
-    fraction (rw (count-is (round binary64 false a c) false (grid binary64 a c) v) v)
+-- x is n units, which a double has
+pub record Number (x : Float) (n : ℕ) : Type 0 where
+  pub counted : count x ≡ n
+  pub is : Fraction false x (count x) unit
+  pub held : Held binary64 (count x)
+
+pub number : (a c : ℕ) → grid binary64 a c < overflow binary64 → Number (round binary64 false a c) (grid binary64 a c)
+number a c l =
+    let v = round-val binary64 a c l in
+    let e = count-is (round binary64 false a c) false (grid binary64 a c) v in
+    record { counted = e; is = fraction (rw e v); held = rw e (rounded-held binary64 a c l) }
 
 -- ---- a finite double that is at least 0
 
