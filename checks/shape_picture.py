@@ -13,7 +13,7 @@ file can't be used.
 
 PROGRAM is bindings/c/kernel_pairs.c, whose head says how it is built. Its weight and slope have to be
 METHOD's formulas on Python's floats, bit for bit: at every measured q, as a distance with the radius 1,
-and at distances with radii of all sizes for which the normalizer is a normal double. Of all these
+and at distances with radii of all sizes for which the normalizer is finite and not 0. Of all these
 weights the largest error is printed, in units of its proved bound, 5 × 2^-52 normalizers. Status 1
 after a difference, or if an error is above the bound.
 """
@@ -247,7 +247,8 @@ def held(path):
     points = [*shapes.spread(), *shapes.close(), *shapes.edges(), *shapes.FARTHEST]
     status = 0
     for name, pairs in (("measured q, with the radius 1", [(q, 1.0) for q in points]),
-                        ("distances, with radii of all sizes", shapes.sized_pairs(SEED, PAIRS))):
+                        ("distances, with radii of all sizes",
+                         [*shapes.sized_pairs(SEED, PAIRS), shapes.FARTHEST_PAIR])):
         most, r, h = largest(str(path.resolve()), pairs)
         print("%d %s: no difference; the largest error of a weight is %s of its bound, at distance %s radius %s"
               % (len(pairs), name, decimal(most, 4), bits(r), bits(h)))

@@ -57,6 +57,10 @@ class Shapes(unittest.TestCase):
         weight, slope = (shapes.errors(q)[k] for k, q in enumerate(shapes.FARTHEST))
         self.assertTrue(Fraction(1, 2**53) < weight <= Fraction(1, 2**50))
         self.assertTrue(Fraction(1, 2**51) < slope <= Fraction(1, 2**49))
+        r, h = shapes.FARTHEST_PAIR
+        self.assertEqual((kernel_pairs.bits(r), kernel_pairs.bits(h)), ("3FE343B9F47FAFF0", "3FFB2F71F4FD8038"))
+        weight = shapes.kernel_error(r, h, kernel_pairs.normalizer(h) * shapes.computed(r / h)[0])
+        self.assertTrue(Fraction(1, 5) < weight <= 1)      # so 2^-52 normalizers would be too few
 
     def test_where_the_slope_is_cut(self):
         self.assertEqual(kernel_pairs.bits(shapes.CUT), "3EE4F8B588E368F1")
@@ -108,7 +112,7 @@ class Points(unittest.TestCase):
         pairs = shapes.sized_pairs(picture.SEED, picture.PAIRS)
         self.assertGreaterEqual(len(pairs), 10000)
         for r, h in pairs:
-            self.assertTrue(r <= 1.1 * h and 2.0**-1022 <= kernel_pairs.normalizer(h) < math.inf)
+            self.assertTrue(r <= 1.1 * h and 0.0 < kernel_pairs.normalizer(h) < math.inf)
         radii = [h for _, h in pairs]
         self.assertTrue(min(radii) < 2.0**-300 and max(radii) > 2.0**300)
         self.assertGreater(sum(1e-3 < h < 1e3 for h in radii), 5000)
@@ -229,7 +233,7 @@ class Command(unittest.TestCase):
     def test_a_program_that_agrees(self):
         status, said = self.held()
         self.assertEqual((status, said.count("no difference"), said.count("of its bound")), (0, 2, 2), said)
-        self.assertIn("\n100 distances, with radii of all sizes", said)
+        self.assertIn("\n101 distances, with radii of all sizes", said)
         with mock.patch.object(shapes, "KERNEL_BOUND", Fraction(1, 2**54)):
             status, said = self.held()
             self.assertEqual((status, "above its bound" in said), (1, True))

@@ -3,7 +3,6 @@ measured; for shape_picture.py. Every difference is one of fractions: no float t
 import itertools
 import math
 import struct
-import sys
 from fractions import Fraction
 
 from parts.drawing import LARGEST, Draw, shapes as computed
@@ -15,8 +14,10 @@ WEIGHT_BOUND, SLOPE_BOUND = Fraction(1, 2**50), Fraction(1, 2**49)
 CUT, LEAST_SLOPE = 1e-5, Fraction("-0.00012")
 # The largest errors that are known, of weight and slope, are at these doubles.
 FARTHEST = 0.3554674363481153, 0.4998947832772881
-# An error of the weight at a distance, in units of the normalizer, is at most this.
+# An error of the weight at a distance, in units of the normalizer, is at most this; and the largest one that is
+# known is at this distance, with this radius.
 KERNEL_BOUND = Fraction(5, 2**52)
+FARTHEST_PAIR = 0.602017381226231, 1.6990832872325097
 
 
 class Beyond(Exception):
@@ -81,7 +82,7 @@ def edges():
 
 
 def sized_pairs(seed, n):
-    """Distances up to 1.1 radii, and radii of all sizes for which the normalizer is a normal double."""
+    """Distances up to 1.1 radii, and radii of all sizes for which the normalizer is finite and not 0."""
     return list(itertools.islice(pair_stream(Draw(seed)), n))
 
 
@@ -91,7 +92,7 @@ def pair_stream(d):
         edge = d.of((CUT, 0.5, 1.0)) * d.of((1.0, 1.0 - 2.0**-53, 1.0 + 2.0**-52))
         tiny = math.ldexp(d.unit(), -d.below(1075))
         q = d.weighted(((8, 1.1 * d.unit()), (2, edge), (2, tiny), (1, d.zero())))
-        if sys.float_info.min <= normalizer(h) < math.inf:
+        if 0.0 < normalizer(h) < math.inf:
             yield q * h, h
 
 
