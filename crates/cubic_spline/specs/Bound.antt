@@ -43,7 +43,7 @@ SlopeWithin v x = ShapeWithin true v unit 49 x
 abbrev pub SlopeNear : Float → Float → Type 0
 SlopeNear q x = SlopeWithin (monaghanFall unit (count q)) x
 
--- x is 0, and the exact slope at q lies between -0.00012 and 0
+-- x is 0, and the exact slope at q, which is minus the fall there, lies between -0.00012 and 0
 pub record SlopeFlat (q x : Float) : Type 0 where
   pub zero : x ≡ +0
   pub least : monaghanFall unit (count q) * 100000 ≤ 12 * (unit * unit)

@@ -4,7 +4,8 @@ use Prim.Native.Nat.{ℕ, _-_, _*_}
 use mathlib.Core.Bool.{cond}
 use lib.Dec.{leb}
 
--- the spline's three pieces: up to 1 / 2, up to 1, and beyond. In its piece no difference below falls under 0
+-- the spline's three pieces: up to 1 / 2, up to 1, and beyond. In its piece no difference below falls under 0: that is
+-- proved in proofs/Exact.antt
 unfoldable pub pieces : {A : Type 0} → ℕ → ℕ → A → A → A → A
 pieces u n near far beyond = cond (leb (n * 2) u) near (cond (leb n u) far beyond)
 
