@@ -132,7 +132,10 @@ uint64_t iisph_check_list(const uint8_t *scene, size_t scene_len, uint64_t conta
 /* The cubic spline at the distance r with the radius h, and its derivative there. out: at least 1
    element.
    Returns 0 with out[0] the value. Refused by 11, then by 12; then out is unchanged.
-   Where h is so small that h * h * h rounds to 0, the value may be infinite or not a number.
+   With n, the normalizer 8 / (pi * h * h * h) in doubles: a weight is within 5 * 2^-52 * n of n
+   times the exact shape at r / h (docs/METHOD.md, 1.5), unless n is infinite, which it is for no h
+   from 2^-340 (some 4.5e-103) on. Where n is infinite, the value is infinite or not a number; a
+   slope may be infinite for every h below 1.3e-77.
    Both take less than 100 bytes of stack. */
 uint64_t iisph_weight(double r, double h, double *out, size_t out_len);
 uint64_t iisph_slope(double r, double h, double *out, size_t out_len);

@@ -210,11 +210,16 @@ fn kernel(
 }
 
 /// The cubic spline at the distance `r`, with the radius `h`.
+///
+/// With n, the normalizer 8 / (pi h h h) in doubles, it is proved to be within 5 × 2^-52 × n of n
+/// times the exact shape at r / h (docs/METHOD.md, 1.5), unless n is infinite, which it is for no
+/// `h` from 2^-340 (some 4.5e-103) on. Where n is infinite, the value is infinite or not a number.
 pub fn weight(r: f64, h: f64) -> Result<f64, KernelRefusal> {
     kernel(c::iisph_weight, r, h)
 }
 
-/// Its derivative there.
+/// Its derivative there. For an `h` below 1.3e-77 it may be infinite; where n is, it may be not a
+/// number.
 pub fn slope(r: f64, h: f64) -> Result<f64, KernelRefusal> {
     kernel(c::iisph_slope, r, h)
 }
