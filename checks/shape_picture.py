@@ -134,7 +134,7 @@ def by_column(found):
 
 
 def error_panel(column, name, bound, colour, found, known):
-    """Errors in units of their bound; `known` is where the largest one is known."""
+    """Errors in units of their bound; `known` is a point with a large one."""
     panel, limit = Panel(column, 1, QUARTERS, FIFTHS), power(bound)
     yield from panel.ground("Error |%s - %s*|, in units of %s" % (name, name, limit), colour)
     strokes = ("M%sV%s" % (panel.at(Fraction(2 * k + 1, 2 * WIDE), least / bound), pixel(panel.y(most / bound)))
@@ -145,7 +145,7 @@ def error_panel(column, name, bound, colour, found, known):
     q, most = max([*found, known], key=lambda point: point[1])
     yield panel.mark(q, most / bound, DARK)
     right, down = panel.x(q) - panel.left, panel.y(most / bound) - panel.top
-    yield panel.label(right, down - 31, "largest known error: " + power(most), MIDDLE)
+    yield panel.label(right, down - 31, "largest measured error: " + power(most), MIDDLE)
     yield panel.label(right, down - 15, "at q = %r" % float(q), MIDDLE)
 
 
@@ -190,8 +190,8 @@ that of S for those above the double 1e-5."""
 
 
 def measured():
-    """Every q with both errors, at the points that are drawn; and the two points with the largest
-    errors known, each with its own error."""
+    """Every q with both errors, at the points that are drawn; and two points with large errors, each
+    with its own."""
     for q in shapes.close() + shapes.edges():
         shapes.errors(q)
     found = [(Fraction(q), *shapes.errors(q)) for q in shapes.spread()]
@@ -209,7 +209,7 @@ def svg():
     out += shape_panel(0, "Weight shape W", shapes.exact_weight, QUARTERS, BLUE, WIDE - 6, 22,
                        ("1 - 6 (q^2 - q^3) up to 1/2", "2 (1 - q)^3 up to 1"))
     out += shape_panel(1, "Slope shape S", shapes.exact_slope, ("-2", "-1.5", "-1", "-0.5", "0"), RED, WIDE - 6, 158,
-                       ("-6 q (2 - 3 q) up to 1/2", "-6 (1 - q)^2 up to 1"))
+                       ("6 q (3 q - 2) up to 1/2", "-6 (1 - q)^2 up to 1"))
     out += error_panel(0, "W", shapes.WEIGHT_BOUND, BLUE, [(q, error) for q, error, _ in found], weight_known)
     out += error_panel(1, "S", shapes.SLOPE_BOUND, RED, [(q, error) for q, _, error in found], slope_known)
     out += close_panel()

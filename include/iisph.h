@@ -135,7 +135,7 @@ uint64_t iisph_check_list(const uint8_t *scene, size_t scene_len, uint64_t conta
    With n, the normalizer 8 / (pi * h * h * h) in doubles: a weight is within 5 * 2^-52 * n of n
    times the exact shape at r / h (docs/METHOD.md, 1.5), unless n is infinite, which it is for no h
    from 2^-340 (some 4.5e-103) on. Where n is infinite, the value is infinite or not a number; a
-   slope may be infinite for every h below 1.3e-77.
+   slope may be infinite for an h below 1.3e-77.
    Both take less than 100 bytes of stack. */
 uint64_t iisph_weight(double r, double h, double *out, size_t out_len);
 uint64_t iisph_slope(double r, double h, double *out, size_t out_len);

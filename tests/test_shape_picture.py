@@ -17,7 +17,7 @@ from unittest import mock
 ROOT = pathlib.Path(__file__).resolve().parent.parent
 sys.path[:0] = [str(ROOT / "tools"), str(ROOT / "checks")]
 import shape_picture as picture          # noqa: E402
-from parts import kernel_pairs, shapes   # noqa: E402
+from parts import drawing, kernel_pairs, shapes   # noqa: E402
 
 ROWS = ROOT / "crates/cubic_spline/specs/Rows.antt"
 TAG = "{http://www.w3.org/2000/svg}"
@@ -52,14 +52,14 @@ class Shapes(unittest.TestCase):
             found = shapes.computed(shapes.double(q))[("weight", "slope").index(name)]
             self.assertEqual(kernel_pairs.bits(found), value or "0" * 16, (name, q))
 
-    def test_the_largest_errors_known(self):
+    def test_large_errors(self):
         self.assertEqual([*map(kernel_pairs.bits, shapes.FARTHEST)], ["3FD6BFFA7D7A1E96", "3FDFFE46B0677C46"])
         weight, slope = (shapes.errors(q)[k] for k, q in enumerate(shapes.FARTHEST))
         self.assertTrue(Fraction(1, 2**53) < weight <= Fraction(1, 2**50))
         self.assertTrue(Fraction(1, 2**51) < slope <= Fraction(1, 2**49))
         r, h = shapes.FARTHEST_PAIR
-        self.assertEqual((kernel_pairs.bits(r), kernel_pairs.bits(h)), ("3FE343B9F47FAFF0", "3FFB2F71F4FD8038"))
-        weight = shapes.kernel_error(r, h, kernel_pairs.normalizer(h) * shapes.computed(r / h)[0])
+        self.assertEqual((kernel_pairs.bits(r), kernel_pairs.bits(h)), ("40039ACBA903908E", "401B96BD2E65B5BD"))
+        weight = shapes.kernel_error(r, h, drawing.normalizer(h) * shapes.computed(r / h)[0])
         self.assertTrue(Fraction(1, 5) < weight <= 1)      # so 2^-52 normalizers would be too few
 
     def test_where_the_slope_is_cut(self):
@@ -112,7 +112,7 @@ class Points(unittest.TestCase):
         pairs = shapes.sized_pairs(picture.SEED, picture.PAIRS)
         self.assertGreaterEqual(len(pairs), 10000)
         for r, h in pairs:
-            self.assertTrue(r <= 1.1 * h and 0.0 < kernel_pairs.normalizer(h) < math.inf)
+            self.assertTrue(r <= 1.1 * h and 0.0 < drawing.normalizer(h) < math.inf)
         radii = [h for _, h in pairs]
         self.assertTrue(min(radii) < 2.0**-300 and max(radii) > 2.0**300)
         self.assertGreater(sum(1e-3 < h < 1e3 for h in radii), 5000)
@@ -141,7 +141,7 @@ class Drawing(unittest.TestCase):
         for error, words in (("1/3", ["2^-51.58", "0.5"]), ("1/5", ["2^-52", "0.25"])):
             known_one = known, Fraction(error) / 2**50
             lines = " ".join(picture.error_panel(0, "W", shapes.WEIGHT_BOUND, "#000000", found, known_one))
-            self.assertEqual(re.findall("largest known error: (.*?)<.*at q = (.*?)<", lines), [tuple(words)])
+            self.assertEqual(re.findall("largest measured error: (.*?)<.*at q = (.*?)<", lines), [tuple(words)])
 
 
 def boxes(root):
@@ -170,8 +170,8 @@ class File(unittest.TestCase):
         root = ElementTree.fromstring(drawn())
         self.assertEqual(root.find(TAG + "rect").get("fill"), "#ffffff")
         texts = [text.text for text in root.iter(TAG + "text")]
-        for words in ("largest known error: 2^-52.38", "at q = 0.3554674363481153", "proved bound: 2^-50",
-                      "largest known error: 2^-50.54", "at q = 0.4998947832772881", "proved bound: 2^-49",
+        for words in ("largest measured error: 2^-52.38", "at q = 0.3554674363481153", "proved bound: 2^-50",
+                      "largest measured error: 2^-50.54", "at q = 0.4998947832772881", "proved bound: 2^-49",
                       "S* is not below -0.00012", "-0.0001199982"):
             self.assertEqual(texts.count(words), 1, words)
         sizes = [float(size) for e in root.iter() for size in [e.get("font-size")] if size]

@@ -124,10 +124,15 @@ def shapes(q):
     return weight, slope
 
 
+def normalizer(h):
+    """Of a radius above 0. A quotient by 0 is infinite, where Python's raises."""
+    divisor = ((math.pi * h) * h) * h
+    return 8.0 / divisor if divisor else math.inf
+
+
 def kernel(r, h):
-    normaliser = 8.0 / (((math.pi * h) * h) * h)
-    weight, slope = shapes(r / h)
-    return normaliser * weight, (normaliser * slope) / h
+    scale, (weight, slope) = normalizer(h), shapes(r / h)
+    return scale * weight, (scale * slope) / h
 
 
 SMALL = (1, 1, 2), (2, 1, 2), (2, 2, 2), (1, 1, 4), (3, 1, 1), (2, 2, 1), (3, 2, 2), (3, 3, 1)

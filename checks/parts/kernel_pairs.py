@@ -4,7 +4,7 @@ import collections
 import math
 import struct
 
-from parts.drawing import Draw, shapes
+from parts.drawing import Draw, kernel
 from parts.sides import ran
 from reference import Stop
 
@@ -26,22 +26,12 @@ def pairs(seed, n):
         yield r, d.of((math.inf, math.nan, -h)) if d.one_in(40) else h
 
 
-def divided(a, b):
-    if b != 0.0:
-        return a / b
-    return math.nan if a == 0.0 or math.isnan(a) else math.copysign(math.inf, a) * math.copysign(1.0, b)
-
-
-def normalizer(h): return divided(8.0, ((math.pi * h) * h) * h)
-
-
 def kernel_line(r, h):
     if not (math.isfinite(r) and r >= 0.0):
         return "refused 11"
     if not (math.isfinite(h) and h > 0.0):
         return "refused 12"
-    scale, (weight, slope) = normalizer(h), shapes(r / h)
-    return "%s %s" % (bits(scale * weight), bits((scale * slope) / h))
+    return " ".join(map(bits, kernel(r, h)))
 
 
 def answers(command, cases):

@@ -5,19 +5,18 @@ import math
 import struct
 from fractions import Fraction
 
-from parts.drawing import LARGEST, Draw, shapes as computed
-from parts.kernel_pairs import normalizer
+from parts.drawing import LARGEST, Draw, normalizer, shapes as computed
 
 HALF = Fraction(1, 2)
 WEIGHT_BOUND, SLOPE_BOUND = Fraction(1, 2**50), Fraction(1, 2**49)
 # Up to the double 1e-5 the computed slope is 0, and the exact one is not below LEAST_SLOPE.
 CUT, LEAST_SLOPE = 1e-5, Fraction("-0.00012")
-# The largest errors that are known, of weight and slope, are at these doubles.
+# Large errors, of weight and slope, are at these doubles.
 FARTHEST = 0.3554674363481153, 0.4998947832772881
-# An error of the weight at a distance, in units of the normalizer, is at most this; and the largest one that is
-# known is at this distance, with this radius.
+# An error of the weight at a distance, in units of the normalizer, is at most this; a large one is at this
+# distance, with this radius.
 KERNEL_BOUND = Fraction(5, 2**52)
-FARTHEST_PAIR = 0.602017381226231, 1.6990832872325097
+FARTHEST_PAIR = 2.4505837635243273, 6.897206044156914
 
 
 class Beyond(Exception):
@@ -33,7 +32,7 @@ def exact_weight(q):
 
 def exact_slope(q):
     """Monaghan's slope at the fraction q."""
-    return -6 * q * (2 - 3 * q) if q <= HALF else -6 * (1 - q) ** 2 if q <= 1 else Fraction(0)
+    return 6 * q * (3 * q - 2) if q <= HALF else -6 * (1 - q) ** 2 if q <= 1 else Fraction(0)
 
 
 def errors(q):

@@ -218,8 +218,8 @@ pub fn weight(r: f64, h: f64) -> Result<f64, KernelRefusal> {
     kernel(c::iisph_weight, r, h)
 }
 
-/// Its derivative there. For an `h` below 1.3e-77 it may be infinite; where n is, it may be not a
-/// number.
+/// Its derivative there. For an `h` below 1.3e-77 it may be infinite; where the normalizer of
+/// [`weight`] is infinite, it is infinite or not a number.
 pub fn slope(r: f64, h: f64) -> Result<f64, KernelRefusal> {
     kernel(c::iisph_slope, r, h)
 }

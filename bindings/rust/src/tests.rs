@@ -219,7 +219,7 @@ fn refusals_say_what_and_where() {
     assert!(Reason::ALL.iter().enumerate().all(|(n, reason)| reason.number() as usize == n + 1));
 }
 
-// normaliser × shape, and (normaliser × shape) / h; with the radius 1 the shapes are those of
+// normalizer × shape, and (normalizer × shape) / h; with the radius 1 the shapes are those of
 // METHOD 1
 #[test]
 fn kernel_values() {

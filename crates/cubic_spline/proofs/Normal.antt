@@ -8,7 +8,7 @@ use native.Mathlib.Nat.{mul-le-mul, mul-le-mul-left, mul-le-mul-right}
 use mathlib.Core.Bool.{false}
 use lib.IntN.{ℤ}
 use lib.Dec.{T, lit≤, lit<}
-use lib.Ieee.{Float, inf, fin, binary64, up, down, round, mul, div, ofBits}
+use lib.Ieee.{Float, inf, binary64, up, down, round, mul, div, ofBits}
 use lib.Ieee.Fits.{up-pos}
 use lib.Ieee.Exact.{HasValue}
 use lib.Ieee.Scale.{grid, overflow, finite, round-under}
@@ -110,7 +110,7 @@ module _ (y : Float) (Y : Fraction false y (count y) unit) (P : 0 < count y) whe
       let normal = at-least (power 52 (lit< tt)) (8 * unit) d above eighth g in
       rw over-is (record { is = N .is; held = N .held; normal = rw (N .counted) normal })
 
-  -- 2 ^ 55 units are 2 ^ -1019, which goes into 8 as often as 2 ^ 2096 units are
+  -- 2 ^ 55 units are 2 ^ -1019, and 8 divided by that is 2 ^ 1022, which is 2 ^ 2096 units
   over-finite : 2 ^ 55 ≤ count y → T (finite (eight ⊘ y))
   over-finite l =
       let d = count y * 1 in

@@ -7,7 +7,7 @@ use native.Mathlib.Nat.{le-of-lt, mul-comm, mul-one, one-mul, mul-pos, mul-le-mu
 use native.Mathlib.Decide.{decLe}
 use native.Mathlib.Omega.{arith}
 use mathlib.Core.Bool.{true, false}
-use lib.Dec.{T, leb, lit≤, lit<}
+use lib.Dec.{T, lit≤, lit<}
 use lib.Ieee.{Float, nan, inf, fin, binary64, round, add, sub, mul, le, ofBits}
 use lib.Ieee.Bits.{is-true}
 use lib.Ieee.Order.{round-mono}

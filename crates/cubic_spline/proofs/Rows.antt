@@ -1,5 +1,5 @@
 -- What holds at single doubles, by evaluation: the definitions yield every row of specs/Rows.antt; the error bounds
--- hold at -0, and where the errors are the largest that are known closer bounds do not. Assumes nothing.
+-- hold at -0, and where errors are large closer ones do not. Assumes nothing.
 use mathlib.Core.Path.{refl}
 use Prim.Native.Nat.{_*_, _≤_}
 use native.Mathlib.Nat.{not-le-of-lt}
@@ -71,12 +71,12 @@ slope-no-flatter l = not-le-of-lt (lit< tt) l
 
 -- ---- the weight, relative to the normalizer
 
--- r / h close to 0.35431894: the error is 1.198 × 2 ^ -52 × normalizer, so within 5 × 2 ^ -52 and not within 2 ^ -52
+-- r / h close to 0.35530094: the error is 1.2587 × 2 ^ -52 × normalizer, so within 5 × 2 ^ -52 and not within 2 ^ -52
 abbrev farthest-distance : Float
-farthest-distance = bits 0x3FE343B9F47FAFF0
+farthest-distance = bits 0x40039ACBA903908E
 
 abbrev farthest-radius : Float
-farthest-radius = bits 0x3FFB2F71F4FD8038
+farthest-radius = bits 0x401B96BD2E65B5BD
 
 pub applied-farthest : AppliedNear farthest-distance farthest-radius (weight farthest-distance farthest-radius)
 unfolding weightShape exactWeight pieces ofBits add sub mul div le
@@ -84,7 +84,7 @@ applied-farthest = record { isFinite = tt; sign = tt; near = (lit≤ tt, lit≤ 
 
 pub applied-no-nearer : AppliedWithin 1 farthest-distance farthest-radius (weight farthest-distance farthest-radius) → ⊥
 unfolding weightShape exactWeight pieces ofBits add sub mul div le
-applied-no-nearer W = not-le-of-lt (lit< tt) (W .near .1)
+applied-no-nearer W = not-le-of-lt (lit< tt) (W .near .0)
 
 -- the radius 2 ^ -341: the normalizer is infinite, so the answer is promised, and not how near it is
 abbrev tiny-radius : Float

@@ -58,11 +58,11 @@ slopeShape q = cond (lt one q || le q epsilon) +0 (cond (le q half) (nearSlope q
 
 -- ---- the kernel at the distance r, with the radius h: q = r / h
 
--- normaliser × shape
+-- normalizer × shape
 abbrev pub weight : Float → Float → Float
 weight r h = normalizer h ⊗ weightShape (r ⊘ h)
 
--- (normaliser × shape) / h
+-- (normalizer × shape) / h
 abbrev pub slope : Float → Float → Float
 slope r h = normalizer h ⊗ slopeShape (r ⊘ h) ⊘ h
 

@@ -1,5 +1,6 @@
 -- A finite double is a whole number of units 2 ^ -1074, its `count`: a double has no deeper exponent, so the division
--- in `count` is exact. A finite double that is at least 0 is -0, or the fraction of its count. Assumes nothing.
+-- in `count` is exact. A finite double that is at least 0 is -0, or the fraction of its count; what is rounded from a
+-- fraction has the count that is rounded (`number`). Assumes nothing.
 use mathlib.Core.Path.{_≡_, refl, sym, ap, _∙_, subst}
 use Prim.Native.Nat.{ℕ, zero, suc, _+_, _-_, _*_, _/_, _%_, _^_, _≤_, _<_, zero-le}
 use native.Mathlib.Nat.{le-trans, le-of-eq, le-of-suc-le-suc, lt-of-not-le, not-le-of-lt, mul-le-mul-right, mul-one}

@@ -1,5 +1,5 @@
--- The law of rounding relative to a number of the format: what is at most that number is within 2 ^ -prec of it. Such a
--- number is rounded to itself, so what is at most it does not become infinite. Assumes nothing.
+-- The law of rounding relative to a normal number of the format: what is at most that number is rounded by 2 ^ -prec of
+-- it at most. A number is rounded to itself, so what is at most it does not become infinite. Assumes nothing.
 use mathlib.Core.Path.{_≡_, refl, sym, _∙_}
 use mathlib.Core.Logic.{_⊎_, inl, inr, ⊎-elim}
 use Prim.Native.Nat.{ℕ, suc, _+_, _-_, _*_, _^_, _≤_, _<_}
@@ -10,7 +10,7 @@ use native.Mathlib.Omega.{arith}
 use mathlib.Core.Bool.{Bool, true, false}
 use lib.Dec.{T, ltb}
 use lib.Pow.{pow-add, pow-pos, pow-mono, pow-lt}
-use lib.Ieee.{inf, fin, Format, prec, low, size, units, round, le}
+use lib.Ieee.{inf, Format, prec, low, size, units, round, le}
 use lib.Ieee.Bits.{is-true}
 use lib.Ieee.Digits.{size-lt, size-reaches}
 use lib.Ieee.Fits.{two, round-is}

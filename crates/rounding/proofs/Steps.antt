@@ -1,5 +1,6 @@
 -- One rounded operation on doubles counted in units of the smallest positive one: the count of the result, a bound on
--- it, and how far it is from the exact result. By the law of Rounding at what Fractions gives. Assumes nothing.
+-- it, and how far it is from the exact result. By the law of Rounding at what Fractions gives; a part of a normal
+-- number by that of Relative. Assumes nothing.
 use mathlib.Core.Path.{_≡_, subst}
 use Prim.Native.Nat.{ℕ, suc, _+_, _-_, _*_, _^_, _≤_, _<_, zero-le}
 use native.Mathlib.Nat.{le-trans, mul-comm, mul-assoc, mul-left-comm, mul-right-comm, zero-mul, mul-one, mul-pos}
@@ -46,7 +47,8 @@ pub record Within (u w : ℕ) (m : Bool) (x : Float) (v c k l : ℕ) : Type 0 wh
   pub top : count ≤ l * u
   pub near : Near (count * c) v (k * (w * c))
 
--- A part of a number: x is `count` units, and n * b / u units is the exact product of n units and b, of at most 1.
+-- A part of a number of n units: x is `count` units, within 2 ^ -53 of n units of the exact product n * b / u, where
+-- the b units are at most 1.
 pub record Part (u : ℕ) (x : Float) (n b : ℕ) : Type 0 where
   pub count : ℕ
   pub is : Fraction false x count u
