@@ -2,15 +2,14 @@
 -- as on fractions, and Chains bounds each; up to 1e-5 the exact slope falls; Rows has -0 and 1e-5. Assumes nothing.
 use mathlib.Core.Path.{_≡_, refl, sym, _∙_}
 use Prim.Native.Nat.{ℕ, _+_, _-_, _*_, _/_, _^_, _≤_, _<_, zero-le}
-use native.Mathlib.Nat.{le-trans, add-sub-of-le, zero-mul, mul-one, one-mul, mul-add, add-mul, mul-right-comm}
-use native.Mathlib.Nat.{mul-le-mul-left, mul-le-mul-right, le-of-mul-le-mul-right}
+use native.Mathlib.Nat.{le-trans, add-sub-of-le, zero-mul, mul-one, one-mul, mul-le-mul-right, le-of-mul-le-mul-right}
 use native.Mathlib.Omega.{arith}
 use mathlib.Core.Bool.{Bool, true, false, not, _||_, cond}
 use lib.Dec.{T, leb, lit≤, lit<}
 use lib.Ieee.{Float, binary64, fits, ofBits, le, lt}
 use lib.Ieee.Bits.{is-true}
 use lib.Ieee.Scale.{finite}
-use borrow.Author.Tests.{leb-true, leb-false, le-leb, not-true}
+use borrow.Author.Tests.{leb-true, leb-false, not-true}
 use Rattle.math.specs.Real.{_⊖_, +0, half, one}
 use Rattle.rounding.specs.Exact.{unit, count}
 use Rattle.math.proofs.Doubles.{holds}
@@ -24,6 +23,7 @@ use Rattle.cubic_spline.specs.Exact.{pieces, exactWeight, monaghanFall}
 use Rattle.cubic_spline.specs.Bound.{ShapeWithin, WeightWithin, WeightNear, WeightPromise}
 use Rattle.cubic_spline.specs.Bound.{SlopeWithin, SlopeNear, SlopeFlat, SlopeBound, SlopePromise}
 use Rattle.cubic_spline.proofs.Rows.{weight-minus-zero, slope-minus-zero, slope-least}
+use Rattle.cubic_spline.proofs.Exact.{near-fall-whole}
 use Rattle.cubic_spline.proofs.Chains.{near-weight, far-weight, near-slope, far-slope}
 
 -- ---- the three pieces
@@ -174,19 +174,15 @@ slope-above {q} Q a =
     (zero-found true _ _))
 
 -- up to 1 / 3 the exact slope falls: k is how much more the second number is than the first
-products-rise : (u n k : ℕ) → (n + k) * 3 ≤ u → (2 * u - 3 * n) * n ≤ (2 * u - 3 * (n + k)) * (n + k)
-products-rise u n k h =
-    let s = 2 * u - 3 * (n + k) in
-    let d : 2 * u - 3 * n ≡ s + 3 * k = omega arith in
-    let m : 3 * n * k ≤ s * k = mul-le-mul-right k (omega arith) in
-    rw (d, mul-add s n k, add-mul s (3 * k) n, mul-right-comm 3 k n) (omega arith)
+fall-rises : (u n k : ℕ) → (n + k) * 3 ≤ u → monaghanFall u n ≤ monaghanFall u (n + k)
+fall-rises u n k h =
+    let a = near-fall-whole u n (omega arith) in
+    let b = near-fall-whole u (n + k) (omega arith) in
+    let l : (n + k) * 3 * k ≤ u * k = mul-le-mul-right k h in
+    omega arith
 
 falls-rise : (u n e : ℕ) → n ≤ e → e * 3 ≤ u → monaghanFall u n ≤ monaghanFall u e
-unfolding monaghanFall pieces
-falls-rise u n e l h =
-    let d : n + (e - n) ≡ e = add-sub-of-le l in
-    rw (le-leb (n * 2) u (omega arith), le-leb (e * 2) u (omega arith))
-    (mul-le-mul-left 6 (rw d at (products-rise u n (e - n) (rw d h))))
+falls-rise u n e l h = let d : n + (e - n) ≡ e = add-sub-of-le l in rw d at (fall-rises u n (e - n) (rw d h))
 
 -- up to the double 1e-5 it is 0, and the exact one is not below that at 1e-5
 slope-up-to : {q : Float} → Fraction false q (count q) unit → T (le q epsilon) → SlopeFlat q (slopeShape q)
