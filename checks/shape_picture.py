@@ -180,10 +180,11 @@ S* the exact ones (METHOD 1.5). The upper row shows W* and
 S*; at its scale W and S look the same.
 
 Errors are measured at %d doubles: k / %d, rounded,
-for k from 1 on. %d is a prime, so no q below 1 is a
-short binary fraction. Each error is an exact difference of
-fractions. For each pixel column one stroke goes from the
-least error of its doubles to the largest.
+for k from 1 on; and at the two that are marked. %d is a
+prime, so no such double below 1 is a short binary fraction.
+Each error is an exact difference of fractions. For each
+pixel column one stroke goes from the least error of its
+doubles to the largest.
 
 The bounds are proved for every finite double q from 0 on,
 that of S for those above the double 1e-5."""
