@@ -65,6 +65,11 @@ pub slope-least : SlopeBound epsilon (slopeShape epsilon)
 unfolding slopeShape monaghanFall pieces ofBits le lt
 slope-least = record { above = λ a. absurd a; upTo = λ a. record { zero = refl; least = lit≤ tt } }
 
+-- so there it is not within 2 ^ -49 of the exact one, as it is above
+pub slope-cut : SlopeNear epsilon (slopeShape epsilon) → ⊥
+unfolding slopeShape monaghanFall pieces ofBits le lt
+slope-cut N = not-le-of-lt (lit< tt) (N .near .1)
+
 pub slope-no-flatter : monaghanFall unit (count epsilon) * 100000 ≤ 11 * (unit * unit) → ⊥
 unfolding monaghanFall pieces ofBits
 slope-no-flatter l = not-le-of-lt (lit< tt) l
@@ -98,3 +103,7 @@ applied-tiny =
       bound = λ d t n. absurd n;
       normalizes = λ t l. absurd l;
     }
+
+pub tiny-infinite : AppliedNear +0 tiny-radius (weight +0 tiny-radius) → ⊥
+unfolding weightShape ofBits add sub mul div le
+tiny-infinite N = N .isFinite
