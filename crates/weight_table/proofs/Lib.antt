@@ -1,0 +1,6 @@
+pub mod Computed
+pub mod Chord
+pub mod Entry
+pub mod Tested
+pub mod Floor
+pub mod Found
