@@ -3,10 +3,11 @@
    Build and link (x86-64 Linux; the archive needs no other library):
        rt staticlib iisph_c
        gcc -Iinclude program.c target/staticlib/libiisph_c.a -o program
-   iisph_check_list alone is in an archive of its own, which is made and linked likewise:
+   iisph_check_list and iisph_board_weight have an archive each, made and linked likewise:
        rt staticlib iisph_c_lists
+       rt staticlib iisph_c_board
 
-   Every function is total: it takes any bytes, any doubles and any lengths, and ends. A list of n
+   Every function is total: it takes any bytes, any numbers and any lengths, and ends. A list of n
    elements is passed as a pointer and n; the pointer may be null if n is 0, and is aligned for its
    type. Lists that a call writes must not overlap each other or the scene. Nothing is allocated and
    nothing is kept between calls, so calls with lists of their own may run at the same time. What
@@ -40,11 +41,11 @@
        11  a distance that is negative (-0 is not) or not finite
        12  a radius that is zero, negative or not finite
 
-   What the functions return: 99 where a list is too short for what every answer writes, and then
-   nothing at all is written; 98 where the index lent to iisph_step_lent is too short; 97 where the
-   scene has no such contact list as iisph_check_list is asked for; 100 + n for refusal n, of a
-   packed scene with its offset in counts[1]; otherwise what each says below. Elements that are not
-   named are never touched. */
+   What the functions that write lists return: 99 where a list is too short for what every answer
+   writes, and then nothing at all is written; 98 where the index lent to iisph_step_lent is too
+   short; 97 where the scene has no such contact list as iisph_check_list is asked for; 100 + n for
+   refusal n, of a packed scene with its offset in counts[1]; otherwise what each says below.
+   Elements that are not named are never touched. */
 #ifndef IISPH_H
 #define IISPH_H
 
@@ -139,6 +140,15 @@ uint64_t iisph_check_list(const uint8_t *scene, size_t scene_len, uint64_t conta
    Both take less than 100 bytes of stack. */
 uint64_t iisph_weight(double r, double h, double *out, size_t out_len);
 uint64_t iisph_slope(double r, double h, double *out, size_t out_len);
+
+/* The weight shape in whole numbers, by a table. q: r / h, in units of 2^-20.
+   Returns the shape there, in units of 2^-30; from 2^20 on 0. It is no code: every q is taken, and
+   none is refused. Times the normalizer n it is iisph_weight's value, but for the errors of both.
+   The result is proved to be within 1537 units of the exact shape at that q (docs/METHOD.md, 1.6),
+   and is exact where q is a multiple of 1024.
+   Takes some 4 KiB of stack, on which it lays the table out. In libiisph_c_board.a, which needs no
+   other archive. A board takes bindings/board/ instead, which needs no archive. */
+uint32_t iisph_board_weight(uint32_t q);
 
 #ifdef __cplusplus
 }

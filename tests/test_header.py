@@ -6,12 +6,12 @@ import unittest
 
 ROOT = pathlib.Path(__file__).resolve().parent.parent
 HEADER = (ROOT / "include/iisph.h").read_text()
-CRATES = "iisph_c", "iisph_c_lists"
+CRATES = "iisph_c", "iisph_c_lists", "iisph_c_board"
 IN_C = {"&[u8]": ["const uint8_t *", "size_t "], "&mut [f64]": ["double *", "size_t "],
         "&mut [u64]": ["uint64_t *", "size_t "], "&mut [usize]": ["uint64_t *", "size_t "],
-        "f64": ["double "], "u64": ["uint64_t "], "usize": ["size_t "]}
+        "f64": ["double "], "u32": ["uint32_t "], "u64": ["uint64_t "], "usize": ["size_t "]}
 RUST_IN_C = {"*const u8": "const uint8_t *", "*mut f64": "double *", "*mut u64": "uint64_t *", "usize": "size_t ",
-             "f64": "double ", "u64": "uint64_t "}
+             "f64": "double ", "u32": "uint32_t ", "u64": "uint64_t "}
 
 
 def typed(parameters):
@@ -40,7 +40,7 @@ def bound():
 
 class Header(unittest.TestCase):
     def test_declares_what_is_exported(self):
-        self.assertEqual(len(dict(exported())), 8)
+        self.assertEqual(len(dict(exported())), 9)
         self.assertEqual(dict(declared()), dict(exported()))
 
     def test_is_what_rust_declares(self):

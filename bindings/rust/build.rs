@@ -3,8 +3,8 @@
 use std::path::{Path, PathBuf};
 use std::{env, process};
 
-// The step with all else, and the check of one contact list.
-const ARCHIVES: [&str; 2] = ["iisph_c", "iisph_c_lists"];
+// The step with all else, the check of one contact list, and the weight shape in whole numbers.
+const ARCHIVES: [&str; 3] = ["iisph_c", "iisph_c_lists", "iisph_c_board"];
 
 fn link(folder: &Path, name: &str) {
     let archive = folder.join(format!("lib{name}.a"));

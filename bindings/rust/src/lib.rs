@@ -34,6 +34,7 @@
 //! 805 KiB where it has more. A thread of the standard library's default, 2 MiB, has room for that.
 #![warn(missing_docs)]
 
+mod board;
 mod c;
 mod lists;
 mod pack;
@@ -42,6 +43,7 @@ mod solver;
 
 use refusals::refusal;
 
+pub use board::board_weight;
 pub use lists::{check_list, CheckedList, Contacts, Unchecked};
 pub use pack::{Boundary, BoundaryContact, BoundaryParticle, Contact, Fluid, FluidParticle, Misfit, Scene};
 pub use refusals::{KernelRefusal, Reason, Refusal};

@@ -2,6 +2,7 @@
 // the repository's packed examples.
 use super::*;
 
+mod board;
 mod fields;
 mod lists;
 mod packing;
