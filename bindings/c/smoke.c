@@ -189,11 +189,24 @@ static int contact_lists(void) {
     return refused_contacts() || refused_lists() || refused_fields() || no_such_list();
 }
 
+/* the weight shape in whole numbers: on entries of its table, between them, rounded down, and beyond */
+static int board_weights(void) {
+    static const struct { uint32_t q, shape; } worked[] = {
+        {0, 1 << 30}, {1, 1073741818}, {511, 1073738760}, {1023, 1073735691}, {1024, 1073735686},
+        {(1 << 19) - 1, 268436994}, {1 << 19, 1 << 28}, {(1 << 19) + 1, 268433922}, {3 << 18, 1 << 25},
+        {(1 << 20) - 1024, 2}, {(1 << 20) - 512, 1}, {(1 << 20) - 511, 0}, {(1 << 20) - 1, 0},
+        {1 << 20, 0}, {1u << 31, 0}, {UINT32_MAX, 0},
+    };
+    for (size_t k = 0; k < sizeof worked / sizeof *worked; k++)
+        SAME(iisph_board_weight(worked[k].q) == worked[k].shape);
+    return 0;
+}
+
 int main(void) {
     double answers[8], work[15], numbers[5], out[2] = {7, 7}, clock[5] = {0.25, 7, 7, 3, 7};
     uint64_t counts[3] = {7, 7, 7};
     sevens(answers, 8); sevens(work, 15); sevens(numbers, 5);
-    if (contact_lists()) return 1;
+    if (contact_lists() || board_weights()) return 1;
     scene_a();
     if (lent_step()) return 1;
 
