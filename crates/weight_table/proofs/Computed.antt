@@ -3,6 +3,7 @@
 use mathlib.Core.Path.{refl}
 use Prim.Native.Nat.{_+_, _^_, _≤_}
 use native.Mathlib.Nat.{not-le-of-lt}
+use native.Mathlib.Omega.{arith}
 use lib.Dec.{lit≤, lit<}
 use Rattle.math.specs.Rows.{Yielded}
 use Rattle.cubic_spline.specs.Exact.{pieces, exactWeight}
@@ -26,7 +27,13 @@ step-no-gentler l = not-le-of-lt (lit< tt) l
 -- q = 511 / 2 ^ 20: the error is 1,534.74 units, so within 1,537 and not within 1,534
 pub lookup-farthest : LookupPromise 511 1073738760
 unfolding entryOf floor between tableWeight exactWeight pieces
-lookup-farthest = record { value = refl; near = (lit≤ tt, lit≤ tt); beyond = λ l. absurd (not-le-of-lt (lit< tt) l) }
+lookup-farthest =
+    record {
+      value = refl;
+      near = (lit≤ tt, lit≤ tt);
+      onEntry = λ e. absurd (omega arith);
+      beyond = λ l. absurd (not-le-of-lt (lit< tt) l);
+    }
 
 pub lookup-no-nearer : WithinUnits 1534 511 1073738760 → ⊥
 unfolding exactWeight pieces

@@ -11,6 +11,7 @@ use borrow.Author.Tests.{lt-ltb, le-ltb}
 use Rattle.rounding.specs.Exact.{Near}
 use Rattle.cubic_spline.specs.Exact.{exactWeight}
 use Rattle.cubic_spline.proofs.Exact.{beyond-weight-whole}
+use Rattle.cubic_spline.proofs.Lipschitz.{weight-scaled}
 use Rattle.weight_table.specs.Table.{steps, steepest, TablePromise}
 use Rattle.weight_table.specs.Lookup.{parts, one, between, tableWeight, WithinUnits, LookupPromise}
 use Rattle.weight_table.proofs.Chord.{line, chord-near}
@@ -24,6 +25,11 @@ line-near k f g r m h l e a b =
     let c : Near (2 * (m * 2 ^ 20)) (2 * exactWeight one (parts * k + f)) (3 * 2 ^ 40) =
     rw e (chord-near parts f g h 512 refl k l) in
     omega arith
+
+entry-near : (k r : ℕ) → r ≡ exactWeight steps k → WithinUnits 0 (k * parts) r
+entry-near k r e =
+    let S : exactWeight one (k * parts) ≡ exactWeight steps k * 2 ^ 30 = weight-scaled parts steps k in
+    rw (e, S) (omega arith)
 
 -- ---- below 1, in the table l
 
@@ -76,8 +82,14 @@ module _ (l : List ℕ) (E : TablePromise l) (q : ℕ) (h : q < one) where
       rw e at (line-near k f g (here - fallen) (line here next f g) (omega arith) (omega arith) (rw (A, B))
       (rounded .1) (rounded .2))
 
+  on-entry : f ≡ 0 → WithinUnits 0 q (here - fallen)
+  on-entry z =
+      let e : k * parts ≡ q = omega arith in
+      let n : fallen ≡ 0 = rw z (omega arith) in
+      rw e at (entry-near k (here - fallen) (omega (arith, E .exact k (omega arith))))
+
   pub found : LookupPromise q (here - fallen)
-  found = record { value = value; near = near; beyond = λ o. absurd (omega arith) }
+  found = record { value = value; near = near; onEntry = on-entry; beyond = λ o. absurd (omega arith) }
 
 -- ---- from 1 on
 
@@ -88,5 +100,6 @@ beyond q h =
     record {
       value = rw (le-ltb q one h);
       near = rw z (omega arith);
+      onEntry = λ e. rw z (omega arith);
       beyond = λ o. rw z (omega arith);
     }

@@ -4,3 +4,4 @@ pub mod Entry
 pub mod Tested
 pub mod Floor
 pub mod Found
+pub mod Falling

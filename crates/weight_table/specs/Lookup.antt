@@ -9,7 +9,7 @@ use Rattle.rounding.specs.Exact.{Near}
 use Rattle.cubic_spline.specs.Exact.{exactWeight}
 use Rattle.weight_table.specs.Table.{entryOf}
 
--- the largest whole number that is at most z / n; negsuc m is -(m + 1)
+-- the largest whole number that is at most z / n (proofs/Floor.antt); negsuc m is -(m + 1)
 unfoldable pub floor : ℤ → ℕ → ℤ
 floor (pos m) n = pos (m / n)
 floor (negsuc m) n = negsuc (m / n)
@@ -34,7 +34,9 @@ tableWeight q = cond (ltb q one) (between (q / parts) (q % parts)) (pos 0)
 abbrev pub WithinUnits : ℕ → ℕ → ℕ → Type 0
 WithinUnits b q r = Near (r * 2 ^ 30) (exactWeight one q) (b * 2 ^ 30)
 
+-- r is the table's weight at q / 2 ^ 20, within 1,537 units of the exact one; on an entry, and from 1 on, it is exact
 pub record LookupPromise (q r : ℕ) : Type 0 where
   pub value : pos r ≡ tableWeight q
   pub near : WithinUnits 1537 q r
+  pub onEntry : q % parts ≡ 0 → WithinUnits 0 q r
   pub beyond : one ≤ q → WithinUnits 0 q r
