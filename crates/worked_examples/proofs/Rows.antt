@@ -6,6 +6,8 @@ use Rattle.math.specs.Rows as math
 use Rattle.math.proofs.Rows.{rows-hold as doubles-hold}
 use Rattle.cubic_spline.specs.Rows as kernel
 use Rattle.cubic_spline.proofs.Rows.{rows-hold as kernel-holds}
+use Rattle.weight_table.specs.Rows as board
+use Rattle.weight_table.proofs.Computed.{rows-hold as board-holds}
 use Rattle.worked_examples.specs.Row.{Row, value, Holds, All, none, _and_}
 use Rattle.worked_examples.specs.Rows.{rows}
 use Rattle.worked_examples.specs.Starred.{volumesScene, starred, refusedSteps}
@@ -53,4 +55,5 @@ unfolding rows
 rows-hold =
     both (each math.rows doubles-hold)
     (both (each kernel.rows kernel-holds)
-    (both refusals-hold (both looks-hold (both starred-hold (both refused-steps-hold further-hold)))))
+    (both (each board.rows board-holds)
+    (both refusals-hold (both looks-hold (both starred-hold (both refused-steps-hold further-hold))))))

@@ -1,5 +1,5 @@
--- Every worked example, as one list: those of doubles, kernel, check and step (worked_examples), and packed scenes with
--- the text that the program writes for them. Definitions only.
+-- Every worked example, as one list: those of doubles, kernel, its table, check and step (worked_examples), and packed
+-- scenes with the text that the program writes for them. Definitions only.
 use Prim.Native.Nat.{ℕ}
 use Prim.Native.Char.{code}
 use Prim.Native.String.{String, [] as end, _∷_ as _then_}
