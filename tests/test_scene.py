@@ -218,7 +218,8 @@ class Mistakes(unittest.TestCase):
         whole = ROOT / "examples/scene-a.bin"
         self.assertEqual(command("pack", ROOT / "examples/scene-a.json", "-")[:2], (0, whole.read_bytes()))
         for arguments, status, piece in ((["show", ROOT / "none.bin"], 2, "check the file's name"),
-                                         (["at", "here", whole], 2, "is no offset"),
+                                         (["at", "here", whole], 2, "here is no offset"),
+                                         (["at", "-1", whole], 2, "-1 is no offset"),
                                          (["show", ROOT], 2, "check"),
                                          (["pack", whole, "-"], 1, "no JSON"), ([], 2, "here is how to use it"),
                                          (["shew"], 2, "there is no command shew"),

@@ -1,6 +1,7 @@
 """What the tools of this folder share: messages, and how a command's words are taken and carried
 out."""
 import os
+import re
 import sys
 
 
@@ -16,12 +17,13 @@ def counted(n, word): return "%d %s%s" % (n, word, "" if n == 1 else "s")
 
 
 def taken(tool, commands, arguments):
-    """A known command's words and options, if they are as many and those that it takes."""
+    """A known command's words and options, if they are as many and those that it takes. A negative
+    number is a word, so that a command can tell what it takes in its place."""
     command, rest, words, options = arguments[0], iter(arguments[1:]), [], {}
     usage, counts, known = commands[command]
     takes = "; this is what it takes: %s %s" % (tool, usage)
     for word in rest:
-        if word == "-" or not word.startswith("-"):
+        if not re.match("-[^0-9.]", word):
             words.append(word)
         elif word not in known or word in options:
             raise Misused("`%s` %s %s" % (command, "has no option" if word not in known else "takes only one", word)
