@@ -208,8 +208,8 @@ class Archive(InAFolder):
     def ran(self, source):
         """Status and output of bindings/c/board.c with a C file of the board."""
         program = self.folder / "board"
-        self.done("gcc", "-std=c99", "-flto", *WARNED, "-I", FILES, ROOT / "bindings/c/board.c", source, self.archive,
-                  "-o", program)
+        self.done("gcc", "-std=c99", "-flto", *WARNED, "-I", ROOT / "include", "-I", FILES,
+                  ROOT / "bindings/c/board.c", source, self.archive, "-o", program)
         ran = subprocess.run([program], capture_output=True, text=True)
         return ran.returncode, ran.stdout + ran.stderr
 
