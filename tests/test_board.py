@@ -170,6 +170,14 @@ class CFiles(InAFolder):
         wrong = [q for q in [*range(ONE + 1), *beyond] if lookup(q) != board.lookup(table(), q)]
         self.assertEqual(wrong[:9], [])
 
+    def test_nothing_beyond_the_table_is_read(self):
+        program = self.folder / "program.c"
+        program.write_text('#include "iisph_board.h"\n'
+                           "int main(void) { uint32_t q = 0; while (q < 1049601) (void)iisph_board_lookup(q++); }\n")
+        self.compiled("gcc", "-std=c99", "-fsanitize=undefined", "-fsanitize-undefined-trap-on-error", program,
+                      FILES / "iisph_board.c", "-o", self.folder / "program")
+        self.done(self.folder / "program")
+
     def test_from_c_plus_plus(self):
         program, made = self.folder / "program.cpp", self.folder / "made.o"
         program.write_text('#include "iisph_board.h"\n#include <iostream>\n'
