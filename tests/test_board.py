@@ -133,6 +133,12 @@ class Commands(InAFolder):
                 self.assertTrue((folder / path.name).read_bytes() == path.read_bytes(),
                                 "%s is not what tools/board.py write makes" % path)
 
+    def test_lengths(self):
+        for name, columns in ("iisph_board.h", 100), ("iisph_board.c", 120):
+            lines = (FILES / name).read_text(encoding="ascii").splitlines()
+            self.assertLess(len(lines), 300)
+            self.assertLessEqual(max(map(len, lines)), columns)
+
     def test_every_message_says_what_to_do(self):
         for word in ("-1", "-0x1", "-.5", "0.5", "1e3", "4294967296", "0x100000000", "9" * 5000, "x", "", "0x", "1_0",
                      "٣", " 1", "1\n"):
@@ -187,24 +193,19 @@ class CFiles(InAFolder):
             self.compiled("g++", "-std=c++11", program, made, "-o", self.folder / "program")
             self.assertEqual(self.done(self.folder / "program"), "1073726491 1073735686")
 
-    def test_lengths(self):
-        for name, columns in ("iisph_board.h", 100), ("iisph_board.c", 120):
-            lines = (FILES / name).read_text(encoding="ascii").splitlines()
-            self.assertLess(len(lines), 300)
-            self.assertLessEqual(max(map(len, lines)), columns)
-
 
 def archive():
     """The archive with the proved lookup, made anew unless it is given."""
     folder = os.environ.get("IISPH_ARCHIVE_DIR")
-    if folder is None and not shutil.which("rt"):
-        raise unittest.SkipTest(NO_ARCHIVE)
     if folder is None:
+        if not shutil.which("rt"):
+            raise unittest.SkipTest(NO_ARCHIVE)
         made = subprocess.run(["rt", "staticlib", "iisph_c_board"], cwd=ROOT, capture_output=True, text=True)
         if made.returncode:
-            raise AssertionError("rt staticlib iisph_c_board ended with %d: it must make the archive\n%s"
-                                 % (made.returncode, made.stdout + made.stderr))
-    return pathlib.Path(folder or ROOT / "target/staticlib").resolve() / "libiisph_c_board.a"
+            raise AssertionError("`rt staticlib iisph_c_board` makes no archive; mend what it tells\n"
+                                 + made.stdout + made.stderr)
+        folder = ROOT / "target/staticlib"
+    return pathlib.Path(folder).resolve() / "libiisph_c_board.a"
 
 
 @unittest.skipUnless(shutil.which("gcc"), NO_COMPILERS)

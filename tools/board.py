@@ -37,7 +37,8 @@ COMMANDS = {"write": ("write [FOLDER]", [0, 1], {}),
 
 def entries():
     """The proved table."""
-    found = re.search(r"^pub const ENTRIES: \[u32; 1025\] = \[([0-9,\s]*)\];", TABLE.read_text(), re.M)
+    text = TABLE.read_text(encoding="utf-8", errors="replace")
+    found = re.search(r"^pub const ENTRIES: \[u32; 1025\] = \[([0-9,\s]*)\];", text, re.M)
     numbers = [int(digits) for digits in re.findall("[0-9]+", found[1])] if found else []
     if len(numbers) != ENTRIES:
         raise Wrong("%s has no list ENTRIES of 1025 numbers; restore it, as in: git checkout %s" % (NAME, NAME))
@@ -53,7 +54,7 @@ def lookup(table, q):
 
 
 def exact(q):
-    """The exact shape (docs/METHOD.md, 1.5)."""
+    """The exact weight (docs/METHOD.md, 1.5)."""
     x = Fraction(q, ONE)
     return 2**30 * (1 - 6 * (x**2 - x**3) if 2 * x <= 1 else 2 * (1 - x)**3 if x <= 1 else Fraction(0))
 
@@ -82,8 +83,8 @@ extern "C" {
 #endif
 
 /* Entry k is the exact weight at q = 1024 * k: 2^30 + 6 * k^3 - 6144 * k^2 up to k = 512, and
-   2 * (1024 - k)^3 from 512 on. That the table follows this rule, and that it falls strictly from
-   2^30 to 0, is proved. */
+   2 * (1024 - k)^3 from 512 on. Proved of the table that this one is written from: it follows the
+   rule, and falls strictly from 2^30 to 0. */
 extern const uint32_t iisph_board_entries[1025];
 
 /* The weight at q. With k the quotient and f the remainder of q by 1024, it is entry k plus the

@@ -19,8 +19,8 @@ extern "C" {
 #endif
 
 /* Entry k is the exact weight at q = 1024 * k: 2^30 + 6 * k^3 - 6144 * k^2 up to k = 512, and
-   2 * (1024 - k)^3 from 512 on. That the table follows this rule, and that it falls strictly from
-   2^30 to 0, is proved. */
+   2 * (1024 - k)^3 from 512 on. Proved of the table that this one is written from: it follows the
+   rule, and falls strictly from 2^30 to 0. */
 extern const uint32_t iisph_board_entries[1025];
 
 /* The weight at q. With k the quotient and f the remainder of q by 1024, it is entry k plus the
