@@ -184,6 +184,18 @@ class CFiles(InAFolder):
                       FILES / "iisph_board.c", "-o", self.folder / "program")
         self.done(self.folder / "program")
 
+    def summed(self, old="", new=""):
+        """What bindings/c/board_sum.c prints of the C file with a text replaced."""
+        wrong, program = self.folder / "wrong.c", self.folder / "sum"
+        wrong.write_text((FILES / "iisph_board.c").read_text().replace(old, new, 1))
+        self.compiled("gcc", "-std=c99", ROOT / "bindings/c/board_sum.c", wrong, "-o", program)
+        return self.done(program)
+
+    def test_sum(self):
+        self.assertEqual((self.summed(), *called("sum")), ("3e207e55\n", 0, "3e207e55\n", ""))
+        for old, new in ((" 54, ", " 55, "), ("f + UINT32_C(1023)", "f"), ("return 0", "return q == UINT32_MAX")):
+            self.assertNotEqual(self.summed(old, new), "3e207e55\n", new)
+
     def test_from_c_plus_plus(self):
         program, made = self.folder / "program.cpp", self.folder / "made.o"
         program.write_text('#include "iisph_board.h"\n#include <iostream>\n'

@@ -7,6 +7,8 @@ lookup, and the weights that the board must give.
   tools/board.py weight Q ..       a line for each q: the weight that the lookup gives, the exact
                                    weight, and the error, which is the first less the second
   tools/board.py table             a line for each entry: k, and the weight at a q of k / 1024
+  tools/board.py sum               what bindings/c/board_sum.c must print on the board: one number
+                                   for all entries, and all weights up to a q of 1
 
 Q is in units of 2^-20, as a decimal or, behind 0x, in hex: a q of 0.5 is 524288 or 0x80000. Weights
 and errors are in units of 2^-30. The exact weight and the error are told in full, as a whole number
@@ -30,7 +32,8 @@ COLUMNS = "%10s  %10s  %-30s  %s\n"
 
 COMMANDS = {"write": ("write [FOLDER]", [0, 1], {}),
             "weight": ("weight Q ..", range(1, ALL), {}),
-            "table": ("table", [0], {})}
+            "table": ("table", [0], {}),
+            "sum": ("sum", [0], {})}
 
 
 # ---- the table, the lookup, the exact shape
@@ -67,7 +70,7 @@ HEADER = """\
    proved table, crates/weight_table/src/table.rt. Do not edit them; have them written anew.
 
    q is a distance over the radius, in units of 2^-20: 1048576 is 1. A weight is in units of 2^-30:
-   1073741824 is 1. The table takes 4100 bytes.
+   1073741824 is 1. The table takes 4100 bytes, beside the program where constants are read there.
 
    All arithmetic is that of uint32_t, and nothing overflows: from an entry to the next the table
    falls by at most 2^21, and f, below, is at most 1023, so their product, and that plus 1023, is
@@ -157,6 +160,17 @@ def weight_lines(table, places):
         yield COLUMNS % (q, found, mixed(right), mixed(found - right))
 
 
+# ---- sum
+
+def summed(table):
+    """FNV-1a, by numbers of 32 bits in place of bytes, of the numbers that bindings/c/board_sum.c takes."""
+    places = [*range(ONE + 1), *(2**n - 1 for n in range(32, 20, -1))]
+    total = 2166136261
+    for number in [*table, *(lookup(table, q) for q in places)]:
+        total = (total ^ number) * 16777619 % ALL
+    return total
+
+
 # ---- the commands
 
 def run(command, words, options):
@@ -167,8 +181,10 @@ def run(command, words, options):
         write(pathlib.Path(words[0]) if words else FOLDER, table)
     elif command == "weight":
         print("".join(weight_lines(table, places)), end="")
-    else:
+    elif command == "table":
         print("".join("%4d  %10d\n" % pair for pair in enumerate(table)), end="")
+    else:
+        print("%08x" % summed(table))
     return [], 0
 
 
