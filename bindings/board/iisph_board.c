@@ -1,3 +1,4 @@
+/* SPDX-License-Identifier: Apache-2.0 */
 /* The table and the lookup of iisph_board.h. Written by tools/board.py; do not edit. */
 #include "iisph_board.h"
 

@@ -1,9 +1,11 @@
+/* SPDX-License-Identifier: Apache-2.0 */
 /* The weight shape from a table of whole numbers, for a board with no floating point: this file and
    iisph_board.c, in C99, with nothing but <stdint.h>. Both are written by tools/board.py from the
    proved table, crates/weight_table/src/table.rt. Do not edit them; have them written anew.
 
    q is a distance over the radius, in units of 2^-20: 1048576 is 1. A weight is in units of 2^-30:
-   1073741824 is 1. The table takes 4100 bytes, beside the program where constants are read there.
+   1073741824 is 1. The table takes 4100 bytes of read-only memory, or of RAM where the compiler
+   keeps constants in RAM, as avr-gcc does.
 
    All arithmetic is that of uint32_t, and nothing overflows: from an entry to the next the table
    falls by at most 2^21, and f, below, is at most 1023, so their product, and that plus 1023, is
