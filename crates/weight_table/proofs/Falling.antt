@@ -12,7 +12,7 @@ use Rattle.lists.proofs.Lists.{table-at}
 use Rattle.weight_table.specs.Table.{steps, entryOf, TablePromise}
 use Rattle.weight_table.specs.Lookup.{parts, one, between, tableWeight, LookupPromise}
 use Rattle.weight_table.proofs.Tested.{right, tabled}
-use Rattle.weight_table.proofs.Floor.{roundedUp, floored}
+use Rattle.weight_table.proofs.Floor.{fallen, fallen-most, floored}
 
 -- ---- the rule's own table
 
@@ -32,23 +32,16 @@ abbrev weight : ℕ → ℕ
 weight q = natAbs (tableWeight q)
 
 -- what the line has fallen f parts on from entry k
-abbrev fallen : ℕ → ℕ → ℕ
-fallen k f = roundedUp ((entryOf k - entryOf (k + 1)) * f)
+abbrev lost : ℕ → ℕ → ℕ
+lost k f = fallen (entryOf k) (entryOf (k + 1)) f
 
-no-more : (k f : ℕ) → k < steps → f < parts → fallen k f ≤ entryOf k - entryOf (k + 1)
-no-more k f h l =
-    let d = entryOf k - entryOf (k + 1) in
-    let m : d * f ≤ d * (parts - 1) = mul-le-mul-left d (omega arith) in
-    omega arith
-
-on-step : (k f : ℕ) → k < steps → f < parts → weight (parts * k + f) ≡ entryOf k - fallen k f
+on-step : (k f : ℕ) → k < steps → f < parts → weight (parts * k + f) ≡ entryOf k - lost k f
 unfolding tableWeight between
 on-step k f h l =
     let b : parts * k + f < one = omega arith in
     let d : (parts * k + f) / parts ≡ k = omega arith in
     let m : (parts * k + f) % parts ≡ f = omega arith in
-    let n : fallen k f ≤ entryOf k = omega (arith, no-more k f h l) in
-    let e = floored (entryOf k) (entryOf (k + 1)) f (entry-falls k h) n in
+    let e = floored (entryOf k) (entryOf (k + 1)) f (entry-falls k h) l in
     rw (lt-ltb (parts * k + f) one b, d, m) (ap natAbs (sym e))
 
 from-one : (q : ℕ) → one ≤ q → weight q ≡ 0
@@ -65,7 +58,7 @@ within k f h l =
 
 across : (k f : ℕ) → k + 1 < steps → f < parts → weight (parts * (k + 1) + 0) ≤ weight (parts * k + f)
 across k f h l =
-    let n = no-more k f (omega arith) l in
+    let n = fallen-most (entryOf k) (entryOf (k + 1)) f l in
     let e = entry-falls k (omega arith) in
     rw (on-step k f (omega arith) l, on-step (k + 1) 0 h (omega arith)) (omega arith)
 

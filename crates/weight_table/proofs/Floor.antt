@@ -43,7 +43,7 @@ floor-largest (negsuc m) n h = above m (m / n) n h (div-mul-le-self m n)
 -- ---- a and the floor of a negative number
 
 -- n / 1024, rounded up
-abbrev pub roundedUp : ℕ → ℕ
+abbrev roundedUp : ℕ → ℕ
 roundedUp n = (n + (parts - 1)) / parts
 
 less : (a n : ℕ) → roundedUp n ≤ a → pos a +ℤ floor (negℤ (pos n)) parts ≡ pos (a - roundedUp n)
@@ -57,25 +57,31 @@ difference : (a b : ℕ) → b < a → pos b -ℤ pos a ≡ negsuc (a - suc b)
 difference zero b h = absurd (omega arith)
 difference (suc n) b h = rw (lt-ltb b (suc n) h)
 
-pub floored : (a b f : ℕ) → b < a → roundedUp ((a - b) * f) ≤ a
-    → pos (a - roundedUp ((a - b) * f)) ≡ pos a +ℤ floor ((pos b -ℤ pos a) *ℤ pos f) parts
-floored a b f h l =
-    let e : suc (a - suc b) ≡ a - b = omega arith in
-    rw (difference a b h, e, less a ((a - b) * f) l)
-
 -- ---- the line from a down to b
 
-module _ (a b f g : ℕ) (l : b ≤ a) (h : f + g ≡ parts) (p : f < parts) where
-  abbrev fallen : ℕ
-  fallen = roundedUp ((a - b) * f)
+-- what it has fallen f parts on, rounded up
+abbrev pub fallen : ℕ → ℕ → ℕ → ℕ
+fallen a b f = roundedUp ((a - b) * f)
 
-  -- what is left is the line's 1,024th part, rounded down
-  pub on-line : (fallen ≤ a) × (parts * (a - fallen) ≤ line a b f g) × (line a b f g < parts * (a - fallen) + parts)
-  on-line =
-      let d = a - b in
-      let e : d + b ≡ a = omega arith in
-      let m : d * f ≤ d * (parts - 1) = mul-le-mul-left d (omega arith) in
-      let x : d * f + d * g ≡ d * parts = omega (arith, ap (λ z. d * z) h) in
-      let y : b * f + b * g ≡ b * parts = omega (arith, ap (λ z. b * z) h) in
-      let z : d * g + b * g ≡ a * g = omega (arith, ap (λ z. z * g) e) in
-      omega arith
+pub fallen-most : (a b f : ℕ) → f < parts → fallen a b f ≤ a - b
+fallen-most a b f h =
+    let m : (a - b) * f ≤ (a - b) * (parts - 1) = mul-le-mul-left (a - b) (omega arith) in
+    omega arith
+
+pub floored : (a b f : ℕ) → b < a → f < parts
+    → pos (a - fallen a b f) ≡ pos a +ℤ floor ((pos b -ℤ pos a) *ℤ pos f) parts
+floored a b f h p =
+    let e : suc (a - suc b) ≡ a - b = omega arith in
+    rw (difference a b h, e, less a ((a - b) * f) (omega (arith, fallen-most a b f p)))
+
+-- what is left is the line's 1,024th part, rounded down
+pub on-line : (a b f g : ℕ) → b ≤ a → f + g ≡ parts → f < parts
+    → (parts * (a - fallen a b f) ≤ line a b f g) × (line a b f g < parts * (a - fallen a b f) + parts)
+on-line a b f g l h p =
+    let d = a - b in
+    let e : d + b ≡ a = omega arith in
+    let m = fallen-most a b f p in
+    let x : d * f + d * g ≡ d * parts = omega (arith, ap (λ z. d * z) h) in
+    let y : b * f + b * g ≡ b * parts = omega (arith, ap (λ z. b * z) h) in
+    let z : d * g + b * g ≡ a * g = omega (arith, ap (λ z. z * g) e) in
+    omega arith

@@ -3,7 +3,7 @@
 use mathlib.Core.Path.{_≡_, refl}
 use mathlib.Core.List.{List}
 use Prim.Native.Nat.{ℕ, _+_, _-_, _*_, _/_, _%_, _^_, _≤_, _<_}
-use native.Mathlib.Nat.{mul-le-mul, mul-le-mul-left}
+use native.Mathlib.Nat.{mul-le-mul}
 use native.Mathlib.Omega.{arith}
 use lib.ListN.{getD}
 use lib.IntN.{pos}
@@ -15,7 +15,7 @@ use Rattle.cubic_spline.proofs.Lipschitz.{weight-scaled}
 use Rattle.weight_table.specs.Table.{steps, steepest, TablePromise}
 use Rattle.weight_table.specs.Lookup.{parts, one, between, tableWeight, WithinUnits, LookupPromise}
 use Rattle.weight_table.proofs.Chord.{line, chord-near}
-use Rattle.weight_table.proofs.Floor.{roundedUp, floored, on-line}
+use Rattle.weight_table.proofs.Floor.{fallen, fallen-most, floored, on-line}
 
 -- where r is the 1,024th part of the line between two exact weights, rounded down
 line-near : (k f g r m : ℕ) → f + g ≡ parts → k < steps
@@ -49,8 +49,9 @@ module _ (l : List ℕ) (E : TablePromise l) (q : ℕ) (h : q < one) where
   abbrev next : ℕ
   next = getD l (k + 1) 0
 
-  abbrev fallen : ℕ
-  fallen = roundedUp ((here - next) * f)
+  -- the lookup's result
+  abbrev left : ℕ
+  left = here - fallen here next f
 
   down : next < here
   down = E .falls k (omega arith)
@@ -61,34 +62,33 @@ module _ (l : List ℕ) (E : TablePromise l) (q : ℕ) (h : q < one) where
   pub small : (here - next) * f ≤ steepest * (parts - 1)
   small = mul-le-mul {n₂ = steepest} {m₂ = parts - 1} (omega (arith, E .gently k (omega arith))) (omega arith)
 
-  pub flat : (here - next) * f ≤ (here - next) * (parts - 1)
-  flat = mul-le-mul-left (here - next) (omega arith)
+  pub inside : fallen here next f ≤ here
+  inside = omega (arith, fallen-most here next f (omega arith))
 
-  rounded : (fallen ≤ here) × (parts * (here - fallen) ≤ line here next f g)
-      × (line here next f g < parts * (here - fallen) + parts)
+  rounded : (parts * left ≤ line here next f g) × (line here next f g < parts * left + parts)
   rounded = on-line here next f g lower (omega arith) (omega arith)
 
-  value : pos (here - fallen) ≡ tableWeight q
+  value : pos left ≡ tableWeight q
   unfolding tableWeight between
   value =
       rw (lt-ltb q one h, ← E .rule k (omega arith), ← E .rule (k + 1) (omega arith))
-      (floored here next f down (rounded .0))
+      (floored here next f down (omega arith))
 
-  near : WithinUnits 1537 q (here - fallen)
+  near : WithinUnits 1537 q left
   near =
       let A : here ≡ exactWeight steps k = E .exact k (omega arith) in
       let B : next ≡ exactWeight steps (k + 1) = E .exact (k + 1) (omega arith) in
       let e : parts * k + f ≡ q = omega arith in
-      rw e at (line-near k f g (here - fallen) (line here next f g) (omega arith) (omega arith) (rw (A, B))
-      (rounded .1) (rounded .2))
+      rw e at (line-near k f g left (line here next f g) (omega arith) (omega arith) (rw (A, B))
+      (rounded .0) (rounded .1))
 
-  on-entry : f ≡ 0 → WithinUnits 0 q (here - fallen)
+  on-entry : f ≡ 0 → WithinUnits 0 q left
   on-entry z =
       let e : k * parts ≡ q = omega arith in
-      let n : fallen ≡ 0 = rw z (omega arith) in
-      rw e at (entry-near k (here - fallen) (omega (arith, E .exact k (omega arith))))
+      let n : fallen here next f ≡ 0 = rw z (omega arith) in
+      rw e at (entry-near k left (omega (arith, E .exact k (omega arith))))
 
-  pub found : LookupPromise q (here - fallen)
+  pub found : LookupPromise q left
   found = record { value = value; near = near; onEntry = on-entry; beyond = λ o. absurd (omega arith) }
 
 -- ---- from 1 on

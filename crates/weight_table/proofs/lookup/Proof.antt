@@ -2,7 +2,7 @@
 -- promises. Assumes nothing.
 use native.Mathlib.Omega.{arith}
 use borrow.Author.Needs.{needs}
-use Rattle.weight_table.proofs.Found.{lower, small, flat, found, beyond}
+use Rattle.weight_table.proofs.Found.{lower, small, inside, found, beyond}
 use Rattle.weight_table.proofs.lookup.Statement.{statement}
 use Rattle.weight_table.proofs.lookup.Tie as tie
 
@@ -22,8 +22,7 @@ add-result c =
 
 sub-result-2 : tie.Need-sub-result-2
 sub-result-2 c =
-    let l = lower (c .entries .result) (c .entries .ensures) (c .before .before .args .q) (omega arith) in
-    omega (arith, l, flat (c .entries .result) (c .entries .ensures) (c .before .before .args .q) (omega arith))
+    omega (arith, inside (c .entries .result) (c .entries .ensures) (c .before .before .args .q) (omega arith))
 
 returns-2 : tie.Need-returns-2
 returns-2 c = found (c .entries .result) (c .entries .ensures) (c .before .before .args .q) (omega arith)
