@@ -8,7 +8,7 @@ use mathlib.Core.Bool.{Bool, true, false, not, _&&_, _||_, true≢false}
 use lib.IntN.{ℤ, pos, negsuc}
 use lib.Dec.{T, eqb, ltb, eqb→eq, ltb→lt, nltb→le}
 use lib.Pow.{pow-pos}
-use lib.Ieee.{Float, nan, inf, fin, binary64, up, down, neg, lt, eq, fits, isNan, nanBits, ofBits}
+use lib.Ieee.{Float, nan, inf, fin, binary64, up, down, neg, lt, eq, ne, fits, isNan, nanBits, ofBits}
 use lib.Ieee.Fits.{up-pos, and-l}
 use lib.Ieee.Bits.{nanBits-is, nanBits-above}
 use borrow.Author.Tests.{lt-ltb, le-ltb}
@@ -92,6 +92,18 @@ equal-number (fin s m e) h = tt
 pub unequal-nan : (x : Float) → eq x x ≡ false → x ≡ nan
 unfolding lib.Ieee.ne
 unequal-nan x h = differs-from-itself x (fails (eq x x) h)
+
+-- what differs from itself is not a number, and nothing else does
+pub differs-nan : (x : Float) → ne x x ≡ isNan x
+unfolding ne isNan
+differs-nan x = go (eq x x) refl
+  where
+    number : (t : Bool) → T (not t) → false ≡ t
+    number false h = refl
+
+    go : (t : Bool) → eq x x ≡ t → ne x x ≡ isNan x
+    go true h = rw h (number (isNan x) (equal-number x h))
+    go false h = rw h (ap isNan (sym (unequal-nan x h)))
 
 is-nan : (x : Float) → isNan x ≡ true → x ≡ nan
 unfolding isNan

@@ -48,6 +48,10 @@ abbrev pub +∞ : Float
 abbrev pub isZero : Float → Bool
 isZero x = Ieee.eq x +0
 
+-- not a number
+abbrev pub isNan : Float → Bool
+isNan x = Ieee.isNan x
+
 -- |x|: the sign is taken away, of a zero too
 unfoldable pub magnitude : Float → Float
 magnitude nan = nan

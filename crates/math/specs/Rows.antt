@@ -5,7 +5,7 @@ use mathlib.Core.Path.{_≡_}
 use mathlib.Core.Bool.{cond}
 use mathlib.Core.List.{List, [], _∷_, map}
 use lib.Ieee.{Float}
-use Rattle.math.specs.Real.{⊝, bits, bitsOf, +0, one, isZero, magnitude, larger}
+use Rattle.math.specs.Real.{⊝, bits, bitsOf, +0, one, +∞, isZero, isNan, magnitude, larger}
 use Rattle.math.specs.Vector.{_·_}
 
 pub record Row : Type 0 where
@@ -29,6 +29,10 @@ Yielded rs = map (λ (r : Row). r .yields) rs ≡ map (λ (r : Row). r .value) r
 abbrev pub zeroTest : Float → ℕ → Row
 zeroTest x v = number (cond (isZero x) 1 0) v
 
+-- whether a double is not a number: 1 for yes
+abbrev pub nanTest : Float → ℕ → Row
+nanTest x v = number (cond (isNan x) 1 0) v
+
 abbrev pub notANumber : Float
 notANumber = bits 0x7FF8000000000000
 
@@ -43,6 +47,10 @@ rows =
     ∷ zeroTest (⊝ +0) 1
     ∷ zeroTest (⊝ one) 0
     ∷ zeroTest notANumber 0
+    -- a not-a-number is none, an infinity is one
+    ∷ nanTest notANumber 1
+    ∷ nanTest (⊝ +∞) 0
+    ∷ nanTest (⊝ +0) 0
     -- a magnitude has no sign
     ∷ double (magnitude (⊝ +0)) 0
     ∷ double (magnitude (⊝ one)) 0x3FF0000000000000

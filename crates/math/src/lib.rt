@@ -66,6 +66,13 @@ pub fn is_zero(x: f64) -> bool
     x == 0.0
 }
 
+// Whether x is not a number.
+pub fn is_nan(x: f64) -> bool
+    ensures { λ r. ⌜ r ≡ Real.isNan x ⌝ }
+{
+    x != x
+}
+
 // |x|, +0 for -0.
 pub fn magnitude(x: f64) -> f64
     ensures { λ r. ⌜ r ≡ Real.magnitude x ⌝ }
