@@ -66,16 +66,15 @@ def kinds(answer):
         return [" ".join(words[:2])]
     numbers = [line.split(" ")[1:] for line in answer.splitlines()[2:]]
     pressures = [line.split(" ")[-1] for line in answer.splitlines() if line.startswith("fluid")]
-    found = ["accepted", words[1]]
+    found = ["accepted", words[1]] + (["passed over"] if words[4:] == ["1"] else [])
     found += ["not-a-number"] if any(NAN in row for row in numbers) else []
     found += ["infinity"] if any(x[1:] == "FF0000000000000" and x[0] in "7F" for row in numbers for x in row) else []
     found += ["pressure above 0"] if any(x < "7FF0000000000001" and x.strip("0") for x in pressures) else []
     return found + (["3 or more iterations"] if words[1] != "unswept" and int(words[2]) > 2 else [])
 
 
-ORDER = ["accepted", "settled", "ranout", "unswept", "3 or more iterations", "pressure above 0", "infinity",
-         "not-a-number", "skipped",
-         "too long"] + ["refused %d" % n for n in range(1, 11)]
+ORDER = ["accepted", "settled", "ranout", "unswept", "passed over", "3 or more iterations", "pressure above 0",
+         "infinity", "not-a-number", "skipped", "too long"] + ["refused %d" % n for n in range(1, 11)]
 
 
 def summary(counts):

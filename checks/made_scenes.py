@@ -6,7 +6,8 @@ parts/packing.py says what an unpacked scene looks like.
 """
 import math
 
-from parts.drawing import LIMITS, Draw, few, lattice_scene, mixed, scaled
+from parts.averages import passed_over
+from parts.drawing import LIMITS, Draw, drop, few, lattice_scene, mixed, pair, scaled
 from parts.packing import pack, unpack
 
 LONGEST = 32768
@@ -121,13 +122,6 @@ def settling(d):
 
 def aimed(d):
     """Scene B of the examples and others of two particles, with numbers at a rule's edge."""
-    def drop(near, speed=0.0, volume=1.0, warm=0.0):
-        return [[0.0, 0.0, 0.0, speed, 0.0, 0.0, 0.0, 0.0, 0.0, volume, warm], near, []]
-
-    def pair(speed, slope, weight=1.0, volume=1.0, warm=(0.0, 0.0)):
-        return [drop([[0, 1, weight, slope, 0.0, 0.0]], speed, volume, warm[0]),
-                drop([[0, 0, weight, -slope, 0.0, 0.0]], -speed, volume, warm[1])]
-
     rest, near_one, kind = 1.0, 1.0 - d.unit() / 16.0, d.below(6)
     if kind == 0:      # |aii| at 1e-9 and beside it
         small = d.sign(d.of((1e-9, math.nextafter(1e-9, 1.0), math.nextafter(1e-9, 0.0), 1e-8, 1e-9)))
@@ -166,6 +160,7 @@ CLASSES = {
     "crowd": (crowd, "more particles and longer lists"),
     "aimed": (aimed, "two particles, with numbers at the edge of a rule"),
     "zero density": (empty_density, "densities and predicted densities that are zero"),
+    "passed over": (passed_over, "averages that are not a number, beside infinite ones, plain ones and empty fluids"),
     "damaged": (None, "damaged copies of all others"),
 }
 

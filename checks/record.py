@@ -27,8 +27,9 @@ from parts.sides import Failed, ran
 from reference import Stop, batch, load, text, texts, unbatch
 from wrong_versions import LINES, NOTICED, ROOT, SCENES, answer, edited
 
-SEED, POOL, TIMES, SHARE, LARGEST_FILE = 7, 700, 4, 20, 150_000
-LONGEST_SCENE = collections.defaultdict(lambda: 520, {"lattice": 900, "crowd": 1300})
+SEED, POOL, TIMES, SHARE, LARGEST_FILE = 7, 700, 4, 18, 150_000
+LONGEST_SCENE = collections.defaultdict(
+    lambda: 520, {"lattice": 900, "crowd": 1300, "passed over": 720, "cases_step": 720})
 
 
 def asked(oracle, scenes):

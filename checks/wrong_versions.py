@@ -12,6 +12,7 @@ can't be. Ends with 1 if one of NOTICED is not noticed, or one of SAME is.
 import pathlib
 import sys
 
+from parts.wrong_endings import ENDINGS, PASSED_OVER
 from parts.wrong_reads import READS
 from parts.wrong_rules import DELTA, DOT, RULES, SUM, TERM
 from reference import Stop, load, text, texts, unbatch
@@ -19,7 +20,7 @@ from reference import Stop, load, text, texts, unbatch
 ROOT = pathlib.Path(__file__).resolve().parent.parent
 SCENES, LINES = ROOT / "crates/cases_replay/data/scenes", ROOT / "crates/cases_replay/stdout"
 
-NOTICED = [*RULES, *READS]
+NOTICED = [*RULES, *ENDINGS, *READS]
 
 SAME = [
     ("f's sign after the product", "div((-dt) * dt, p.rho * p.rho), div((dt", "div(-(dt * dt), p.rho * p.rho), div((dt",
@@ -50,6 +51,9 @@ SAME = [
      "(total(p.term for p in f.particles) * 0.5 if len(f.particles) == 2 else total(p.term for p in f.particles) / "
      "len(f.particles)) for f",
      "half of a double rounds as its product with 0.5"),
+    ("a sum that is not a number", PASSED_OVER,
+     "any(math.isnan(total(p.term for p in f.particles)) for f in s.fluids)",
+     "a sum divided by a count is not a number where the sum is not, and an empty fluid's sum is +0"),
 ]
 
 

@@ -1,5 +1,5 @@
-"""The case programs' files are what checks/ works out, to the byte; and the looks of cases_check at
-contact lists."""
+"""The case programs' files are what checks/ works out, to the byte; what the cases say of averages
+that are passed over; and the looks of cases_check at contact lists."""
 import contextlib
 import io
 import itertools
@@ -13,9 +13,13 @@ import cases_check    # noqa: E402
 import cases_clock    # noqa: E402
 import cases_kernel   # noqa: E402
 import cases_step     # noqa: E402
-from parts import list_scenes, packing    # noqa: E402
-from parts.step_rules import LONGEST      # noqa: E402
+import reference      # noqa: E402
+import wrong_versions    # noqa: E402
+from parts import list_scenes, packing, step_cases    # noqa: E402
+from parts.branches import BRANCHES, Branches         # noqa: E402
+from parts.step_rules import LONGEST, lines           # noqa: E402
 from parts.step_scenes import EMPTY, changed, rich, scene_a, to    # noqa: E402
+from parts.wrong_endings import ENDINGS    # noqa: E402
 
 
 class Files(unittest.TestCase):
@@ -24,6 +28,10 @@ class Files(unittest.TestCase):
             self.assertTrue(path.read_bytes() == content, path)
         with contextlib.redirect_stdout(io.StringIO()) as said:
             self.assertEqual(cases_step.self_test(), 0, said.getvalue())
+
+    def test_replay(self):
+        for data, text in zip(*wrong_versions.recorded()):
+            self.assertEqual(lines(data), text)
 
     def test_clock(self):
         for path, content in cases_clock.files().items():
@@ -39,6 +47,53 @@ class Files(unittest.TestCase):
         self.assertTrue((crate / "stdout").read_text() == cases_kernel.lines())
         listed = (crate / "src/cases.rt").read_text()
         self.assertEqual(squeezed(listed), squeezed(cases_kernel.source()))
+
+
+class PassedOver(unittest.TestCase):
+    """The fifth field: was an average passed over in the last iteration."""
+    LINES = [(data, lines(data)) for _, data, *_ in cases_step.cases()]
+
+    def test_fields(self):
+        found = set()
+        for words in [text.splitlines()[0].split(" ") for _, text in self.LINES]:
+            if words[0] == "step":
+                found.add((words[1], *words[4:]))
+                self.assertEqual(len(words), 3 if words[1] == "unswept" else 5, words)
+        self.assertEqual(found, {("unswept",), *itertools.product(("settled", "ranout"), "01")})
+
+    def test_named_cases(self):
+        named = [(comment, lines(data).splitlines()[0]) for comment, data, *_ in step_cases.passed_over()]
+        self.assertEqual(len(dict(named)), len(named))
+        for case in (
+                ("the first of two passed over, settled", "step settled 1 3FF0000000000000 1"),
+                ("and then is not-a-number, which becomes +0: passed over before, not at the end",
+                 "step settled 2 0000000000000000 0"),
+                ("settled since passed over", "step settled 2 0000000000000000 1"),
+                ("infinite terms of both signs make no number", "step settled 1 0000000000000000 1"),
+                ("an infinite average is not passed over", "step ranout 1 7FF0000000000000 0"),
+                ("an empty fluid is not passed over", "step settled 2 0000000000000000 0"),
+                ("not passed over without an iteration", "step unswept 0")):
+            self.assertIn(case, named)
+
+    def test_each_branch_is_met(self):
+        seen = Branches(reference.text())
+        met = set().union(*(seen.of(data) for _, data, *_ in step_cases.passed_over()))
+        self.assertLessEqual({branch for branch in BRANCHES if "passed over" in branch}, met)
+
+
+class Versions(unittest.TestCase):
+    """Wrong versions of the step. That the recorded answers notice them takes longer:
+    checks/wrong_versions.py."""
+
+    def test_each_edit_fits(self):
+        source = reference.text()
+        for name, old, new, *_ in [*wrong_versions.NOTICED, *wrong_versions.SAME]:
+            self.assertNotEqual(wrong_versions.edited(source, old, new), source, name)
+
+    def test_cases_notice_those_of_the_end(self):
+        for name, old, new in ENDINGS:
+            wrong = reference.load(wrong_versions.edited(reference.text(), old, new))["lines"]
+            self.assertTrue(any(wrong_versions.answer(wrong, data) != text for data, text in PassedOver.LINES), name)
 
 
 def why_lost(contact, models):

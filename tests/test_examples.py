@@ -20,7 +20,7 @@ NAMES = sorted(path.stem for path in EXAMPLES.glob("*.json"))
 class Examples(unittest.TestCase):
     def test_each_is_packed_and_answered(self):
         self.assertEqual(NAMES, ["chamber", "lost-neighbour", "scene-a", "scene-b", "torn-droplet",
-                                 "torn-droplet-faint"])
+                                 "torn-droplet-faint", "torn-droplet-overflow"])
         for name in NAMES:
             data, text = (EXAMPLES / (name + ".bin")).read_bytes(), (EXAMPLES / (name + ".txt")).read_text()
             packed, notes = scene.pack((EXAMPLES / (name + ".json")).read_text())
@@ -51,6 +51,12 @@ class Examples(unittest.TestCase):
         drop = read.all[2][1]
         self.assertTrue(drop.rho > 0.0 and math.isnan(drop.aii) and drop.pressure == 0.0
                         and all(map(math.isfinite, [*drop.position, *drop.velocity])))
+
+    def test_the_overflowing_droplet_hides_the_error_of_the_pair(self):
+        read = step_rules.walk((EXAMPLES / "torn-droplet-overflow.bin").read_bytes())
+        ending, terms = step_rules.step(read), [p.term for _, p in read.all]
+        self.assertEqual((ending, terms[:2]), ("settled 2 0000000000000000 1", [2.0, 2.0]))
+        self.assertTrue(math.isnan(terms[2]) and read.all[2][1].pressure == math.inf)
 
 
 if __name__ == "__main__":

@@ -9,7 +9,7 @@ from wrong_versions import edited
 NOTES = [
     ("    return (pressure, div((-found)", "    note_pressure(pressure)\n"),
     ("        if average > error:", "        note_average(average, error)\n"),
-    ("        settled = error <= s.limit and i >= s.least\n", "        note_end(error, s, i)\n"),
+    ("        settled = error <= s.limit and i >= s.least\n", "        note_end(error, passed_over, s, i)\n"),
     ("            if c.named.force is not None:\n", "            note_wall(c, p)\n"),
     ("    finish(s)\n", "    note_coefficients(s)\n"),
 ]
@@ -23,6 +23,9 @@ a predicted density below 0|a predicted density not a number
 aii above 1e-9|aii below -1e-9|aii small|aii infinite|aii not a number
 next pressure above 0|next pressure below 0|next pressure +0|next pressure infinite|next pressure not a number
 an average greater|an average not greater|an average below 0|an average not a number|an average infinite
+settled, passed over|ran out, passed over|passed over before, not at the end|passed over at the end, not before
+passed over beside a number|passed over in several fluids|passed over though each term is a number
+an infinite average, not passed over|an empty fluid, not passed over
 error above the limit|limit met before least|limit met at least|limit met after least|limit met exactly
 limit met in the last iteration|ran out with the limit met
 unswept|settled|ran out|255 iterations|a warm pressure below 0 stays|a pressure infinite at the end
@@ -48,14 +51,17 @@ class Branches:
                           note_wall=self.wall, note_coefficients=self.coefficients)
 
     def of(self, data):
-        self.met, self.pushed = set(), set()
+        self.met, self.pushed, self.iterations = set(), set(), []
         line = self.names["lines"](data).split("\n")[0]
         if line.startswith("refused"):
             self.refusal(data, *map(int, line.split(" ")[1:]))
         if line.startswith("step"):
             endings = {"unswept": "unswept", "settled": "settled", "ranout": "ran out"}
-            self.add(endings[line.split(" ")[1]], True)
+            ending = endings[line.split(" ")[1]]
+            self.add(ending, True)
             self.add("255 iterations", line.split(" ")[2] == "255")
+            if self.iterations:
+                self.passed_over(ending)
         return self.met
 
     def add(self, name, holds):
@@ -77,7 +83,8 @@ class Branches:
         self.add("an average not greater", 0.0 < x <= error)
         self.sized("an average", x, "below 0", "not a number", "infinite")
 
-    def end(self, error, s, i):
+    def end(self, error, passed_over, s, i):
+        self.iterations.append((passed_over, [[p.term for p in f.particles] for f in s.fluids]))
         met = error <= s.limit
         self.add("error above the limit", not met and i >= s.least)
         self.add("limit met before least", met and i < s.least)
@@ -86,6 +93,21 @@ class Branches:
         self.add("limit met exactly", met and error == s.limit and error > 0.0 and i >= s.least)
         self.add("limit met in the last iteration", met and i >= s.least and i + 1 == s.most)
         self.add("ran out with the limit met", met and i < s.least and i + 1 == s.most)
+
+    def passed_over(self, ending):
+        """Of the last iteration, and of those before: was an average passed over."""
+        *before, (yes, fluids) = self.iterations
+        sums = [(self.names["total"](terms), terms) for terms in fluids if terms]
+        not_numbers = [terms for found, terms in sums if math.isnan(found)]
+        self.add("%s, passed over" % ending, yes)
+        self.add("passed over before, not at the end", not yes and any(passed for passed, _ in before))
+        self.add("passed over at the end, not before", yes and before and not any(passed for passed, _ in before))
+        self.add("passed over beside a number", 0 < len(not_numbers) < len(sums))
+        self.add("passed over in several fluids", len(not_numbers) > 1)
+        self.add("passed over though each term is a number",
+                 any(not any(map(math.isnan, terms)) for terms in not_numbers))
+        self.add("an infinite average, not passed over", not yes and any(math.isinf(found) for found, _ in sums))
+        self.add("an empty fluid, not passed over", not yes and [] in fluids)
 
     def wall(self, c, p):
         kept = c.named.force is not None

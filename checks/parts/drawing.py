@@ -86,6 +86,17 @@ def few(d, value, counts=None, kept=None, wild_head=False, own=16, twice=0, bare
     return {"least": d.of((0, 0, 1, 1, 2, 3)), "most": d.of(most), "head": head, "fluids": fluids, "walls": beds}
 
 
+def drop(near, speed=0.0, volume=1.0, warm=0.0, walls=()):
+    """A particle that moves along an axis, or not at all."""
+    return [[0.0, 0.0, 0.0, speed, 0.0, 0.0, 0.0, 0.0, 0.0, volume, warm], near, list(walls)]
+
+
+def pair(speed, slope, weight=1.0, volume=1.0, warm=(0.0, 0.0), model=0):
+    """The particles of scene B of the examples, with these numbers."""
+    return [drop([[model, 1, weight, slope, 0.0, 0.0]], speed, volume, warm[0]),
+            drop([[model, 0, weight, -slope, 0.0, 0.0]], -speed, volume, warm[1])]
+
+
 def mixed(d, *pool):
     """Values of these kinds, as often as their numbers say."""
     return lambda: d.weighted(pool)()

@@ -4,14 +4,16 @@ import math
 
 from parts.step_rules import ZERO, bits, row
 from parts.step_scenes import (EMPTY, LEAST, X, Z, ZEROS, beside, changed, fluid, one, overflowing, pair, particle,
-                               pressing, rich, scene, scene_a, small_aii, stone, to, wall, weighed)
+                               pressing, rich, rising, scene, scene_a, small_aii, stone, to, torn, wall, weighed,
+                               weightless)
 
-TEXT_A = ("step settled 2 0000000000000000\nclock 3FE0000000000000 4000000000000000 3FE0000000000000\n"
+TEXT_A = ("step settled 2 0000000000000000 0\nclock 3FE0000000000000 4000000000000000 3FE0000000000000\n"
           "fluid 0 0 0000000000000000 0000000000000000 BFF0000000000000 "
           "0000000000000000 0000000000000000 C000000000000000 0000000000000000\n")
+PLAIN = [wall(stone(beside(0, 0, 1.0)))]      # the wall of `overflowing` and `rising`
 
 
-def swept(ending, n, error=0.0): return "step %s %d %s\n" % (ending, n, bits(error))
+def swept(ending, n, error=0.0, passed_over=0): return "step %s %d %s %d\n" % (ending, n, bits(error), passed_over)
 def still(pressure, number=0): return row("fluid 0 %d" % number, *ZERO, *ZERO, pressure)
 
 
@@ -90,15 +92,36 @@ def averages():
     yield ("0.5 goes before the division, which would overflow", scene([pair(speed=0.89e308, slope=0.4)], most=1),
            " %s\nfluid 0 1" % half)
     yield "eight fluids and eight walls", scene([fluid(1.0)] * 8, [wall(), wall(keeps=1)] * 4), swept("settled", 2)
-    plain = [wall(stone(beside(0, 0, 1.0)))]
-    yield ("an infinite pressure stays", scene([overflowing(0)], plain, most=1), swept("ranout", 1),
+
+
+def passed_over():
+    """Averages that are not a number. Each comment is there once: it names its scene."""
+    yield ("an infinite pressure stays", scene([overflowing(0)], PLAIN, most=1), swept("ranout", 1, passed_over=1),
            " 7FF0000000000000\nfluid 0 1")
-    yield ("and then is not-a-number, which becomes +0", scene([overflowing(0)], plain, most=2), swept("settled", 2),
-           " 0000000000000000\nfluid 0 1")
-    for fluids in [overflowing(0), pair(1)], [pair(0), overflowing(1)]:
-        yield "one average no number, the other 1", scene(fluids, plain, most=1), swept("ranout", 1, 1.0)
-    restless = [fluid(0.0, particle([to(1, 0, 1.0, X)])), one([to(1, 0)])]
-    yield "rest density 0, infinite error", scene(restless, most=2), swept("ranout", 2, math.inf)
+    yield ("and then is not-a-number, which becomes +0: passed over before, not at the end",
+           scene([overflowing(0)], PLAIN), swept("settled", 2), " 0000000000000000\nfluid 0 1")
+    for place, fluids in ("first", [overflowing(0), pair(1)]), ("second", [pair(0), overflowing(1)]):
+        yield "the %s of two passed over, ran out" % place, scene(fluids, PLAIN, most=1), swept("ranout", 1, 1.0, 1)
+        yield ("the %s of two passed over, settled" % place, scene(fluids, PLAIN, least=0, limit=1.0),
+               swept("settled", 1, 1.0, 1))
+    for comment, fluids in (("both passed over", [torn(0), torn(1)]), ("settled since passed over", [rising(0)]),
+                            ("one passed over, then the other", [overflowing(0), rising(1)]),
+                            ("passed over between empty fluids", [fluid(0.0), torn(1), fluid(0.0)])):
+        yield comment, scene(fluids, PLAIN), swept("settled", 2, passed_over=1)
+    for most, error, yes in (1, 2.0**998, 0), (3, 1.75 * 2.0**998, 0), (4, 0.0, 1):
+        yield ("passed over in each second iteration, %d of them" % most,
+               scene([rising(0)], PLAIN, most=most, limit=-1.0), swept("ranout", most, error, yes))
+    yield "passed over 255 times", scene([torn(0)], least=254, most=255), swept("settled", 255, passed_over=1)
+    yield "not passed over without an iteration", scene([overflowing(0)], PLAIN, most=0), "step unswept 0\n"
+    yield "an empty fluid is not passed over", scene([fluid(0.0), one([to(1, 0)]), fluid(0.0)]), swept("settled", 2)
+    for comment, speeds, *end in (
+            ("infinite terms of both signs make no number", [(2.0, 0.0)], "settled", 1, 0.0, 1),
+            ("the same, the negative first", [(0.0, 2.0)], "settled", 1, 0.0, 1),
+            ("0 / 0 makes none either", [(1.0,)], "settled", 1, 0.0, 1),
+            ("an infinite average is not passed over", [(2.0, 3.0)], "ranout", 1, math.inf, 0),
+            ("nor is one of -infinity", [(0.0, -0.5)], "settled", 1, 0.0, 0),
+            ("nor are infinite ones of both signs", [(2.0,), (0.0,)], "ranout", 1, math.inf, 0)):
+        yield comment, scene(weightless(*speeds), least=0, most=1), swept(*end)
 
 
 def contacts():
@@ -123,4 +146,4 @@ def contacts():
 
 
 def readings():
-    return [*endings(), *coefficients(), *averages(), *contacts()]
+    return [*endings(), *coefficients(), *averages(), *passed_over(), *contacts()]

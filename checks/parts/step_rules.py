@@ -3,8 +3,8 @@ reference.py for all that edit its text: checks a packed scene, runs the step an
 program's lines.
 
 Python's floats are IEEE 754 doubles and each operation stands in METHOD's order; `div` adds the
-division by zero that Python refuses. wrong_rules.py, wrong_reads.py and branches.py quote this
-text, and it needs no other file of checks/.
+division by zero that Python refuses. wrong_rules.py, wrong_endings.py, wrong_reads.py and
+branches.py quote this text, and it needs no other file of checks/.
 """
 import math
 import struct
@@ -163,7 +163,8 @@ def relaxed(rest, p):
 
 
 def iteration(s):
-    """Module 6, one iteration: moves all pressures on, and gives the error."""
+    """Module 6, one iteration: moves all pressures on, and gives the error and whether an average
+    was passed over for it."""
     for _, p in s.all:
         p.dij = scale(vector_total(scale(c.gradient, div((-c.mass) * c.named.pressure, c.named.rho * c.named.rho))
                                    for c in p.near), s.dt * s.dt)
@@ -171,11 +172,12 @@ def iteration(s):
         p.next, p.term = relaxed(fluid.rest, p)
     for _, p in s.all:
         p.pressure = p.next
+    averages = [total(p.term for p in f.particles) / len(f.particles) for f in s.fluids if f.particles]
     error = 0.0
-    for average in [total(p.term for p in f.particles) / len(f.particles) for f in s.fluids if f.particles]:
+    for average in averages:
         if average > error:      # false for one that is not a number
             error = average
-    return error
+    return error, any(math.isnan(average) for average in averages)
 
 
 def finish(s):
@@ -203,9 +205,9 @@ def step(s, answers=math.inf, work=math.inf):
     s.remaining = s.remaining - s.dt
     ending = "unswept 0"
     for i in range(s.most):
-        error = iteration(s)
+        error, passed_over = iteration(s)
         settled = error <= s.limit and i >= s.least
-        ending = "%s %d %s" % ("settled" if settled else "ranout", i + 1, bits(error))
+        ending = "%s %d %s %d" % ("settled" if settled else "ranout", i + 1, bits(error), passed_over)
         if settled:
             break
     finish(s)

@@ -72,6 +72,29 @@ def overflowing(model):
     return fluid(1.0, first, particle([to(model, 1)], warm=2e300))
 
 
+def rising(model):
+    """The same without a warm pressure: that of the second particle comes from its speed, and goes
+    from 2^998 towards 2^999. The first's is infinite in each second iteration, and in the one
+    behind it not a number, so +0."""
+    first = particle([to(model, 1, 1.0, X)], [to(0, 0, 0.0, (-2.0**40, 0.0, 0.0))])
+    return fluid(1.0, first, particle([to(model, 1)], [to(0, 0, 0.0, X)], velocity=(2.0**1000, 0.0, 0.0)))
+
+
+def torn(model):
+    """A fluid whose second particle names the first, but is not named by it, and so faintly that
+    its pressure becomes infinite. It stays so, since no axis of the gradient is 0."""
+    return fluid(1.0, particle([to(model, 0)]), particle([to(model, 0, 1e-154, (0.5, 0.5, 0.5))], warm=8.0))
+
+
+def weightless(*speeds):
+    """Fluids with rest density 0, each with a list of its particles' speeds, and behind them one
+    whose particle, with pressure -2, is named by all. In the first iteration a term is half of
+    speed - 1, divided by 0."""
+    thin = [fluid(0.0, *[particle([to(len(speeds), 0, 1.0, X)], velocity=(speed, 0.0, 0.0)) for speed in of_fluid])
+            for of_fluid in speeds]
+    return [*thin, one([to(len(speeds), 0)], warm=-4.0)]
+
+
 def pair(model=0, rest=1.0, volume=1.0, speed=1.0, slope=1.0, weight=1.0, warm=0.0):
     """Scene B's fluid."""
     right, left = to(model, 1, weight, (slope, 0.0, 0.0)), to(model, 0, weight, (-slope, 0.0, 0.0))

@@ -1,5 +1,5 @@
-"""Wrong versions of the step's rules, for wrong_versions.py: a name, a text that is in
-checks/parts/step_rules.py exactly once, and what stands there instead."""
+"""Wrong versions of the step's rules but for its error and its end, for wrong_versions.py: a name,
+a text that is in checks/parts/step_rules.py exactly once, and what stands there instead."""
 
 SUM = "def total(terms): return reduce(lambda x, y: x + y, terms, 0.0)"
 DOT = "return (a[0] * b[0] + a[1] * b[1]) + a[2] * b[2]"
@@ -184,34 +184,6 @@ RULES = [
      "p.next, p.term = relaxed(fluid.rest, p); p.pressure = p.next"),
     ("next pressures never taken over", "        p.pressure = p.next\n", "        p.next = p.pressure\n"),
     ("the first fluid's rest density", "relaxed(fluid.rest, p)", "relaxed(s.fluids[0].rest, p)"),
-    # the error
-    ("not-a-number wins the maximum", "if average > error:", "if not average <= error:"),
-    ("negative averages count", "    error = 0.0\n    for average in", "    error = -math.inf\n    for average in"),
-    ("averages are added up", "            error = average", "            error += average"),
-    ("the last average counts", "if average > error:", "if average > 0.0:"),
-    ("each term divided by the count", "total(p.term for p in f.particles) / len(f.particles)",
-     "total(p.term / len(f.particles) for p in f.particles)"),
-    ("terms of all fluids together",
-     "[total(p.term for p in f.particles) / len(f.particles) for f in s.fluids if f.particles]",
-     "[total(p.term for _, p in s.all) / max(1, len(s.all))]"),
-    ("the greatest term", "total(p.term for p in f.particles) / len(f.particles) for f",
-     "max(p.term for p in f.particles) for f"),
-    ("a sum for an average", "total(p.term for p in f.particles) / len(f.particles) for f",
-     "total(p.term for p in f.particles) for f"),
-    # the step
-    ("stop at i + 1", "i >= s.least", "i + 1 >= s.least"),
-    ("stop after least", "i >= s.least", "i > s.least"),
-    ("least is not looked at", "error <= s.limit and i >= s.least", "error <= s.limit"),
-    ("the limit must be gone below", "error <= s.limit and", "error < s.limit and"),
-    ("the limit is not looked at", "error <= s.limit and i >= s.least", "i >= s.least"),
-    ("a last iteration never settles", "settled = error <= s.limit and",
-     "settled = i + 1 < s.most and error <= s.limit and"),
-    ("iterations counted from 0", '"ranout", i + 1, bits(error))', '"ranout", i, bits(error))'),
-    ("the first error", '"ranout", i + 1, bits(error))',
-     '"ranout", i + 1, bits(s.__dict__.setdefault("first", error)))'),
-    ("inv_dt of a zero step infinite", "0.0 if s.dt == 0.0 else 1.0 / s.dt", "div(1.0, s.dt)"),
-    ("the remaining time stays", "s.remaining = s.remaining - s.dt", "s.remaining = s.remaining"),
-    ("dt less the remaining time", "s.remaining = s.remaining - s.dt", "s.remaining = s.dt - s.remaining"),
     # velocities, positions, forces
     ("dt after the sum of quotients", "(s.dt * c.mass) * both", "s.dt * (c.mass * both)"),
     ("the gradient scaled twice", "scale(c.gradient, (s.dt * c.mass) * both)",

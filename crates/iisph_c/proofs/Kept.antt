@@ -28,8 +28,8 @@ use Rattle.iisph_c.specs.Keep.{clockListAfter, keepsRoom, KeepsTo}
 ending-few : (e : Ending) → endingNumber e < tooShort
 unfolding endingNumber
 ending-few Unswept = omega arith
-ending-few (Settled x) = omega arith
-ending-few (RanOut x) = omega arith
+ending-few (Settled x t) = omega arith
+ending-few (RanOut x t) = omega arith
 
 -- a clock that is written where it stands
 as-it-was : (l : List Float) → clockNeeded ≤ length l → l ≡ sets l 0 (clockNumbers (clockOf l))

@@ -17,7 +17,7 @@ use Rattle.iisph_lent.specs.Lent.{lacksIndex, lentAnswer, usesIndex}
 use Rattle.iisph_lent.specs.declared.LentAnswer.{LentAnswer}
 use Rattle.iisph_lent.specs.declared.LentAnswer.the-variants.{Answered, ShortIndex}
 use Rattle.iisph_codes.specs.Numbers.{tooShort, shortIndex, refusedCode, countsRoom, refusedCounts}
-use Rattle.iisph_codes.specs.Report.{numbersNeeded, reportNumbers}
+use Rattle.iisph_codes.specs.Report.{numbersNeeded, reportNumbers, reportCounts}
 
 -- ---- by the step's answer
 
@@ -29,9 +29,8 @@ unfoldable pub numbersAfter : StepAnswer → List Float → List Float
 numbersAfter (Done r) old = sets old 0 (reportNumbers r)
 numbersAfter (Refused r) old = old
 
--- the iterations at 0
 unfoldable pub countsAfter : StepAnswer → List ℕ → List ℕ
-countsAfter (Done r) old = set old 0 (r .iterations)
+countsAfter (Done r) old = sets old 0 (reportCounts r)
 countsAfter (Refused r) old = refusedCounts r old
 
 -- ---- the call

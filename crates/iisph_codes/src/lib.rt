@@ -17,7 +17,7 @@ ghost use Rattle.iisph_rules.specs.Endings.{endingNumber};
 ghost use Rattle.timestep_manager.specs.Clock.{advanced};
 ghost use Rattle.iisph_codes.specs.ClockList.{clockNeeded, clockNumbers, clockOf};
 ghost use Rattle.iisph_codes.specs.Numbers.{shortIndex, countsNeeded, refusedCode, refusedCounts};
-ghost use Rattle.iisph_codes.specs.Report.{numbersNeeded, reportNumbers};
+ghost use Rattle.iisph_codes.specs.Report.{numbersNeeded, reportNumbers, reportCounts};
 ghost use Rattle.iisph_codes.specs.Kernel.{refusalCode, Gives};
 
 // What a call returns that a list is too short for.
@@ -69,13 +69,13 @@ pub fn write_lengths(lengths: Lengths, counts: &mut [u64]) -> u64
     0
 }
 
-// A report: its error and clock, and its iterations.
+// A report: its error and clock, its iterations, and whether an average was passed over in the last.
 pub fn write_report(report: Report, numbers: &mut [f64], counts: &mut [u64]) -> u64
     requires { ⌜ (numbersNeeded ≤ length (now numbers)) × (countsNeeded ≤ length (now counts)) ⌝ }
     ensures { λ n. ⌜
         (n ≡ endingNumber (report .ending))
         × (now (numbers .exit) ≡ sets (now (numbers .entry)) 0 (reportNumbers report))
-        × (now (counts .exit) ≡ set (now (counts .entry)) 0 (report .iterations))
+        × (now (counts .exit) ≡ sets (now (counts .entry)) 0 (reportCounts report))
         ⌝ }
 {
     let ending = report.ending;
@@ -86,6 +86,7 @@ pub fn write_report(report: Report, numbers: &mut [f64], counts: &mut [u64]) -> 
     numbers[2] = clock.inv_dt;
     numbers[3] = clock.remaining_time;
     counts[0] = report.iterations as u64;
+    counts[1] = told.passed_over;
     told.number
 }
 

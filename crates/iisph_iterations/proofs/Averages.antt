@@ -11,54 +11,56 @@ use lib.Ieee
 use lib.Ieee.{Float, binary64}
 use lib.ListN.{length, getD, take, drop}
 use lib.Seq.{drop-drop, drop-cons}
-use Rattle.math.specs.Real.{_⊘_, larger, +0, total}
+use Rattle.math.specs.Real.{_⊘_, +0, total}
 use Rattle.lists.specs.Lists.{fold, sum}
 use Rattle.lists.proofs.Lists.{part-table}
-use Rattle.iisph_rules.specs.Iteration.{average, averages, errorOf}
-use Rattle.iisph_iterations.specs.Errors.{termsFrom, termsIn, withAverage}
+use Rattle.iisph_rules.specs.Iteration.{average, averages, noError, withAverage, errorOf}
+use Rattle.iisph_rules.specs.declared.IterationError.{IterationError}
+use Rattle.iisph_iterations.specs.Errors.{termsFrom, termsIn, withFluid}
 
 -- ---- one fluid more
 
-average-next : (count : ℕ) (counts : List ℕ) (terms : List Float) (error : Float)
-    → fold larger error (averages (count ∷ counts) terms)
-    ≡ fold larger (withAverage error count (take count terms)) (averages counts (drop count terms))
-unfolding averages withAverage fold
+average-next : (count : ℕ) (counts : List ℕ) (terms : List Float) (error : IterationError)
+    → fold withAverage error (averages (count ∷ counts) terms)
+    ≡ fold withAverage (withFluid error count (take count terms)) (averages counts (drop count terms))
+unfolding averages withFluid fold
 average-next zero counts terms error = refl
 average-next (suc n) counts terms error = refl
 
 -- a fluid with no particles, and one with some
-pub with-none : (count : ℕ) (error : Float) (terms : List Float) → count ≡ 0 → error ≡ withAverage error count terms
-unfolding withAverage
+pub with-none : (count : ℕ) (error : IterationError) (terms : List Float) → count ≡ 0
+    → error ≡ withFluid error count terms
+unfolding withFluid
 with-none zero error terms e = refl
 with-none (suc n) error terms e = absurd (omega arith)
 
-pub with-some : (count : ℕ) (error : Float) (terms : List Float) → 0 < count → {sum size x : Float}
-    → sum ≡ total +0 terms → size ≡ Ieee.ofInt binary64 (pos count)
-    → x ≡ larger error (sum ⊘ size) → x ≡ withAverage error count terms
-unfolding withAverage average
+pub with-some : (count : ℕ) (error : IterationError) (terms : List Float) → 0 < count → {sum size : Float}
+    → {x : IterationError} → sum ≡ total +0 terms → size ≡ Ieee.ofInt binary64 (pos count)
+    → x ≡ withAverage error (sum ⊘ size) → x ≡ withFluid error count terms
+unfolding withFluid average
 with-some zero error terms h e q r = absurd (not-suc-le-zero h)
 with-some (suc n) error terms h e q r = rw (r, e, q)
 
 -- after m fluids, whose particles end at `from`; `error` is what they came to
-pub record Averaged (counts : List ℕ) (n : ℕ) (work : List Float) (m from : ℕ) (error : Float) : Type 0 where
+pub record Averaged (counts : List ℕ) (n : ℕ) (work : List Float) (m from : ℕ) (error : IterationError) : Type 0 where
   pub within : m ≤ length counts
   pub rows : from + sum (drop m counts) ≡ n
-  pub rest : fold larger error (averages (drop m counts) (drop from (termsIn n work)))
+  pub rest : fold withAverage error (averages (drop m counts) (drop from (termsIn n work)))
       ≡ errorOf (averages counts (termsIn n work))
 
 module _ (counts : List ℕ) (n : ℕ) (work : List Float) where
-  pub none-averaged : sum counts ≡ n → Averaged counts n work 0 0 +0
+  pub none-averaged : sum counts ≡ n → Averaged counts n work 0 0 noError
   unfolding errorOf
   none-averaged e = record { within = omega arith; rows = omega (arith, e); rest = refl }
 
-  module _ {m from : ℕ} {error : Float} (here : Averaged counts n work m from error) where
+  module _ {m from : ℕ} {error : IterationError} (here : Averaged counts n work m from error) where
     -- the particles of the next fluid
     pub next-rows : m < length counts → from + getD counts m 0 + sum (drop (suc m) counts) ≡ n
     unfolding sum
     next-rows h = omega (arith, rw (drop-cons counts m 0 h) at (here .rows))
 
-    pub next-averaged : m < length counts → {count : ℕ} {x : Float} → count ≡ getD counts m 0
-        → x ≡ withAverage error count (termsFrom work n from count)
+    pub next-averaged : m < length counts → {count : ℕ} {x : IterationError} → count ≡ getD counts m 0
+        → x ≡ withFluid error count (termsFrom work n from count)
         → Averaged counts n work (m + 1) (from + count) x
     next-averaged h {count} {x} e q =
         let rows = next-rows h in
@@ -70,7 +72,7 @@ module _ (counts : List ℕ) (n : ℕ) (work : List Float) where
           rest =
               rw (add-one m, q, ← part, ← drop-drop count from col)
               (sym (average-next count (drop (suc m) counts) (drop from col) error)
-              ∙ ap (λ (cs : List ℕ). fold larger error (averages cs (drop from col)))
+              ∙ ap (λ (cs : List ℕ). fold withAverage error (averages cs (drop from col)))
               (ap (λ (k : ℕ). k ∷ drop (suc m) counts) e ∙ sym (drop-cons counts m 0 h))
               ∙ here .rest);
         }

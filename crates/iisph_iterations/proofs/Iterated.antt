@@ -18,6 +18,7 @@ use Rattle.scene_format.specs.SceneOf.{sceneOf}
 use Rattle.iisph_rules.specs.Coefficients.{coefficients}
 use Rattle.iisph_rules.specs.Iteration.{pressure, dijPjl, dijPjls, NextPressure, nextPressure, nextPressures, averages}
 use Rattle.iisph_rules.specs.Iteration.{errorOf, iteration}
+use Rattle.iisph_rules.specs.declared.IterationError.{IterationError}
 use Rattle.iisph_pressures.specs.IterationRows.{pressuresIn, dijsIn, rowQuotient, quotientRow}
 use Rattle.iisph_pressures.specs.IterationRows.{IterationReady, DijReady}
 use Rattle.iisph_rows.specs.Rows.{volumesAt, stored, Rows, pressureSlot, quotientSlot}
@@ -225,7 +226,7 @@ length-times b (suc i) l = length-iterated b refl (iteratedTimes i (sceneOf b) l
 -- from the results of the four passes' calls and the error's
 pub iterates-made : (b : List ℕ) {n : ℕ} (size : n ≡ fluidSize (sceneOf b)) (l : List Float)
     → IterationReady (sceneOf b) (pressuresIn n l) n l
-    → {x y z w : List Float} {r : Float} → x ≡ After b n Quotients l → y ≡ After b n DijPjl x
+    → {x y z w : List Float} {r : IterationError} → x ≡ After b n Quotients l → y ≡ After b n DijPjl x
     → z ≡ After b n NextPressures y → w ≡ After b n Exchange z
     → r ≡ errorOf (averages (sceneOf b .fluidCounts) (termsIn n w))
     → Iterates (sceneOf b) l r w

@@ -15,9 +15,10 @@ use Rattle.scene_format.specs.Scene.{Scene, fluidSize}
 use Rattle.scene_format.specs.SceneOf.{sceneOf}
 use Rattle.iisph_rules.specs.Coefficients.{coefficients}
 use Rattle.iisph_rules.specs.Iteration.{iteration}
-use Rattle.iisph_rules.specs.Step.{firstPressures, isLast, Solution, iterateFrom, solution}
+use Rattle.iisph_rules.specs.Step.{firstPressures, isLast, settledWith, ranOutWith, Solution, iterateFrom, solution}
 use Rattle.iisph_rules.specs.declared.Ending.{Ending}
-use Rattle.iisph_rules.specs.declared.Ending.the-variants.{Unswept, Settled, RanOut}
+use Rattle.iisph_rules.specs.declared.Ending.the-variants.{Unswept}
+use Rattle.iisph_rules.specs.declared.IterationError.{IterationError}
 use Rattle.iisph_pressures.specs.IterationRows.{pressuresIn, IterationReady}
 use Rattle.iisph_iterations.specs.PressureSolve.{iteratedTimes, endingAfter, Iterates, Solves}
 use Rattle.iisph_iterations.specs.declared.«pressure_solve».Solved.{Solved}
@@ -27,33 +28,33 @@ use Rattle.iisph_iterations.proofs.Iterated.{again-ready, again-pressur
 
 -- iteration i of the rule, by whether it is the last
 turn-go : (s : Scene) (k i : ℕ) (ps : List Float) (e : Ending) (t : Bool)
-    → isLast (s .header) i (iteration s (coefficients s) ps .error) ≡ t
+    → isLast (s .header) i (iteration s (coefficients s) ps .error .value) ≡ t
     → iterateFrom (suc k) s (coefficients s) i ps e
     ≡ choose t
     (record {
       iterations = suc i;
-      ending = Settled (iteration s (coefficients s) ps .error);
+      ending = settledWith (iteration s (coefficients s) ps .error);
       pressures = iteration s
           (coefficients s) ps .pressures;
     })
     (iterateFrom k s (coefficients s) (suc i) (iteration s (coefficients s) ps .pressures)
-    (RanOut (iteration s (coefficients s) ps .error)))
+    (ranOutWith (iteration s (coefficients s) ps .error)))
 unfolding iterateFrom
 turn-go s k i ps e t q = rw q
 
 module _ (s : Scene) (k i : ℕ) (ps : List Float) (e : Ending) where
-  goes-on : isLast (s .header) i (iteration s (coefficients s) ps .error) ≡ false
+  goes-on : isLast (s .header) i (iteration s (coefficients s) ps .error .value) ≡ false
       → iterateFrom (suc k) s (coefficients s) i ps e
       ≡ iterateFrom k s (coefficients s) (suc i) (iteration s (coefficients s) ps .pressures)
-      (RanOut (iteration s (coefficients s) ps .error))
+      (ranOutWith (iteration s (coefficients s) ps .error))
   unfolding choose
   goes-on q = turn-go s k i ps e false q
 
-  stops : isLast (s .header) i (iteration s (coefficients s) ps .error) ≡ true
+  stops : isLast (s .header) i (iteration s (coefficients s) ps .error .value) ≡ true
       → iterateFrom (suc k) s (coefficients s) i ps e
       ≡ record {
         iterations = suc i;
-        ending = Settled (iteration s (coefficients s) ps .error);
+        ending = settledWith (iteration s (coefficients s) ps .error);
         pressures = iteration s
             (coefficients s) ps .pressures;
       }
@@ -63,7 +64,8 @@ module _ (s : Scene) (k i : ℕ) (ps : List Float) (e : Ending) where
 -- ---- the loop
 
 -- after i of at most `most` iterations, the last with this error; `l` is the list before the first, `work` the list now
-pub record Solving (b : List ℕ) (n : ℕ) (l : List Float) (i : ℕ) (error : Float) (work : List Float) : Type 0 where
+pub record Solving (b : List ℕ) (n : ℕ) (l : List Float) (i : ℕ) (error : IterationError) (work : List Float)
+    : Type 0 where
   pub within : i ≤ sceneOf b .header .maxPressureIter
   pub long : length work ≡ length l
   pub list : work ≡ iteratedTimes i (sceneOf b) l
@@ -74,7 +76,7 @@ pub record Solving (b : List ℕ) (n : ℕ) (l : List Float) (i : ℕ) (error : 
 
 module _ (b : List ℕ) {n : ℕ} (size : n ≡ fluidSize (sceneOf b)) (l : List Float) where
   pub none-solved : pressuresIn n l ≡ firstPressures (sceneOf b) → IterationReady (sceneOf b) (pressuresIn n l) n l
-      → (error : Float) → Solving b n l 0 error l
+      → (error : IterationError) → Solving b n l 0 error l
   unfolding solution iteratedTimes endingAfter
   none-solved e ready error =
       record {
@@ -86,11 +88,11 @@ module _ (b : List ℕ) {n : ℕ} (size : n ≡ fluidSize (sceneOf b)) (l : List
             b .header .maxPressureIter - 0 ≡ sceneOf b .header .maxPressureIter = omega arith in rw (e, z);
       }
 
-  module _ {i : ℕ} {error : Float} {work : List Float} (here : Solving b n l i error work)
+  module _ {i : ℕ} {error : IterationError} {work : List Float} (here : Solving b n l i error work)
       (below : i < sceneOf b .header .maxPressureIter)
-      {x : Float} {after : List Float} (made : Iterates (sceneOf b) work x after) where
+      {x : IterationError} {after : List Float} (made : Iterates (sceneOf b) work x after) where
     -- this iteration, from the pressures that stand there
-    abbrev it : Float
+    abbrev it : IterationError
     it = iteration (sceneOf b) (coefficients (sceneOf b)) (pressuresIn n work) .error
 
     error-is : x ≡ it
@@ -104,7 +106,7 @@ module _ (b : List ℕ) {n : ℕ} (size : n ≡ fluidSize (sceneOf b)) (l : List
     left : sceneOf b .header .maxPressureIter - i ≡ suc (sceneOf b .header .maxPressureIter - suc i)
     left = omega arith
 
-    pub next-solved : isLast (sceneOf b .header) i x ≡ false → Solving b n l (i + 1) x after
+    pub next-solved : isLast (sceneOf b .header) i (x .value) ≡ false → Solving b n l (i + 1) x after
     unfolding endingAfter
     next-solved q =
         let on =
@@ -120,13 +122,13 @@ module _ (b : List ℕ) {n : ℕ} (size : n ≡ fluidSize (sceneOf b)) (l : List
           rest = rw (p, error-is, add-one i) (sym on ∙ rw left at (here .rest));
         }
 
-    pub solved-early : isLast (sceneOf b .header) i x ≡ true → {r : Solved} → r .iterations ≡ i + 1
-        → r .ending ≡ Settled x → Solves (sceneOf b) l r after
+    pub solved-early : isLast (sceneOf b .header) i (x .value) ≡ true → {r : Solved} → r .iterations ≡ i + 1
+        → r .ending ≡ settledWith x → Solves (sceneOf b) l r after
     solved-early q {r} ie ee =
         let at-once : solution (sceneOf b)
         ≡ record {
           iterations = suc i;
-          ending = Settled it;
+          ending = settledWith it;
           pressures = iteration (sceneOf b) (coefficients (sceneOf b))
               (pressuresIn n work) .pressures;
         } =
@@ -136,13 +138,13 @@ module _ (b : List ℕ) {n : ℕ} (size : n ≡ fluidSize (sceneOf b)) (l : List
         (rw error-is at q)) in
         record {
           iterations = ie ∙ add-one i ∙ sym (ap (λ (w : Solution). w .iterations) at-once);
-          ending = ee ∙ ap Settled error-is ∙ sym (ap (λ (w : Solution). w .ending) at-once);
+          ending = ee ∙ ap settledWith error-is ∙ sym (ap (λ (w : Solution). w .ending) at-once);
           list = list-next
               ∙ ap (λ (j : ℕ). iteratedTimes j (sceneOf b) l)
               (add-one i ∙ sym (ap (λ (w : Solution). w .iterations) at-once));
         }
 
-  module _ {i : ℕ} {error : Float} {work : List Float} (here : Solving b n l i error work) where
+  module _ {i : ℕ} {error : IterationError} {work : List Float} (here : Solving b n l i error work) where
     pub solved : sceneOf b .header .maxPressureIter ≤ i → {r : Solved} → r .iterations ≡ i
         → r .ending ≡ endingAfter i error → Solves (sceneOf b) l r work
     unfolding iterateFrom
@@ -176,12 +178,12 @@ not-small s i x e = rw e
 
 -- ---- the ending
 
-pub unswept : (i : ℕ) (error : Float) → i ≡ 0 → Unswept ≡ endingAfter i error
+pub unswept : (i : ℕ) (error : IterationError) → i ≡ 0 → Unswept ≡ endingAfter i error
 unfolding endingAfter
 unswept zero error e = refl
 unswept (suc i) error e = absurd (omega arith)
 
-pub ran-out : (i : ℕ) (error : Float) → 0 < i → RanOut error ≡ endingAfter i error
+pub ran-out : (i : ℕ) (error : IterationError) → 0 < i → ranOutWith error ≡ endingAfter i error
 unfolding endingAfter
 ran-out zero error h = absurd (omega arith)
 ran-out (suc i) error h = refl

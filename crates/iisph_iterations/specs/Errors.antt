@@ -4,9 +4,9 @@ use Prim.Native.Nat.{ℕ, zero, suc, _+_, _*_}
 use mathlib.Core.List.{List}
 use lib.Ieee.{Float}
 use Rattle.iisph_rows.specs.Rows.{quotientSlot, elementAt, column}
-use Rattle.iisph_rules.specs.Iteration.{average}
+use Rattle.iisph_rules.specs.Iteration.{average, withAverage}
+use Rattle.iisph_rules.specs.declared.IterationError.{IterationError}
 use Rattle.lists.specs.Lists.{table}
-use Rattle.math.specs.Real.{larger}
 use Rattle.scene_format.specs.Format.{axes}
 
 -- of n particles the error terms of `count` from particle `from` on, and of all
@@ -16,7 +16,7 @@ termsFrom work n from count = table count (λ k. elementAt work (quotientSlot ax
 abbrev pub termsIn : ℕ → List Float → List Float
 termsIn n work = column n (quotientSlot axes) work
 
--- an empty fluid has no average
-unfoldable pub withAverage : Float → ℕ → List Float → Float
-withAverage error zero terms = error
-withAverage error (suc n) terms = larger error (average (suc n) terms)
+-- the error so far, with the average of a fluid of n particles; an empty fluid has none
+unfoldable pub withFluid : IterationError → ℕ → List Float → IterationError
+withFluid error zero terms = error
+withFluid error (suc n) terms = withAverage error (average (suc n) terms)

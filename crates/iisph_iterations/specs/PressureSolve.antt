@@ -9,9 +9,10 @@ use Rattle.iisph_passes.specs.declared.traverse.Pass.the-variants.{Quotients, D
 use Rattle.iisph_pressures.specs.IterationRows.{pressuresIn}
 use Rattle.iisph_rules.specs.Coefficients.{coefficients}
 use Rattle.iisph_rules.specs.Iteration.{iteration}
-use Rattle.iisph_rules.specs.Step.{solution}
+use Rattle.iisph_rules.specs.Step.{ranOutWith, solution}
 use Rattle.iisph_rules.specs.declared.Ending.{Ending}
-use Rattle.iisph_rules.specs.declared.Ending.the-variants.{Unswept, RanOut}
+use Rattle.iisph_rules.specs.declared.Ending.the-variants.{Unswept}
+use Rattle.iisph_rules.specs.declared.IterationError.{IterationError}
 use Rattle.scene_format.specs.Scene.{Scene, fluidSize}
 use Rattle.iisph_iterations.specs.declared.«pressure_solve».Solved.{Solved}
 
@@ -25,14 +26,14 @@ iteratedTimes zero s work = work
 iteratedTimes (suc k) s work = iterated s (iteratedTimes k s work)
 
 -- an iteration from the pressures that stand in the rows: its error and the list afterwards
-pub record Iterates (s : Scene) (work : List Float) (r : Float) (after : List Float) : Type 0 where
+pub record Iterates (s : Scene) (work : List Float) (r : IterationError) (after : List Float) : Type 0 where
   pub error : r ≡ iteration s (coefficients s) (pressuresIn (fluidSize s) work) .error
   pub list : after ≡ iterated s work
 
 -- the ending after i iterations of which none met the stopping test, the last with this error
-unfoldable pub endingAfter : ℕ → Float → Ending
+unfoldable pub endingAfter : ℕ → IterationError → Ending
 endingAfter zero error = Unswept
-endingAfter (suc i) error = RanOut error
+endingAfter (suc i) error = ranOutWith error
 
 -- `pressure_solve` on a list that is ready for it
 pub record Solves (s : Scene) (work : List Float) (r : Solved) (after : List Float) : Type 0 where

@@ -1,5 +1,8 @@
-// The error of an iteration, from the column of error terms: the greatest of the fluids' averages, or +0 (METHOD 6.4).
+// The error of an iteration, from the column of error terms: the greatest of the fluids' averages, or +0, and whether
+// an average was not a number and was passed over (METHOD 6.4).
 use iisph_rows::rows::ERROR_TERM;
+use iisph_rules::IterationError;
+use math::is_nan;
 use math::larger;
 use scene_format::Kind;
 use scene_format::read::particles;
@@ -9,12 +12,12 @@ ghost use mathlib.Core.Path.{_≡_};
 ghost use Prim.Native.Nat.{_+_, _≤_};
 ghost use lib.ListN.{length};
 ghost use Rattle.iisph_rows.specs.Rows.{volumesAt};
-ghost use Rattle.iisph_rules.specs.Iteration.{averages, errorOf};
+ghost use Rattle.iisph_rules.specs.Iteration.{averages, withAverage, errorOf};
 ghost use Rattle.math.specs.Real.{total, +0};
 ghost use Rattle.scene_check.specs.Check.{Passed};
 ghost use Rattle.scene_format.specs.Scene.{fluidSize};
 ghost use Rattle.scene_format.specs.SceneOf.{sceneOf};
-ghost use Rattle.iisph_iterations.specs.Errors.{termsFrom, termsIn, withAverage};
+ghost use Rattle.iisph_iterations.specs.Errors.{termsFrom, termsIn, withFluid};
 
 // The sum of the error terms of `count` of n particles, from particle `from` on.
 fn term_sum(work: &[f64], n: usize, from: usize, count: usize) -> f64
@@ -30,21 +33,36 @@ fn term_sum(work: &[f64], n: usize, from: usize, count: usize) -> f64
     sum
 }
 
-// The error so far, or the average of a fluid whose first particle is `from`, if that is greater. An empty fluid has
-// none.
-fn with_average(work: &[f64], n: usize, from: usize, count: usize, error: f64) -> f64
+// The error so far, with one average more.
+fn with_average(error: IterationError, average: f64) -> IterationError
+    ensures { λ r. ⌜ r ≡ withAverage error average ⌝ }
+{
+    IterationError {
+        value: larger(error.value, average),
+        passed_over: error.passed_over || is_nan(average),
+    }
+}
+
+// The error so far, with the average of a fluid whose first particle is `from`. An empty fluid has none.
+fn with_fluid(
+    work: &[f64],
+    n: usize,
+    from: usize,
+    count: usize,
+    error: IterationError,
+) -> IterationError
     requires { ⌜ (from + count ≤ n) × (volumesAt n ≤ length (now work)) ⌝ }
-    ensures { λ r. ⌜ r ≡ withAverage error count (termsFrom (now (work .entry)) n from count) ⌝ }
+    ensures { λ r. ⌜ r ≡ withFluid error count (termsFrom (now (work .entry)) n from count) ⌝ }
 {
     if count == 0 {
         return error;
     }
     let sum = term_sum(work, n, from, count);
-    larger(error, sum / nearest_u64_to_f64(count as u64))
+    with_average(error, sum / nearest_u64_to_f64(count as u64))
 }
 
 // The error over the fluids of a scene, which have n particles in all.
-pub fn max_error(scene: &[u8], layout: Layout, work: &[f64], n: usize) -> f64
+pub fn max_error(scene: &[u8], layout: Layout, work: &[f64], n: usize) -> IterationError
     requires { ⌜ Passed (now scene) layout ⌝ }
     requires { ⌜ (n ≡ fluidSize (sceneOf (now scene))) × (volumesAt n ≤ length (now work)) ⌝ }
     ensures { λ r. ⌜
@@ -54,12 +72,15 @@ pub fn max_error(scene: &[u8], layout: Layout, work: &[f64], n: usize) -> f64
     let fluids = layout.fluids;
     let heads = fluids.heads;
     let number = fluids.number;
-    let mut error = 0.0;
+    let mut error = IterationError {
+        value: 0.0,
+        passed_over: false,
+    };
     let mut from = 0usize;
     let mut m = 0usize;
     while m < number {
         let count = particles(scene, Kind::Fluid, heads[m]);
-        error = with_average(work, n, from, count, error);
+        error = with_fluid(work, n, from, count, error);
         from += count;
         m += 1;
     }

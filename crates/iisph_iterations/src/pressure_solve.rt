@@ -5,6 +5,7 @@ use iisph_header::Stopping;
 use iisph_passes::traverse::Pass;
 use iisph_passes::traverse::traverse;
 use iisph_rules::Ending;
+use iisph_rules::IterationError;
 use math::Vec3;
 use scene_layout::Layout;
 ghost use mathlib.Core.Path.{_≡_};
@@ -31,7 +32,7 @@ fn iterate(
     dt: f64,
     gravity: Vec3,
     work: &mut [f64],
-) -> f64
+) -> IterationError
     requires { ⌜ DrivenPass (now scene) (now index) n dt gravity ⌝ }
     requires { ⌜ Passed (now scene) layout × Iterating (sceneOf (now scene)) n (now work) ⌝ }
     ensures { λ r. ⌜ Iterates (sceneOf (now (scene .entry))) (now (work .entry)) r (now (work .exit)) ⌝ }
@@ -44,13 +45,13 @@ fn iterate(
 }
 
 // The ending after i iterations, the last with this error, if none met the stopping test.
-fn ending_after(i: usize, error: f64) -> Ending
+fn ending_after(i: usize, error: IterationError) -> Ending
     ensures { λ r. ⌜ r ≡ endingAfter i error ⌝ }
 {
     if i == 0 {
         Ending::Unswept
     } else {
-        Ending::RanOut(error)
+        Ending::RanOut(error.value, error.passed_over)
     }
 }
 
@@ -73,17 +74,20 @@ pub fn pressure_solve(
     let least = stopping.min_pressure_iter;
     let most = stopping.max_pressure_iter;
     let limit = stopping.max_density_error;
-    let mut error = 0.0;
+    let mut error = IterationError {
+        value: 0.0,
+        passed_over: false,
+    };
     let mut i = 0usize;
     while i < most {
         let number = i;
         error = iterate(scene, layout, index, n, dt, gravity, work);
         i += 1;
-        if error <= limit {
+        if error.value <= limit {
             if number >= least {
                 return Solved {
                     iterations: i as u32,
-                    ending: Ending::Settled(error),
+                    ending: Ending::Settled(error.value, error.passed_over),
                 };
             }
         }

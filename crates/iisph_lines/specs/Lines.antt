@@ -14,17 +14,30 @@ use Rattle.scene_format.specs.declared.Kind.{Kind}
 use Rattle.scene_format.specs.declared.Kind.the-variants.{Fluid, Boundary}
 use Rattle.scene_format.specs.declared.Refusal.{Refusal}
 use Rattle.scene_lengths.specs.Lengths.{fluidAnswerWidth, widthIn, answersBefore}
-use Rattle.iisph_rules.specs.Endings.{endingNumber, endingValues}
+use Rattle.iisph_rules.specs.Endings.{endingNumber, endingValues, yesOrNo}
 use Rattle.iisph_rules.specs.declared.Ending.{Ending}
+use Rattle.iisph_rules.specs.declared.IterationError.{IterationError}
 use Rattle.iisph_rules.specs.declared.Report.{Report}
 use Rattle.iisph_words.specs.Digits.{decimalOf, mostDigits}
-use Rattle.iisph_words.specs.Words.{newline, pairText, doubleText, doublesText, kindWord, endingWord}
+use Rattle.iisph_words.specs.Words.{space, newline, pairText, doubleTextWidth, doubleText, doublesText, kindWord}
+use Rattle.iisph_words.specs.Words.{endingWord}
 
 -- ---- the first two lines of a step that is done
 
+-- the error of an iteration, then a number: 1 where an average was passed over, else 0
+unfoldable pub errorWords : Float → ℕ → List ℕ
+errorWords error passedOver = doubleText error ++ space ++ decimalOf passedOver
+
+abbrev pub errorText : IterationError → List ℕ
+errorText e = errorWords (e .value) (yesOrNo (e .«passed_over»))
+
+-- the double, a space and a digit
+abbrev pub errorTextWidth : ℕ
+errorTextWidth = doubleTextWidth + 1 + 1
+
 -- how the iterations ended, how many there were, and the values of the ending
 unfoldable pub endingText : ℕ → Ending → List ℕ
-endingText n e = endingWord (endingNumber e) ++ decimalOf n ++ flatten (map doubleText (endingValues e))
+endingText n e = endingWord (endingNumber e) ++ decimalOf n ++ flatten (map errorText (endingValues e))
 
 -- "step ", then the ending
 unfoldable pub stepLine : Report → List ℕ

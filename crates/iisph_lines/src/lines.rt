@@ -27,8 +27,18 @@ ghost use Rattle.scene_format.specs.Within.{ModelsWithin};
 ghost use Rattle.scene_layout.specs.Layout.{layoutModels};
 ghost use Rattle.scene_lengths.specs.Lengths.{answersIn};
 ghost use Rattle.iisph_words.specs.Words.{doublesText};
-ghost use Rattle.iisph_lines.specs.Lines.{endingText, stepLine, clockLine, refusedRoom, refusedLine};
-ghost use Rattle.iisph_lines.specs.Lines.{particleLine, modelText, modelsText};
+ghost use Rattle.iisph_lines.specs.Lines.{errorWords, endingText, stepLine, clockLine, refusedRoom};
+ghost use Rattle.iisph_lines.specs.Lines.{refusedLine, particleLine, modelText, modelsText};
+
+// An iteration's error, and 1 where an average was passed over, else 0.
+fn put_error(out: &mut [u8], at: usize, error: f64, passed_over: u64) -> usize
+    requires { ⌜ at + length (errorWords error «passed_over») ≤ length (now out) ⌝ }
+    ensures { λ r. ⌜ Writes (now (out .entry)) at (errorWords error «passed_over») (now (out .exit)) r ⌝ }
+{
+    let gap = put_double(out, at, error);
+    let last = put_byte(out, gap, b' ');
+    put_decimal(out, last, passed_over)
+}
 
 // How the iterations ended, how many there were, and the last one's error. A step without any has no error.
 fn put_ending(out: &mut [u8], at: usize, iterations: u64, ending: Ending) -> usize
@@ -41,7 +51,7 @@ fn put_ending(out: &mut [u8], at: usize, iterations: u64, ending: Ending) -> usi
     if told.number == 0 {
         return next;
     }
-    put_double(out, next, told.error)
+    put_error(out, next, told.error, told.passed_over)
 }
 
 // The first line of a step that is done.

@@ -1,20 +1,22 @@
 -- The loop of iterations: it ends with the pressures after as many iterations as it says, and where the least number
--- plus one is at least the most, it carries out the most; an iteration's error is a number. By induction on the
--- iterations left, for both answers of the stopping test. Assumes nothing.
+-- plus one is at least the most, it carries out the most; its ending has the error of the last, or is unswept. By
+-- induction on the iterations left, for both answers of the stopping test. Assumes nothing.
 use Prim.Native.Nat.{ℕ, zero, suc, _+_, _≤_}
 use mathlib.Core.Path.{_≡_, refl, sym, ap, subst, _∙_}
-use mathlib.Core.Bool.{Bool, true, false, cond, _&&_}
-use mathlib.Core.List.{List, [], _∷_}
+use mathlib.Core.Bool.{Bool, true, false, _&&_}
+use mathlib.Core.List.{List}
 use native.Mathlib.Omega.{arith}
 use lib.Dec.{T, leb, leb→le}
 use lib.Ieee
-use lib.Ieee.{Float, nan, inf, fin}
-use Rattle.math.specs.Real.{larger}
-use Rattle.lists.specs.Lists.{fold, choose}
+use lib.Ieee.{Float}
+use Rattle.lists.specs.Lists.{choose}
 use Rattle.scene_format.specs.Scene.{Scene, Header}
 use Rattle.iisph_rules.specs.Coefficients.{coefficients}
-use Rattle.iisph_rules.specs.Iteration.{errorOf, iteration}
-use Rattle.iisph_rules.specs.Step.{firstPressures, isLast, Solution, iterateFrom, solution}
+use Rattle.iisph_rules.specs.Iteration.{Iteration, iteration}
+use Rattle.iisph_rules.specs.Step.{firstPressures, isLast, settledWith, ranOutWith, Solution, iterateFrom}
+use Rattle.iisph_rules.specs.Step.{solution}
+use Rattle.iisph_rules.specs.Endings.{endingValues, endingError}
+use Rattle.iisph_rules.specs.PassedOver.{iterationAt}
 use Rattle.iisph_rules.specs.declared.Ending.{Ending}
 
 -- what holds of both sides, each where the test picks it, holds of the side picked
@@ -72,30 +74,56 @@ pub solution-max : (s : Scene) → s .header .maxPressureIter ≤ s .header .min
 unfolding solution
 solution-max s h = iterateFrom-max s (s .header .maxPressureIter) 0 _ _ (omega arith) h
 
--- ---- the error
+-- ---- the ending
 
-nothing-below-nan : (x : Float) → Ieee.lt x nan ≡ false
-unfolding Ieee.lt
-nothing-below-nan nan = refl
-nothing-below-nan (inf s) = refl
-nothing-below-nan (fin s m e) = refl
+-- iteration number k begins with the pressures after k iterations
+iteration-at : (s : Scene) (k : ℕ) → iterationAt s k ≡ iteration s (coefficients s) (pressuresAfter s k)
+unfolding iterationAt
+iteration-at s zero = refl
+iteration-at s (suc k) = ap (λ (it : Iteration). iteration s (coefficients s) (it .pressures)) (iteration-at s k)
 
-either-number : (t : Bool) (x y : Float) → Ieee.isNan x ≡ false → Ieee.isNan y ≡ false → Ieee.isNan (cond t y x) ≡ false
-either-number true x y h k = k
-either-number false x y h k = h
+-- after i iterations: the ending has the error of the last of them
+abbrev OfLast : Scene → ℕ → Ending → Type 0
+OfLast s i e = (k : ℕ) → i ≡ suc k → endingError e ≡ iterationAt s k .error
 
-larger-number : (x y : Float) → Ieee.isNan x ≡ false → Ieee.isNan (larger x y) ≡ false
-unfolding Ieee.isNan
-larger-number x nan h = rw (nothing-below-nan x) h
-larger-number x (inf s) h = either-number (Ieee.lt x (inf s)) x (inf s) h refl
-larger-number x (fin s m e) h = either-number (Ieee.lt x (fin s m e)) x (fin s m e) h refl
+of-last : (s : Scene) (i : ℕ) (e : Ending)
+    → endingError e ≡ iteration s (coefficients s) (pressuresAfter s i) .error → OfLast s (suc i) e
+of-last s i e h k q =
+    let same : k ≡ i = omega (arith, q) in
+    h ∙ sym (ap (λ (j : ℕ). iterationAt s j .error) same ∙ ap (λ (it : Iteration). it .error) (iteration-at s i))
 
-fold-number : (x : Float) (ys : List Float) → Ieee.isNan x ≡ false → Ieee.isNan (fold larger x ys) ≡ false
-unfolding fold
-fold-number x [] h = h
-fold-number x (y ∷ ys) h = fold-number (larger x y) ys (larger-number x y h)
+iterateFrom-ending : (s : Scene) (n i : ℕ) (e : Ending) → OfLast s i e
+    → let w = iterateFrom n s (coefficients s) i (pressuresAfter s i) e in OfLast s (w .iterations) (w .ending)
+unfolding iterateFrom endingError endingValues
+iterateFrom-ending s zero i e h = h
+iterateFrom-ending s (suc n) i e h =
+    let error = iteration s (coefficients s) (pressuresAfter s i) .error in
+    chosen (λ (w : Solution). OfLast s (w .iterations) (w .ending)) _ _ _ (λ _. of-last s i (settledWith error) refl)
+    (λ _. iterateFrom-ending s n (suc i) (ranOutWith error) (of-last s i (ranOutWith error) refl))
 
--- an average that is not a number leaves the error a number
-pub error-number : (averages : List Float) → Ieee.isNan (errorOf averages) ≡ false
-unfolding errorOf Ieee.isNan Ieee.ofBits
-error-number averages = fold-number _ averages refl
+pub solution-ending : (s : Scene) → OfLast s (solution s .iterations) (solution s .ending)
+unfolding solution
+solution-ending s =
+    iterateFrom-ending s (s .header .maxPressureIter) 0 Ending.Unswept (λ k q. absurd (omega (arith, q)))
+
+iterateFrom-least : (s : Scene) (n i : ℕ) (ps : List Float) (e : Ending)
+    → i ≤ iterateFrom n s (coefficients s) i ps e .iterations
+unfolding iterateFrom
+iterateFrom-least s zero i ps e = omega arith
+iterateFrom-least s (suc n) i ps e =
+    let it = iteration s (coefficients s) ps in
+    chosen (λ (w : Solution). i ≤ w .iterations) _ _ _ (λ _. omega arith)
+    (λ _. omega (arith, iterateFrom-least s n (suc i) (it .pressures) (ranOutWith (it .error))))
+
+none-unswept : (s : Scene) (n : ℕ) (ps : List Float)
+    → let w = iterateFrom n s (coefficients s) 0 ps Ending.Unswept in w .iterations ≡ 0 → w .ending ≡ Ending.Unswept
+unfolding iterateFrom
+none-unswept s zero ps = λ q. refl
+none-unswept s (suc n) ps =
+    let it = iteration s (coefficients s) ps in
+    chosen (λ (w : Solution). w .iterations ≡ 0 → w .ending ≡ Ending.Unswept) _ _ _ (λ _ q. absurd (omega (arith, q)))
+    (λ _ q. absurd (omega (arith, q, iterateFrom-least s n 1 (it .pressures) (ranOutWith (it .error)))))
+
+pub solution-unswept : (s : Scene) → solution s .iterations ≡ 0 → solution s .ending ≡ Ending.Unswept
+unfolding solution
+solution-unswept s = none-unswept s (s .header .maxPressureIter) (firstPressures s)

@@ -5,4 +5,5 @@ pub mod Reports
 pub mod Links
 pub mod Sizes
 pub mod Locality
+pub mod PassedOver
 pub mod Cases

@@ -2,18 +2,19 @@
 -- `ps` of all fluid particles, by their numbers. Its error is made in three steps: a term for each particle, an average
 -- for each fluid, a fold over the averages. Definitions only.
 use Prim.Native.Nat.{ℕ, zero, suc}
-use mathlib.Core.Bool.{cond}
+use mathlib.Core.Bool.{false, cond, _||_}
 use mathlib.Core.List.{List, [], _∷_, map}
 use lib.ListN.{getD, take, drop}
 use lib.IntN.{pos}
 use lib.Ieee
 use lib.Ieee.{Float, binary64}
-use Rattle.math.specs.Real.{_⊕_, _⊖_, _⊗_, _⊘_, ⊝, bits, +0, half, magnitude, larger, total}
+use Rattle.math.specs.Real.{_⊕_, _⊖_, _⊗_, _⊘_, ⊝, bits, +0, half, isNan, magnitude, larger, total}
 use Rattle.math.specs.Vector.{Vector, _⊞_, _⊟_, _⊡_, _·_}
 use Rattle.lists.specs.Lists.{fold, table, choose}
 use Rattle.scene_format.specs.Scene.{Scene, FluidParticle, fluidSize, particle}
 use Rattle.iisph_rules.specs.Coefficients.{dt, zeroVector, overContacts, fluidMass, boundaryMass, djiFactor}
 use Rattle.iisph_rules.specs.Coefficients.{Coefficients, coefficient}
+use Rattle.iisph_rules.specs.declared.IterationError.{IterationError}
 
 abbrev pub pressure : List Float → ℕ → Float
 pressure ps i = getD ps i +0
@@ -109,22 +110,28 @@ averages [] terms = []
 averages (zero ∷ counts) terms = averages counts terms
 averages (suc n ∷ counts) terms = average (suc n) (take (suc n) terms) ∷ averages counts (drop (suc n) terms)
 
--- the greatest of +0 and the averages that are numbers
-unfoldable pub errorOf : List Float → Float
-errorOf xs = fold larger +0 xs
+-- before the first average
+abbrev pub noError : IterationError
+noError = record { value = +0; «passed_over» = false }
+
+-- with one average more: the average, if it is greater; one that is not a number is passed over, and that is noted
+unfoldable pub withAverage : IterationError → Float → IterationError
+withAverage e x = record { value = larger (e .value) x; «passed_over» = e .«passed_over» || isNan x }
+
+-- the greatest of +0 and the averages that are numbers, and whether any is none
+unfoldable pub errorOf : List Float → IterationError
+errorOf xs = fold withAverage noError xs
 
 -- ---- the iteration
 
 pub record Iteration : Type 0 where
   pub pressures : List Float
-  pub error : Float
+  pub averages : List Float
+  pub error : IterationError
 
 -- a turn of the loop in `pressure_solve`: the next pressures take the old ones' place afterwards
 unfoldable pub iteration : Scene → List Coefficients → List Float → Iteration
 iteration s co ps =
     let next = nextPressures s co ps in
-    record {
-      pressures = map (λ n. n .pressure) next;
-      error = errorOf
-          (averages (s .fluidCounts) (map (λ n. n .term) next));
-    }
+    let found = averages (s .fluidCounts) (map (λ n. n .term) next) in
+    record { pressures = map (λ n. n .pressure) next; averages = found; error = errorOf found }

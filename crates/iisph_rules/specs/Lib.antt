@@ -3,4 +3,5 @@ pub mod Iteration
 pub mod Step
 pub mod Answer
 pub mod Endings
+pub mod PassedOver
 pub mod Locality

@@ -16,6 +16,7 @@ use Rattle.scene_format.specs.Scene.{Scene, Header, Contact, fluidSize, boundar
 use Rattle.iisph_rules.specs.Coefficients.{clockOf, dt, overContacts, boundaryVolume, particleMass, fluidMass}
 use Rattle.iisph_rules.specs.Coefficients.{boundaryMass, velocityChange, Coefficients, coefficients, coefficient}
 use Rattle.iisph_rules.specs.Iteration.{pressure, iteration}
+use Rattle.iisph_rules.specs.declared.IterationError.{IterationError}
 use Rattle.iisph_rules.specs.declared.Ending.{Ending}
 use Rattle.iisph_rules.specs.declared.Ending.the-variants.{Unswept, Settled, RanOut}
 use Rattle.iisph_rules.specs.declared.Report.{Report}
@@ -32,6 +33,13 @@ firstPressures s = table (fluidSize s) (λ i. particle s i .warmPressure ⊗ hal
 abbrev pub isLast : Header → ℕ → Float → Bool
 isLast h i error = Ieee.le error (h .maxDensityError) && leb (h .minPressureIter) i
 
+-- an ending carries the last iteration's error, and whether an average was passed over in it
+abbrev pub settledWith : IterationError → Ending
+settledWith e = Settled (e .value) (e .«passed_over»)
+
+abbrev pub ranOutWith : IterationError → Ending
+ranOutWith e = RanOut (e .value) (e .«passed_over»)
+
 -- how many iterations were carried out, how they ended, and the pressures after the last
 pub record Solution : Type 0 where
   pub iterations : ℕ
@@ -43,9 +51,9 @@ unfoldable pub iterateFrom : ℕ → Scene → List Coefficients → ℕ → Lis
 iterateFrom zero s co i ps ending = record { iterations = i; ending = ending; pressures = ps }
 iterateFrom (suc n) s co i ps ending =
     let it = iteration s co ps in
-    let more = iterateFrom n s co (suc i) (it .pressures) (RanOut (it .error)) in
-    choose (isLast (s .header) i (it .error))
-    (record { iterations = suc i; ending = Settled (it .error); pressures = it .pressures }) more
+    let more = iterateFrom n s co (suc i) (it .pressures) (ranOutWith (it .error)) in
+    choose (isLast (s .header) i (it .error .value))
+    (record { iterations = suc i; ending = settledWith (it .error); pressures = it .pressures }) more
 
 -- `pressure_solve`
 unfoldable pub solution : Scene → Solution

@@ -4,14 +4,20 @@ pub mod endings;
 use scene_format::Refusal;
 use timestep_manager::Clock;
 
-// How the iterations ended (METHOD 7.1), with the last iteration's error.
+// The error of an iteration (METHOD 6.4), and whether an average was not a number and was passed over.
+pub struct IterationError {
+    pub value: f64,
+    pub passed_over: bool,
+}
+
+// How the iterations ended (METHOD 7.1), with the two parts of the last iteration's error.
 pub enum Ending {
     // There were none.
     Unswept,
     // The last one met the stopping test.
-    Settled(f64),
+    Settled(f64, bool),
     // The last one did not.
-    RanOut(f64),
+    RanOut(f64, bool),
 }
 
 // What a step that is not refused reports beside the answer list.

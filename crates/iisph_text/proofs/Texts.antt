@@ -27,13 +27,11 @@ use Rattle.scene_lengths.proofs.Needed.{work-needed}
 use Rattle.iisph_rules.specs.Answer.{afterCheck, stepAnswer}
 use Rattle.iisph_rules.specs.Coefficients.{Coefficients}
 use Rattle.iisph_rules.specs.Iteration.{iteration}
-use Rattle.iisph_rules.specs.Step.{Solution, iterateFrom, solution, reportOf}
+use Rattle.iisph_rules.specs.Step.{ranOutWith, Solution, iterateFrom, solution, reportOf}
 use Rattle.iisph_rules.specs.declared.Ending.{Ending}
-use Rattle.iisph_rules.specs.declared.Ending.the-variants.{RanOut}
 use Rattle.iisph_rules.specs.declared.Report.{Report}
 use Rattle.iisph_rules.proofs.Iterations.{chosen}
-use Rattle.iisph_words.specs.Words.{doubleTextWidth}
-use Rattle.iisph_lines.specs.Lines.{stepLine, clockLine, modelsText}
+use Rattle.iisph_lines.specs.Lines.{errorTextWidth, stepLine, clockLine, modelsText}
 use Rattle.iisph_words.proofs.Numbers.{few-digits}
 use Rattle.iisph_lines.proofs.Widths.{ending-most, length-step, length-clock}
 use Rattle.iisph_text.specs.Text.{answerText, tooLong, mostBytes, textWith, textOf}
@@ -49,7 +47,7 @@ iterations-most zero s co i ps e = omega arith
 iterations-most (suc n) s co i ps e =
     let it = iteration s co ps in
     chosen (λ (w : Solution). w .iterations ≤ i + suc n) _ _ _ (λ _. omega arith)
-    (λ _. omega (arith, iterations-most n s co (suc i) (it .pressures) (RanOut (it .error))))
+    (λ _. omega (arith, iterations-most n s co (suc i) (it .pressures) (ranOutWith (it .error))))
 
 -- a report's iterations are at most the most of the scene, which is a byte
 report-iterations : (b : List ℕ) → Bytes b → reportOf (sceneOf b) .iterations < 256
@@ -62,7 +60,7 @@ report-iterations b y =
 
 -- the longest word, three digits, and the error
 abbrev endingRoom : ℕ
-endingRoom = 8 + 3 + doubleTextWidth
+endingRoom = 8 + 3 + errorTextWidth
 
 -- ---- the whole text
 

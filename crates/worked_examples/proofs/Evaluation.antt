@@ -47,7 +47,7 @@ walking = 0
 -- a step's values, behind the check
 unfoldable pub stepping : ℕ
 unfolding zipWith
-    Ieee.add Ieee.sub Ieee.mul Ieee.div Ieee.neg Ieee.lt Ieee.le Ieee.eq Ieee.ofInt Ieee.ofBits Ieee.toBits
+    Ieee.add Ieee.sub Ieee.mul Ieee.div Ieee.neg Ieee.lt Ieee.le Ieee.eq Ieee.isNan Ieee.ofInt Ieee.ofBits Ieee.toBits
     Lists.fold Lists.sum Lists.table Lists.startsFrom
     Real.magnitude
     Vector._⊞_ Vector._⊟_ Vector._⊡_ Vector.added Vector._·_
@@ -66,7 +66,7 @@ unfolding zipWith
     Coefficients.coefficientsOf Coefficients.coefficients
     Iteration.dijSum Iteration.dijPjl Iteration.dijPjls Iteration.pressureSum Iteration.relaxed Iteration.errorTerm
     Iteration.clamped Iteration.nextPressure Iteration.nextPressures Iteration.average Iteration.averages
-    Iteration.errorOf Iteration.iteration
+    Iteration.withAverage Iteration.errorOf Iteration.iteration
     Step.firstPressures Step.iterateFrom Step.solution Step.pressureShare Step.boundaryAcceleration
     Step.finalVelocityChange Step.newVelocity Step.newPosition Step.fluidAnswer Step.forceFrom Step.boundaryForce
     Step.boundaryAnswer Step.answersFrom Step.answersOf Step.reportOf Step.firstZero Step.unlessZero Step.sceneAnswer

@@ -11,6 +11,7 @@ use Rattle.weight_table.proofs.Computed.{rows-hold as board-holds}
 use Rattle.worked_examples.specs.Row.{Row, value, Holds, All, none, _and_}
 use Rattle.worked_examples.specs.Rows.{rows}
 use Rattle.worked_examples.specs.Starred.{volumesScene, starred, refusedSteps}
+use Rattle.worked_examples.specs.PassedOver
 use Rattle.worked_examples.specs.Further
 use Rattle.worked_examples.proofs.Evaluation.{evaluation}
 use Rattle.worked_examples.proofs.LookRows.{looks-hold}
@@ -39,11 +40,17 @@ refused-steps-hold : All Holds refusedSteps
 unfolding evaluation refusedSteps
 refused-steps-hold = refl and refl and refl and refl and refl and refl and none
 
+passed-over-hold : All Holds PassedOver.passedOver
+unfolding evaluation
+    PassedOver.overflowing PassedOver.nanLast PassedOver.nanSettled PassedOver.nanFirst PassedOver.nanAlone
+    PassedOver.light PassedOver.bothInfinities PassedOver.oneInfinity PassedOver.passedOver
+passed-over-hold = refl and refl and refl and refl and refl and refl and refl and none
+
 further-hold : All Holds Further.further
 unfolding evaluation
-    Further.overflowing Further.nanLast Further.nanFirst Further.aiiScene Further.orderScene Further.negativeZeros
-    Further.bothZero Further.mixedFluids Further.mixedBoundaries Further.mixed Further.mixedAnswers Further.further
-further-hold = refl and refl and refl and refl and refl and refl and refl and refl and refl and refl and none
+    Further.aiiScene Further.orderScene Further.negativeZeros Further.bothZero Further.mixedFluids
+    Further.mixedBoundaries Further.mixed Further.mixedAnswers Further.further
+further-hold = refl and refl and refl and refl and refl and refl and refl and refl and none
 
 pub both : {A : Type 0} {P : A → Type 0} {xs ys : List A} → All P xs → All P ys → All P (xs ++ ys)
 both none q = q
@@ -56,4 +63,5 @@ rows-hold =
     both (each math.rows doubles-hold)
     (both (each kernel.rows kernel-holds)
     (both (each board.rows board-holds)
-    (both refusals-hold (both looks-hold (both starred-hold (both refused-steps-hold further-hold))))))
+    (both refusals-hold
+    (both looks-hold (both starred-hold (both refused-steps-hold (both passed-over-hold further-hold)))))))

@@ -1,6 +1,7 @@
 -- Examples of our own, which tell METHOD's rules from wrong ones that every starred case lets pass. A program apart
 -- from these definitions, which follows METHOD with the machine's doubles, worked out their answers. Definitions only.
 use Prim.Native.Nat.{ℕ}
+use mathlib.Core.Bool.{false}
 use mathlib.Core.List.{List, [], _∷_}
 use Rattle.math.specs.Real.{bits}
 use Rattle.scene_format.specs.Packed.{packed, fluid, boundary, fluidRecord, boundaryRecord, contact, boundaryContact}
@@ -10,24 +11,7 @@ use Rattle.iisph_rules.specs.declared.Ending.the-variants.{Unswept, Settled, Ra
 use Rattle.worked_examples.specs.Row.{Row, done, refused, before, report, coefficients}
 use Rattle.worked_examples.specs.Scenes.{headerB, pair, bits·-0, bits·1, bits·-1, bits·2, bits·-2, bits·3, bits·4}
 use Rattle.worked_examples.specs.Scenes.{bits·-4, bits·½, bits·-½, bits·¼, bits·0·1, bits·-0·1, bits·0·3}
-use Rattle.worked_examples.specs.Scenes.{bits·-0·3, bits·0·7, bits·-0·7, bits·1·3, bits·∞, bits·-∞, bits·nan}
-
--- ---- an average that is not a number (METHOD 6.4)
-
--- fluid number m of one particle whose warm pressure, 1e308, makes the pressure sum overflow: its next pressure is
--- infinite and its error term not a number
-unfoldable pub overflowing : ℕ → List ℕ
-overflowing m =
-    fluid bits·1
-    (fluidRecord zero3 zero3 zero3 bits·1 0x7FE1CCF385EBC8A0 (contact m 0 bits·1 (v3 bits·2 0 0) ∷ []) [] ∷ [])
-
--- behind an average of 1, after one iteration
-unfoldable pub nanLast : List ℕ
-nanLast = packed (headerB 0 1) (pair 0 bits·1 bits·1 bits·1 bits·-1 0 ∷ overflowing 1 ∷ []) []
-
--- before it, after two: the second makes the infinite pressure not a number, and so +0
-unfoldable pub nanFirst : List ℕ
-nanFirst = packed (headerB 0 2) (overflowing 0 ∷ pair 1 bits·1 bits·1 bits·1 bits·-1 0 ∷ []) []
+use Rattle.worked_examples.specs.Scenes.{bits·-0·3, bits·0·7, bits·-0·7, bits·1·3}
 
 -- ---- |aii| at 1e-9 (METHOD 6.3)
 
@@ -164,37 +148,28 @@ mixedAnswers =
 
 unfoldable pub further : List Row
 further =
-    -- one average is no number: the other counts
-    done nanLast (report (RanOut (bits bits·1)) 1 bits·1 bits·1 bits·-1)
-    (0 ∷ 0 ∷ 0 ∷ 0 ∷ 0 ∷ 0 ∷ bits·½ ∷ 0 ∷ 0 ∷ 0 ∷ 0 ∷ 0 ∷ 0 ∷ bits·½
-    ∷ bits·-∞ ∷ bits·nan ∷ bits·nan ∷ bits·-∞ ∷ bits·nan ∷ bits·nan ∷ bits·∞
-    ∷ [])
-    42
-    ∷ done nanFirst (report (RanOut (bits bits·2)) 2 bits·1 bits·1 bits·-1)
-    (0 ∷ 0 ∷ 0 ∷ 0 ∷ 0 ∷ 0 ∷ 0 ∷ 0 ∷ 0 ∷ 0 ∷ 0 ∷ 0 ∷ 0 ∷ bits·½ ∷ 0 ∷ 0 ∷ 0 ∷ 0 ∷ 0 ∷ 0 ∷ bits·½ ∷ [])
-    42
     -- |aii| at 1e-9 gives no pressure, and the next double does
-    ∷ done (aiiScene 0x3A512E0BE826D695) (report (Settled (bits 0)) 1 bits·1 bits·1 bits·-1)
+    done (aiiScene 0x3A512E0BE826D695) (report (Settled (bits 0) false) 1 bits·1 bits·1 bits·-1)
     (0 ∷ 0 ∷ 0 ∷ 0 ∷ 0 ∷ 0 ∷ 0 ∷ 0 ∷ 0 ∷ 0 ∷ 0 ∷ 0 ∷ 0 ∷ 0 ∷ [])
     28
-    ∷ done (aiiScene 0x3A512E0BE826D696) (report (Settled (bits 0)) 1 bits·1 bits·1 bits·-1)
+    ∷ done (aiiScene 0x3A512E0BE826D696) (report (Settled (bits 0) false) 1 bits·1 bits·1 bits·-1)
     (0xBA612E0BE826D696 ∷ 0 ∷ 0 ∷ 0xBA612E0BE826D696 ∷ 0 ∷ 0 ∷ bits·2 ∷ 0 ∷ 0 ∷ 0 ∷ 0 ∷ 0 ∷ 0 ∷ 0 ∷ [])
     28
     -- fluid contacts come before boundary contacts
     ∷ before orderScene (coefficients bits·1 bits·1 (0 ∷ 0 ∷ 0 ∷ []) 0 ∷ [])
     -- a negative average counts as 0
     ∷ done (packed (headerB 0 2) (pair 0 bits·-1 bits·-1 bits·1 bits·-1 0 ∷ []) [])
-    (report (Settled (bits 0)) 1 bits·1 bits·1 bits·-1)
+    (report (Settled (bits 0) false) 1 bits·1 bits·1 bits·-1)
     (bits·-1 ∷ 0 ∷ 0 ∷ bits·-1 ∷ 0 ∷ 0 ∷ bits·1 ∷ bits·1 ∷ 0 ∷ 0 ∷ bits·1 ∷ 0 ∷ 0 ∷ bits·1 ∷ [])
     28
     -- a next pressure of exactly 0 is not above 0, so its term is +0 (and not 1)
     ∷ done (packed (headerB 0 2) (pair 0 bits·1 bits·1 0 0 bits·1 ∷ []) [])
-    (report (Settled (bits 0)) 1 bits·1 bits·1 bits·-1)
+    (report (Settled (bits 0) false) 1 bits·1 bits·1 bits·-1)
     (0 ∷ 0 ∷ 0 ∷ 0 ∷ 0 ∷ 0 ∷ 0 ∷ 0 ∷ 0 ∷ 0 ∷ 0 ∷ 0 ∷ 0 ∷ 0 ∷ [])
     28
     ∷ done negativeZeros (report Unswept 0 bits·½ bits·2 bits·½) (0 ∷ 0 ∷ 0 ∷ 0 ∷ 0 ∷ 0 ∷ 0 ∷ []) 14
     ∷ refused bothZero 14 28 (ZeroDensity 186) 28
-    ∷ done mixed (report (RanOut (bits 0x3FCE5BB91E0C03DA)) 2 bits·0·1 0x4024000000000000 0x3FECCCCCCCCCCCCD)
+    ∷ done mixed (report (RanOut (bits 0x3FCE5BB91E0C03DA) false) 2 bits·0·1 0x4024000000000000 0x3FECCCCCCCCCCCCD)
     mixedAnswers
     45
     ∷ []

@@ -4,5 +4,6 @@ pub mod RefusalRows
 pub mod LookRows
 pub mod Starred
 pub mod Further
+pub mod PassedOver
 pub mod Rows
 pub mod TwoScenes

@@ -2,7 +2,7 @@
 -- by 7FF8000000000000. Definitions only.
 use Prim.Native.Nat.{ℕ, zero, suc, _+_, _-_}
 use mathlib.Core.Path.{_≡_}
-use mathlib.Core.Bool.{false}
+use mathlib.Core.Bool.{Bool, false}
 use mathlib.Core.List.{List, [], _∷_, _++_, map}
 use lib.ListN.{length, replicate}
 use lib.Ieee.{Float}
@@ -67,9 +67,14 @@ unfoldable pub coefficients : ℕ → ℕ → List ℕ → ℕ → Coefficients
 coefficients density predicted dii aii =
     record { density = bits density; predictedDensity = bits predicted; dii = map bits dii; aii = bits aii }
 
--- the pressures after an iteration, and its error
-unfoldable pub after : List ℕ → ℕ → Iteration
-after ps error = record { pressures = map bits ps; error = bits error }
+-- the pressures after an iteration, its averages and its error, and whether an average was passed over
+unfoldable pub after : List ℕ → List ℕ → ℕ → Bool → Iteration
+after ps averages error passedOver =
+    record {
+      pressures = map bits ps;
+      averages = map bits averages;
+      error = record { value = bits error; «passed_over» = passedOver };
+    }
 
 -- ---- what they say
 

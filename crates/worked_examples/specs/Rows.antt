@@ -8,10 +8,11 @@ use Rattle.worked_examples.specs.Row.{Row, value}
 use Rattle.worked_examples.specs.RefusalRows.{refusalRows}
 use Rattle.worked_examples.specs.LookRows.{lookRows}
 use Rattle.worked_examples.specs.Starred.{starred, refusedSteps}
+use Rattle.worked_examples.specs.PassedOver.{passedOver}
 use Rattle.worked_examples.specs.Further.{further}
 
 unfoldable pub rows : List Row
 rows =
     map value math.rows
     ++ (map value kernel.rows
-    ++ (map value board.rows ++ (refusalRows ++ (lookRows ++ (starred ++ (refusedSteps ++ further))))))
+    ++ (map value board.rows ++ (refusalRows ++ (lookRows ++ (starred ++ (refusedSteps ++ (passedOver ++ further)))))))

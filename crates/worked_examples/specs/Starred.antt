@@ -1,6 +1,7 @@
 -- The customer's starred cases of whole steps and of boundary volumes, and FORMAT 2.1's examples of refusals 7 to 10.
 -- Definitions only.
 use Prim.Native.Nat.{ℕ}
+use mathlib.Core.Bool.{false}
 use mathlib.Core.List.{List, [], _∷_}
 use Rattle.math.specs.Real.{bits}
 use Rattle.scene_format.specs.Packed.{packed, boundary, boundaryRecord, boundaryContact, zero3}
@@ -44,11 +45,11 @@ answersB = 0 ∷ 0 ∷ 0 ∷ 0 ∷ 0 ∷ 0 ∷ bits·½ ∷ 0 ∷ 0 ∷ 0 ∷ 0 
 unfoldable pub starred : List Row
 starred =
     -- the empty scene: settles, is not swept, runs out
-    done (emptyScene 0x32) (report (Settled (bits 0)) 2 0 0 0) [] 0
+    done (emptyScene 0x32) (report (Settled (bits 0) false) 2 0 0 0) [] 0
     ∷ done (emptyScene 0) (report Unswept 0 0 0 0) [] 0
-    ∷ done (emptyScene 1) (report (RanOut (bits 0)) 1 0 0 0) [] 0
+    ∷ done (emptyScene 1) (report (RanOut (bits 0) false) 1 0 0 0) [] 0
     -- scene A: position (0, 0, -1), velocity (0, 0, -2), pressure 0
-    ∷ done (sceneA (contactA 0 ∷ [])) (report (Settled (bits 0)) 2 bits·½ bits·2 bits·½)
+    ∷ done (sceneA (contactA 0 ∷ [])) (report (Settled (bits 0) false) 2 bits·½ bits·2 bits·½)
     (0 ∷ 0 ∷ bits·-1 ∷ 0 ∷ 0 ∷ bits·-2 ∷ 0 ∷ [])
     14
     -- scene B: densities 1, predicted 3, aii -2; pressures 0.5 after its first two iterations, with errors 1 and 2; and
@@ -58,10 +59,12 @@ starred =
     ∷ coefficients bits·1 bits·3 (bits·1 ∷ 0 ∷ 0 ∷ []) bits·-2
     ∷ [])
     ∷ iterated (sceneB bits·1 bits·-1 50)
-    (after (bits·½ ∷ bits·½ ∷ []) bits·1 ∷ after (bits·½ ∷ bits·½ ∷ []) bits·2 ∷ [])
-    ∷ done (sceneB bits·1 bits·-1 1) (report (RanOut (bits bits·1)) 1 bits·1 bits·1 bits·-1) answersB 28
-    ∷ done (sceneB bits·1 bits·-1 2) (report (RanOut (bits bits·2)) 2 bits·1 bits·1 bits·-1) answersB 28
-    ∷ done (sceneB bits·1 bits·-1 50) (report (RanOut (bits bits·2)) 50 bits·1 bits·1 bits·-1) answersB 28
+    (after (bits·½ ∷ bits·½ ∷ []) (bits·1 ∷ []) bits·1 false
+    ∷ after (bits·½ ∷ bits·½ ∷ []) (bits·2 ∷ []) bits·2 false
+    ∷ [])
+    ∷ done (sceneB bits·1 bits·-1 1) (report (RanOut (bits bits·1) false) 1 bits·1 bits·1 bits·-1) answersB 28
+    ∷ done (sceneB bits·1 bits·-1 2) (report (RanOut (bits bits·2) false) 2 bits·1 bits·1 bits·-1) answersB 28
+    ∷ done (sceneB bits·1 bits·-1 50) (report (RanOut (bits bits·2) false) 50 bits·1 bits·1 bits·-1) answersB 28
     -- a boundary that keeps forces: the fluid particle's answers, then volume 1/4 and force (0, 0, 1/2)
     ∷ done (boundaryScene 0) (report Unswept 0 bits·½ bits·2 bits·-½)
     (0 ∷ 0 ∷ bits·-⅛ ∷ 0 ∷ 0 ∷ bits·-¼ ∷ bits·2 ∷ bits·¼ ∷ 0 ∷ 0 ∷ bits·½ ∷ [])

@@ -12,6 +12,7 @@ use Rattle.scene_format.specs.Format
 use Rattle.scene_lengths.specs.Lengths
 use Rattle.worked_examples.specs.Row as worked
 use Rattle.worked_examples.specs.Row.{All, none, _and_}
+use Rattle.worked_examples.specs.PassedOver
 use Rattle.worked_examples.proofs.Evaluation.{evaluation}
 use Rattle.worked_examples.proofs.Rows as worked-proofs
 use Rattle.worked_examples.proofs.Rows.{both}
@@ -22,14 +23,14 @@ unfolding evaluation
     Format.keepsOf Lengths.answerWidth Lengths.answersBefore
     Digits.digits Digits.hexOf Digits.placesWithin Digits.decimalOf
     Words.pairText Words.doubleText Words.doublesText Words.kindWord Words.endingWord
-    Endings.endingNumber Endings.endingValues Lines.endingText Lines.stepLine Lines.clockLine
+    Endings.endingNumber Endings.endingValues Lines.errorWords Lines.endingText Lines.stepLine Lines.clockLine
     Lines.particleLine Lines.modelText Lines.modelsUpto Lines.particlesText Lines.refusedLine
     Text.answerText Text.tooLong Text.textWith Text.textOf
 writing = 0
 
 texts-hold : All Holds texts
-unfolding writing ascii texts
-texts-hold = refl and refl and refl and refl and refl and refl and refl and none
+unfolding writing ascii PassedOver.light PassedOver.bothInfinities texts
+texts-hold = refl and refl and refl and refl and refl and refl and refl and refl and none
 
 examples-hold : {rs : List worked.Row} → All worked.Holds rs → All Holds (map example rs)
 examples-hold none = none

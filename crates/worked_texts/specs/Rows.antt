@@ -9,6 +9,7 @@ use lib.ListN.{replicate}
 use Rattle.worked_examples.specs.Row as worked
 use Rattle.worked_examples.specs.Rows as worked-rows
 use Rattle.worked_examples.specs.Scenes.{emptyScene, sceneA, contactA, boundaryScene}
+use Rattle.worked_examples.specs.PassedOver.{bothInfinities}
 use Rattle.iisph_text.specs.Text.{textOf}
 
 pub data Row : Type 0 where
@@ -29,7 +30,7 @@ unfoldable pub texts : List Row
 texts =
     -- scene A
     writes (sceneA (contactA 0 ∷ []))
-    ("step settled 2 0000000000000000\n"
+    ("step settled 2 0000000000000000 0\n"
     ∷ "clock 3FE0000000000000 4000000000000000 3FE0000000000000\n"
     ∷ "fluid 0 0 0000000000000000 0000000000000000 BFF0000000000000"
     ∷ " 0000000000000000 0000000000000000 C000000000000000 0000000000000000\n"
@@ -44,7 +45,18 @@ texts =
     ∷ [])
     -- the empty scene, with one iteration at most
     ∷ writes (emptyScene 1)
-    ("step ranout 1 0000000000000000\n" ∷ "clock 0000000000000000 0000000000000000 0000000000000000\n" ∷ [])
+    ("step ranout 1 0000000000000000 0\n" ∷ "clock 0000000000000000 0000000000000000 0000000000000000\n" ∷ [])
+    -- a scene in which an average is passed over
+    ∷ writes bothInfinities
+    ("step settled 1 0000000000000000 1\n"
+    ∷ "clock 3FF0000000000000 3FF0000000000000 BFF0000000000000\n"
+    ∷ "fluid 0 0 0000000000000000 0000000000000000 0000000000000000"
+    ∷ " 0000000000000000 0000000000000000 0000000000000000 0000000000000000\n"
+    ∷ "fluid 0 1 BFF4000000000000 0000000000000000 0000000000000000"
+    ∷ " BFF4000000000000 0000000000000000 0000000000000000 4034000000000000\n"
+    ∷ "fluid 0 2 BFE0000000000000 0000000000000000 0000000000000000"
+    ∷ " BFE0000000000000 0000000000000000 0000000000000000 4010000000000000\n"
+    ∷ [])
     -- no bytes; scene A without contacts; as many bytes as are read, and one more
     ∷ writes [] ("refused 1 0\n" ∷ [])
     ∷ writes (sceneA []) ("refused 9 62\n" ∷ [])

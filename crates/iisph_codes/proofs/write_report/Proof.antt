@@ -1,9 +1,8 @@
--- `iisph_codes::write_report` meets its contract: five stores, in the order of the definition. Assumes nothing.
-use mathlib.Core.Path.{refl}
+-- `iisph_codes::write_report` meets its contract: six stores, in the order of the definition. Assumes nothing.
 use native.Mathlib.Omega.{arith}
 use lib.ListN.{length-set}
 use Rattle.iisph_rules.specs.Endings.{toldOf}
-use Rattle.iisph_codes.specs.Report.{reportNumbers}
+use Rattle.iisph_codes.specs.Report.{reportNumbers, reportCounts}
 use borrow.Author.Needs.{needs}
 use Rattle.iisph_codes.proofs.write_report.Statement.{statement}
 use Rattle.iisph_codes.proofs.write_report.Tie as tie
@@ -17,11 +16,14 @@ slice-write-numbers-3 c = simp length-set (omega arith)
 slice-write-numbers-4 : tie.Need-slice-write-numbers-4
 slice-write-numbers-4 c = simp length-set (omega arith)
 
+slice-write-counts-2 : tie.Need-slice-write-counts-2
+slice-write-counts-2 c = simp length-set (omega arith)
+
 returns : tie.Need-returns
-unfolding reportNumbers toldOf
+unfolding reportNumbers reportCounts toldOf
 returns c =
     let t = c .before .tell .ensures in
-    (rw t, rw t, refl)
+    (rw t, rw t, rw t)
 
 pub write-report-spec : {M : Type 1} → statement M
 write-report-spec =
@@ -34,6 +36,7 @@ write-report-spec =
     slice-write-numbers-4
     (λ c. search needs)
     (λ c. search needs)
+    slice-write-counts-2
     (λ c. search needs)
     (λ c. search needs)
     returns)

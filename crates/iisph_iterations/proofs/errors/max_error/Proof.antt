@@ -57,8 +57,8 @@ array-read-particles c = omega (arith, turn c .small)
 particles-requires : tie.Need-particles-requires Inv-loop μ-loop
 particles-requires c κs = turn c .within .headRoom
 
-with-average-requires : tie.Need-with-average-requires Inv-loop μ-loop
-with-average-requires c κs = (room c, start (c .before) .pre .1 .1)
+with-fluid-requires : tie.Need-with-fluid-requires Inv-loop μ-loop
+with-fluid-requires c κs = (room c, start (c .before) .pre .1 .1)
 
 add-from : tie.Need-add-from Inv-loop μ-loop
 add-from c = let p = c .before in omega (arith, room p, start (p .before) .pre .1 .1)
@@ -70,7 +70,7 @@ loop-again : tie.Need-loop-again Inv-loop μ-loop
 loop-again c =
     let p = c .before in
     let i = p .before in
-    next-averaged _ _ _ (i .before .loop .inv) (below i) (count p) (c .with-average .ensures)
+    next-averaged _ _ _ (i .before .loop .inv) (below i) (count p) (c .with-fluid .ensures)
 
 returns : tie.Need-returns Inv-loop μ-loop
 returns c =
@@ -90,7 +90,7 @@ max-error-spec =
     mul-particles
     array-read-particles
     particles-requires
-    with-average-requires
+    with-fluid-requires
     add-from
     add-m
     (λ c. search needs)

@@ -46,40 +46,40 @@ add-i : tie.Need-add-i Inv-loop μ-loop
 add-i c = omega (arith, few (c .before .before .before .before .before))
 
 cast-t20 : tie.Need-cast-t20 Inv-loop μ-loop
-cast-t20 c = omega (arith, few (c .before .before .before .before .before .before .before))
+cast-t20 c = omega (arith, few (c .before .before .before .before .before .before .before .before))
 
 returns : tie.Need-returns Inv-loop μ-loop
 returns c =
-    let k = c .before .before .before .before in
+    let k = c .before .before .before .before .before in
     let n = k .before .before in
     let s = Begin (n .before) in
     let p = s .pre in
     solved-early _ (p .0 .0 .timed .over .size) _ (n .before .loop .inv) (below n) (k .iterate .ensures)
-    (is-last (sceneOf (now (s .args .scene))) (n .before .loop .i) (k .iterate .result)
-    (sym (ap (λ x. Ieee.le (k .iterate .result) x) (p .0 .1 .limit)) ∙ c .before .if1 .taken)
+    (is-last (sceneOf (now (s .args .scene))) (n .before .loop .i) (k .iterate .result .value)
+    (sym (ap (λ x. Ieee.le (k .iterate .result .value) x) (p .0 .1 .limit)) ∙ c .before .if1 .taken)
     (omega (arith, p .0 .1 .least, c .if2 .taken)))
     refl
     refl
 
 loop-again : tie.Need-loop-again Inv-loop μ-loop
 loop-again c =
+    let k = c .before .before .before .before .before in
+    let n = k .before .before in
+    let s = Begin (n .before) in
+    let p = s .pre in
+    next-solved _ (p .0 .0 .timed .over .size) _ (n .before .loop .inv) (below n) (k .iterate .ensures)
+    (not-least (sceneOf (now (s .args .scene))) (n .before .loop .i) (k .iterate .result .value)
+    (omega (arith, p .0 .1 .least, c .if2 .left)))
+
+loop-again-2 : tie.Need-loop-again-2 Inv-loop μ-loop
+loop-again-2 c =
     let k = c .before .before .before .before in
     let n = k .before .before in
     let s = Begin (n .before) in
     let p = s .pre in
     next-solved _ (p .0 .0 .timed .over .size) _ (n .before .loop .inv) (below n) (k .iterate .ensures)
-    (not-least (sceneOf (now (s .args .scene))) (n .before .loop .i) (k .iterate .result)
-    (omega (arith, p .0 .1 .least, c .if2 .left)))
-
-loop-again-2 : tie.Need-loop-again-2 Inv-loop μ-loop
-loop-again-2 c =
-    let k = c .before .before .before in
-    let n = k .before .before in
-    let s = Begin (n .before) in
-    let p = s .pre in
-    next-solved _ (p .0 .0 .timed .over .size) _ (n .before .loop .inv) (below n) (k .iterate .ensures)
-    (not-small (sceneOf (now (s .args .scene))) (n .before .loop .i) (k .iterate .result)
-    (sym (ap (λ x. Ieee.le (k .iterate .result) x) (p .0 .1 .limit)) ∙ c .if1 .left))
+    (not-small (sceneOf (now (s .args .scene))) (n .before .loop .i) (k .iterate .result .value)
+    (sym (ap (λ x. Ieee.le (k .iterate .result .value) x) (p .0 .1 .limit)) ∙ c .if1 .left))
 
 cast-t22 : tie.Need-cast-t22 Inv-loop μ-loop
 cast-t22 c = omega (arith, few (c .before .before))

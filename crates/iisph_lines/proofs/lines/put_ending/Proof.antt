@@ -27,8 +27,8 @@ returns c =
     rw (unswept-text _ (t .tell .ensures) _ (c .if1 .taken)) at
     (w₁ .put-ending-word .ensures then w₂ .put-decimal .ensures)
 
-put-double-requires : tie.Need-put-double-requires
-put-double-requires c κs =
+put-error-requires : tie.Need-put-error-requires
+put-error-requires c κs =
     let t = c .before .before .before .before .before .before .before .before .before .before .before in
     let a = t .before .before .args in
     omega (arith, swept-room (a .ending) (t .tell .ensures) (a .iterations) (c .before .if1 .left))
@@ -41,7 +41,7 @@ returns-2 c =
     let w₁ = w₂ .before .before .before .before in
     let t = w₁ .before .before in
     rw (swept-text _ (t .tell .ensures) _ (b .if1 .left)) at
-    (w₁ .put-ending-word .ensures then w₂ .put-decimal .ensures then w₃ .put-double .ensures)
+    (w₁ .put-ending-word .ensures then w₂ .put-decimal .ensures then w₃ .put-error .ensures)
 
 pub put-ending-spec : {M : Type 1} → statement M
 put-ending-spec =
@@ -52,6 +52,6 @@ put-ending-spec =
     put-decimal-requires
     (λ c. search needs)
     returns
-    put-double-requires
+    put-error-requires
     (λ c. search needs)
     returns-2)
