@@ -7,9 +7,9 @@
 
 The text goes to oracle/src/salva, which is not part of the repository. Each edit replaces one piece
 of text that must be there exactly once; otherwise nothing is written and the status is 2. The edits
-show what the step keeps to itself (pressures, iterations, error, remaining time, an average of -0)
-and make the two asserts on densities say which particle they mean. No edit touches a number that
-the step works out.
+show what the step keeps to itself (pressures, iterations, error, remaining time, an average that is
+not a number or -0) and make the two asserts on densities say which particle they mean. No edit
+touches a number that the step works out.
 """
 import pathlib
 import sys
@@ -32,12 +32,12 @@ EDITS = [
     ("solver/pressure/iisph_solver.rs", "warm pressures go in and pressures come out; what is shown of the iterations",
      "    pressures: Vec<Vec<Real>>,\n    next_pressures: Vec<Vec<Real>>,\n",
      "    pub pressures: Vec<Vec<Real>>,\n    pub iterations: usize,\n    pub last_error: Option<Real>,\n"
-     "    pub settled: bool,\n    pub minus_zero: bool,\n"
+     "    pub settled: bool,\n    pub passed_over: bool,\n    pub minus_zero: bool,\n"
      "    next_pressures: Vec<Vec<Real>>,\n"),
     ("solver/pressure/iisph_solver.rs", "their values before a step",
      "            pressures: Vec::new(),\n            next_pressures: Vec::new(),\n",
      "            pressures: Vec::new(),\n            iterations: 0,\n            last_error: None,\n"
-     "            settled: false,\n            minus_zero: false,\n"
+     "            settled: false,\n            passed_over: false,\n            minus_zero: false,\n"
      "            next_pressures: Vec::new(),\n"),
     ("solver/pressure/iisph_solver.rs", "the iterations carried out, and the last error",
      "            std::mem::swap(&mut self.pressures, &mut self.next_pressures);\n",
@@ -46,9 +46,13 @@ EDITS = [
     ("solver/pressure/iisph_solver.rs", "that the early end was taken",
      "                break;\n",
      "                self.settled = true;\n                break;\n"),
-    ("solver/pressure/iisph_solver.rs", "an average of -0, on which runs skip the scene",
+    ("solver/pressure/iisph_solver.rs", "that an average was passed over is told of the last iteration alone",
+     "        let mut max_error = na::zero::<Real>();\n",
+     "        let mut max_error = na::zero::<Real>();\n        self.passed_over = false;\n"),
+    ("solver/pressure/iisph_solver.rs", "an average that is not a number, and one of -0, on which runs skip the scene",
      "            if nparts != 0 {\n",
      "            if nparts != 0 {\n"
+     "                self.passed_over |= (err / (nparts as f64)).is_nan();\n"
      "                self.minus_zero |= (err / (nparts as f64)).to_bits() == 1 << 63;\n"),
     ("solver/pressure/iisph_solver.rs", "refusal 9",
      "                    assert!(!density.is_zero());\n",

@@ -145,7 +145,8 @@ fn stepped(scene: &Scene) -> Result<String, Refused> {
         None => "step unswept 0\n".to_string(),
         Some(error) => {
             let ending = if state.solver.settled { "settled" } else { "ranout" };
-            format!("step {ending} {} {}\n", state.solver.iterations, bits(error))
+            let (iterations, passed_over) = (state.solver.iterations, state.solver.passed_over as u8);
+            format!("step {ending} {iterations} {} {passed_over}\n", bits(error))
         }
     };
     text += &row("clock", &[state.timestep.dt(), state.timestep.inv_dt(), state.timestep.remaining_time]);
