@@ -26,11 +26,12 @@ EXAMPLES = ROOT / "examples"
 TEXTS = reference.texts((ROOT / "crates/cases_step/stdout").read_text())
 DONE = [text for text in TEXTS if text.startswith("step ")]
 CHAMBER, CHAMBER_SCENE = (EXAMPLES / "chamber.txt").read_text(), (EXAMPLES / "chamber.bin").read_bytes()
+WALLS, HELD = (EXAMPLES / "chamber.walls").read_text(), ["--scene", EXAMPLES / "chamber.bin"]
 
 
 def in_chamber():
     answer = answers.parse(CHAMBER)
-    answers.place_walls(answer, (EXAMPLES / "chamber.walls").read_text(), "chamber.walls")
+    answers.place_walls(answer, WALLS, "chamber.walls")
     return answer
 
 
@@ -59,7 +60,7 @@ class Reading(unittest.TestCase):
         for text in DONE:
             lines = iter(text.splitlines()[2:])
             for row in answers.csv(answers.parse(text)).splitlines()[1:]:
-                cells = [cell for cell in row.split(",") if cell]
+                cells = [cell for cell in row.removesuffix("," + answer_files.PASSED_OVER).split(",") if cell]
                 self.assertEqual(next(lines), " ".join(cells[:3] + [step_rules.bits(float(x)) for x in cells[3:]]))
             self.assertIsNone(next(lines, None))
 
@@ -182,7 +183,7 @@ class Pictures(unittest.TestCase):
                                 and (w.force[0] <= 0 if w.model == 1 else w.force[0] >= 0))
 
     def test_without_wall_positions(self):
-        text, notes = answers.picture(answers.parse((EXAMPLES / "chamber.txt").read_text()), "yz")
+        text, notes = answers.picture(answers.parse(CHAMBER), "yz")
         self.assertIn("add a file with lines: WALL PARTICLE X Y Z", notes[0])
         self.assertIn(">left out: wall forces, since no wall positions were given<", text)
         self.assertNotIn("wall force ", text)
@@ -241,9 +242,9 @@ class Files(unittest.TestCase):
         for text, piece in (("0 0 1 2", "line 1: give"), ("0 0 1 2 nan", "line 1: give"), ("0 x 1 2 3", "line 1: give"),
                             ("", "add a line: 0 0 X Y Z"),
                             ("0 0 1 2 3\n0 0 1 2 4", "line 2: wall 0, particle 0 stands there twice"),
-                            ((EXAMPLES / "chamber.walls").read_text() + "9 0 1 2 3", "is it the file of this scene?")):
+                            (WALLS + "9 0 1 2 3", "is it the file of this scene?")):
             with self.assertRaises(commands.Wrong) as raised:
-                answers.place_walls(answers.parse((EXAMPLES / "chamber.txt").read_text()), text, "walls")
+                answers.place_walls(answers.parse(CHAMBER), text, "walls")
             self.assertIn(piece, str(raised.exception))
 
     def test_commands(self):
@@ -251,14 +252,14 @@ class Files(unittest.TestCase):
         status, table, _ = done("table", text)
         self.assertEqual((status, table.splitlines()[0]), (0, "settled after 41 iterations, error 0.00621438"))
         self.assertIn("not held against a scene", table.splitlines()[-1])
-        held = ["--scene", EXAMPLES / "chamber.bin"]
-        self.assertEqual(done("table", text, *held)[1].splitlines()[-1],
+        self.assertEqual(done("table", text, *HELD)[1].splitlines()[-1],
                          "held against the scene: all its particles are there, "
                          "60 fluid particles and 79 wall particles")
-        self.assertEqual(command("svg", text, "-", EXAMPLES / "chamber.walls", *held),
+        self.assertEqual(command("svg", text, "-", EXAMPLES / "chamber.walls", *HELD),
                          (0, (EXAMPLES / "chamber.svg").read_text(), ""))
-        self.assertEqual([done("csv", text, "-", *more)[2][:24] for more in ([], held)],
-                         ["not held against a scene", ""])
+        for kind in "csv", "json":
+            self.assertEqual([done(kind, text, "-", *more)[2][:24] for more in ([], HELD)],
+                             ["not held against a scene", ""])
         for arguments, status, piece in ((["table", ROOT / "none.txt"], 2, "check the file's name"),
                                          (["svg", text, "-", "--plane", "xx"], 2, "two of the letters"),
                                          ([], 2, "how to use"),

@@ -1,14 +1,25 @@
-"""An answer as a table, as CSV and as VTK files."""
+"""An answer as a table, as CSV, as JSON and as VTK files."""
 import math
 
 from answer_text import ENDINGS
 from commands import counted
+from scene_json import written
 
+PASSED_OVER = "an average was not a number and was passed over: do not trust settled"
+UNTOLD = "recorded before answers told whether an average was passed over, so it is not known; run the step again"
 UNHELD = ("not held against a scene, so it would not be noticed if the last lines of a fluid or wall were missing; "
           "add --scene SCENE.bin")
 
 
-# ---- table and CSV
+def alarms(answer):
+    """What nobody may overlook: at most one text, for outputs to begin with."""
+    return ["WARNING: " + PASSED_OVER] if answer.passed_over else []
+
+
+def doubts(answer): return [UNTOLD] if answer.passed_over is None else []
+
+
+# ---- table, CSV and JSON
 
 def decimal(x): return "%.6g" % x
 
@@ -20,7 +31,8 @@ def ended(answer):
 
 
 def table(answer):
-    lines = [ended(answer), "dt %s, 1 / dt %s, remaining time %s" % tuple(map(decimal, answer.clock))]
+    lines = [*alarms(answer), ended(answer), *doubts(answer),
+             "dt %s, 1 / dt %s, remaining time %s" % tuple(map(decimal, answer.clock))]
     rows = [[str(p.model), str(p.number), *map(decimal, [*p.position, *p.velocity, p.pressure])] for p in answer.fluid]
     lines += columns("fluid particle x y z vx vy vz pressure".split(), rows)
     rows = [[str(w.model), str(w.number), *map(decimal, [w.volume, *(w.force or [])])] + ["not kept"] * (not w.force)
@@ -32,7 +44,7 @@ def table(answer):
     there = " and ".join(counted(len(particles), "%s particle" % kind)
                          for kind, particles in (("fluid", answer.fluid), ("wall", answer.wall)))
     return "\n".join([*lines, "", "held against the scene: all its particles are there, " + there if answer.held
-                      else UNHELD]) + "\n"
+                      else UNHELD, *alarms(answer)]) + "\n"
 
 
 def columns(heads, rows):
@@ -43,6 +55,8 @@ def columns(heads, rows):
 
 
 def csv(answer):
+    """A warning stands in each row, in a last column that other answers lack: so it is seen wherever
+    the rows go, and the columns before it are read as ever."""
     lines = ["kind,model,particle,x,y,z,vx,vy,vz,pressure,volume,fx,fy,fz"]
     lines += [",".join(["fluid", str(p.model), str(p.number), *map(repr, [*p.position, *p.velocity, p.pressure])])
               + ",,,," for p in answer.fluid]
@@ -50,23 +64,50 @@ def csv(answer):
         cells = ["wall", str(w.model), str(w.number), *(map(repr, w.position) if w.position else ["", "", ""]), "", "",
                  "", "", repr(w.volume)]
         lines.append(",".join(cells + (list(map(repr, w.force)) if w.force else ["", "", ""])))
+    if answer.passed_over:
+        lines = [line + "," + (PASSED_OVER if k else "warning") for k, line in enumerate(lines)]
     return "\n".join(lines) + "\n"
+
+
+def number(x):
+    """JSON has no number for what is not finite: a text, which Python's float reads."""
+    return x if math.isfinite(x) else "NaN" if math.isnan(x) else "Infinity" if x > 0 else "-Infinity"
+
+
+def numbers(xs): return list(map(number, xs))
+
+
+def json(answer):
+    """The warnings come first; a width of 300 holds a particle on a line."""
+    fluid = [{"fluid": p.model, "particle": p.number, "position": numbers(p.position),
+              "velocity": numbers(p.velocity), "pressure": number(p.pressure)} for p in answer.fluid]
+    walls = [{"wall": w.model, "particle": w.number, **({"position": numbers(w.position)} if w.position else {}),
+              "volume": number(w.volume), **({"force": numbers(w.force)} if w.force else {})} for w in answer.wall]
+    return written({"warnings": [PASSED_OVER] * bool(answer.passed_over) + doubts(answer), "ending": answer.ending,
+                    "iterations": answer.iterations, "error": (numbers(answer.error) or [None])[0],
+                    "passed_over": answer.passed_over, "held": answer.held,
+                    "clock": dict(zip(["dt", "inv_dt", "remaining_time"], numbers(answer.clock))),
+                    "fluid": fluid, "walls": walls}, width=300) + "\n"
 
 
 # ---- VTK
 
-def vtk(title, particles, scalars, vectors):
+def vtk(answer, kind, scalars, vectors):
     """Legacy VTK of points; what is not finite, or not kept, is written as 0 and marked, since
-    readers stumble over it."""
-    n = len(particles)
+    readers stumble over it. Titles, of 255 letters at most, are rarely shown: so a warning is the
+    first scalar too, which VTK makes the active one."""
+    particles, title = getattr(answer, kind), "%s particles after a pressure step%s" % (kind, held(answer))
+    n, title = len(particles), "; ".join([*alarms(answer), title, *doubts(answer)])
+    if answer.passed_over:
+        scalars = [("passed_over", "int", lambda p: 1), *scalars]
     safe = lambda xs: " ".join(repr(x) if math.isfinite(x) else "0.0" for x in xs)
     lines = ["# vtk DataFile Version 3.0", title, "ASCII", "DATASET POLYDATA", "POINTS %d double" % n,
              *[safe(p.position) for p in particles],
              "VERTICES %d %d" % (n, 2 * n), *["1 %d" % k for k in range(n)], "POINT_DATA %d" % n]
-    for name, kind, of in [*scalars, ("model", "int", lambda p: p.model), ("particle", "int", lambda p: p.number),
+    for name, form, of in [*scalars, ("model", "int", lambda p: p.model), ("particle", "int", lambda p: p.number),
                            ("finite", "int", finite)]:
-        lines += ["SCALARS %s %s 1" % (name, kind), "LOOKUP_TABLE default",
-                  *[str(int(of(p))) if kind == "int" else safe([of(p)]) for p in particles]]
+        lines += ["SCALARS %s %s 1" % (name, form), "LOOKUP_TABLE default",
+                  *[str(int(of(p))) if form == "int" else safe([of(p)]) for p in particles]]
     for name, of in vectors:
         lines += ["VECTORS %s double" % name, *[safe(of(p)) for p in particles]]
     return "\n".join(lines) + "\n"
@@ -82,11 +123,9 @@ def held(answer): return ", held against the scene" if answer.held else ", not h
 
 
 def fluid_vtk(answer):
-    return vtk("fluid particles after a pressure step" + held(answer), answer.fluid,
-               [("pressure", "double", lambda p: p.pressure)], [("velocity", lambda p: p.velocity)])
+    return vtk(answer, "fluid", [("pressure", "double", lambda p: p.pressure)], [("velocity", lambda p: p.velocity)])
 
 
 def wall_vtk(answer):
     scalars = [("volume", "double", lambda w: w.volume), ("keeps_forces", "int", lambda w: w.force is not None)]
-    return vtk("wall particles after a pressure step" + held(answer), answer.wall, scalars,
-               [("force", lambda w: w.force or [0.0, 0.0, 0.0])])
+    return vtk(answer, "wall", scalars, [("force", lambda w: w.force or [0.0, 0.0, 0.0])])

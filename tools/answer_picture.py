@@ -1,14 +1,14 @@
 """An answer as a picture: particles coloured by pressure, arrows for wall forces. SVG."""
 import math
 
-from answer_files import decimal, ended, finite, held
+from answer_files import alarms, decimal, doubts, ended, finite, held
 from commands import Wrong, counted
 
 AXES = "xyz"
 # The colours of pressures: ever darker, so that they read in grey too.
 STOPS = (255, 247, 188), (254, 196, 79), (236, 112, 20), (153, 52, 4), (60, 15, 10)
-# Lengths in pixels; the last is that of the longest arrow.
-WIDE, HIGH, LEFT, TOP, LEGEND, LONGEST = 640, 480, 40, 56, 190, 54
+# Lengths in pixels; the last two are those of the longest arrow and of a warning above it all.
+WIDE, HIGH, LEFT, TOP, LEGEND, LONGEST, BANNER = 640, 480, 40, 56, 190, 54, 40
 
 
 def colour(share):
@@ -111,7 +111,7 @@ def picture(answer, plane="xz"):
     out += [arrow(x, y, forces[x, y][0] / strongest * LONGEST, -forces[x, y][1] / strongest * LONGEST)
             for x, y in shown]
     faint, across = sum(any(force) for force in forces.values()) - len(shown), 3 - a - b
-    remarks = [note.split(";")[0] for note in notes]      # without the advice
+    remarks = [note.split(";")[0] for note in doubts(answer) + notes]      # without the advice
     if drawable and faint:
         remarks.append("left out: %s below a fiftieth of the strongest" % counted(faint, "wall force"))
     if any(w.force and finite(w) and w.force[across] for w in walls):
@@ -136,13 +136,22 @@ def scales(least, most, strongest, size):
                   label(x, low, "length " + decimal(bar))]
 
 
+def banner(text):
+    """Red, over the whole width."""
+    return ('<rect width="100%%" height="%d" fill="#b00020"/>' % BANNER
+            + label(LEFT, BANNER - 15, text, 'font-size="15" font-weight="bold" fill="#fff"'))
+
+
 def svg(answer, plane, remarks, drawn):
     heads = ["%s to the right, %s up; of particles behind each other the highest pressure shows, "
              "and wall forces are added up" % tuple(plane), held(answer)[2:], *remarks]
-    down = 18 * (len(heads) - 1)      # by so much the picture makes room for the lines above it
+    banners = list(map(banner, alarms(answer)))
+    top = BANNER * len(banners)
+    down = top + 18 * (len(heads) - 1)      # by so much the picture makes room for what is above it
     wide, high = LEFT + WIDE + LEGEND, TOP + HIGH + 50 + down
     size = 'width="%d" height="%d" viewBox="0 0 %d %d"' % (wide, high, wide, high)
     out = ['<svg xmlns="http://www.w3.org/2000/svg" %s font-family="sans-serif" font-size="13" fill="#222">' % size,
-           '<rect width="100%" height="100%" fill="#fff"/>', label(LEFT, 28, ended(answer), 'font-size="17"')]
-    out += [label(LEFT, 48 + 18 * k, head) for k, head in enumerate(heads)]
+           '<rect width="100%" height="100%" fill="#fff"/>', *banners,
+           label(LEFT, top + 28, ended(answer), 'font-size="17"')]
+    out += [label(LEFT, top + 48 + 18 * k, head) for k, head in enumerate(heads)]
     return "\n".join([*out, '<g transform="translate(0 %d)">' % down, *drawn, "</g>", "</svg>"]) + "\n"

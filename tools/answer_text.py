@@ -29,6 +29,18 @@ def whole(word, most):
     return int(word)
 
 
+def step_into(answer, words):
+    """Adds the first line: how the step ended, after how many iterations and, if there were any,
+    the error and whether an average was passed over. Answers recorded before that was told end with
+    the error, and can't tell."""
+    answer.ending, iterations, *more = words
+    answer.iterations, swept = whole(iterations, 255), answer.ending != "unswept"
+    if answer.ending not in ENDINGS or swept != (answer.iterations > 0) or len(more) not in ([1, 2] if swept else [0]):
+        raise ValueError
+    answer.error = [double(x) for x in more[:1]]
+    answer.passed_over = whole(more[1], 1) == 1 if len(more) == 2 else None if swept else False
+
+
 def line_into(answer, k, words):
     """Adds line k to the answer; a ValueError if it is none of the program's, a Wrong if it can't
     stand there."""
@@ -37,10 +49,8 @@ def line_into(answer, k, words):
         raise Wrong("line %d should be `%s ..`; %s" % (k, ["step", "clock"][k - 1], AGAIN) if k < 3 else
                     "line %d is a second `%s ..`: here another answer begins; give one at a time, and %s"
                     % (k, kind, AGAIN))
-    if kind == "step" and rest[0] in ENDINGS and len(rest) == (2 if rest[0] == "unswept" else 3):
-        answer.ending, answer.iterations, answer.error = rest[0], whole(rest[1], 255), [double(x) for x in rest[2:]]
-        if (answer.ending == "unswept") != (answer.iterations == 0):
-            raise ValueError
+    if kind == "step":
+        step_into(answer, rest)
     elif kind == "clock" and len(rest) == 3:
         answer.clock = [double(x) for x in rest]
     elif kind == "fluid" and len(rest) == 9 or kind == "wall" and len(rest) in (3, 6):

@@ -1,6 +1,6 @@
 #!/usr/bin/env python3
-"""Answers that one can look at: the program's output as a table, as CSV, as files for ParaView, and
-as a picture.
+"""Answers that one can look at: the program's output as a table, as CSV, as JSON, as files for
+ParaView, and as a picture.
 
   tools/run SCENE.bin > ANSWER.txt
       the output, which the commands below take (- is standard input)
@@ -8,6 +8,9 @@ as a picture.
       decimals in columns, and the force on each wall in all
   tools/answers.py csv ANSWER.txt TABLE.csv [WALLS.txt] [--scene SCENE.bin]
       all decimals, each reads back as the same double
+  tools/answers.py json ANSWER.txt FILE.json [WALLS.txt] [--scene SCENE.bin]
+      the whole answer as one object, with the same decimals; what is not finite is "NaN",
+      "Infinity" or "-Infinity", in quotes
   tools/answers.py vtk ANSWER.txt NAME [WALLS.txt] [--scene SCENE.bin]
       NAME-fluid.vtk and, with wall positions, NAME-wall.vtk (legacy VTK, ASCII)
   tools/answers.py svg ANSWER.txt PICTURE.svg [WALLS.txt] [--scene SCENE.bin] [--plane xz]
@@ -17,16 +20,22 @@ as a picture.
 An answer that is damaged, cut within a line or merged with another is refused. Whether the last
 lines of a fluid or wall are missing the text alone can't tell: with --scene the answer is held to
 the scene that it is of (how many particles each fluid and wall has, which walls keep forces, the
-clock, the iterations); without it the table, the picture, the VTK files and a note with the CSV say
-that it was not.
+clock, the iterations); without it the table, the picture, the VTK files, `held` in the JSON and a
+note with the CSV say that it was not.
 An answer has no positions of wall particles: WALLS.txt has a line for each, `WALL PARTICLE X Y Z`,
 and # begins a comment.
-Status: 0; 1 if the answer is a refusal, can't be read, or does not agree with the scene or the wall
-positions; 2 if a file or the command is wrong.
+A step passes over a fluid's average error that is not a number, and its answer tells whether it did
+so in the last iteration: then `settled` can't be trusted. Of this warn the table's first and last
+line, the column `warning` of the CSV, the JSON's `warnings`, the VTK files by their title and by
+`passed_over`, 1 at each point, the picture's red banner and, but for the table, standard error.
+Answers recorded before they told it are taken too; table, `warnings`, titles, picture and, but for
+the table, standard error then say that it is not known.
+Status: 0, of an answer with a warning too; 1 if the answer is a refusal, can't be read, or does not
+agree with the scene or the wall positions; 2 if a file or the command is wrong.
 """
 import sys
 
-from answer_files import UNHELD, csv, finite, fluid_vtk, table, wall_vtk
+from answer_files import UNHELD, alarms, csv, doubts, finite, fluid_vtk, json, table, wall_vtk
 from answer_picture import AXES, picture
 from answer_text import hold, parse, place_walls
 from commands import Misused, carried_out, counted
@@ -35,6 +44,7 @@ from commands import read as read_bytes
 HOLD, PLANE = {"--scene": True}, {"--scene": True, "--plane": True}
 COMMANDS = {"table": ("table ANSWER.txt [--scene SCENE.bin]", [1], HOLD),
             "csv": ("csv ANSWER.txt TABLE.csv [WALLS.txt] [--scene SCENE.bin]", [2, 3], HOLD),
+            "json": ("json ANSWER.txt FILE.json [WALLS.txt] [--scene SCENE.bin]", [2, 3], HOLD),
             "vtk": ("vtk ANSWER.txt NAME [WALLS.txt] [--scene SCENE.bin]", [2, 3], HOLD),
             "svg": ("svg ANSWER.txt PICTURE.svg [WALLS.txt] [--scene SCENE.bin] [--plane xz]", [2, 3], PLANE)}
 
@@ -77,13 +87,14 @@ def run(command, files, options):
     if command == "table":
         write("-", table(answer))
         return [], 0
+    notes = alarms(answer) + doubts(answer)
     if command == "svg":
-        text, notes = picture(answer, plane)
+        text, left_out = picture(answer, plane)
         write(files[1], text)
-        return notes, 0
-    notes = [] if answer.held else [UNHELD]
-    if command == "csv":
-        write(files[1], csv(answer))
+        return notes + left_out, 0
+    notes += [] if answer.held else [UNHELD]
+    if command in ("csv", "json"):
+        write(files[1], csv(answer) if command == "csv" else json(answer))
         return notes, 0
     write(files[1] + "-fluid.vtk", fluid_vtk(answer))
     if len(files) == 3:
