@@ -64,7 +64,10 @@ extern "C" {
    Returns 0 if there was no iteration (the scene's most is 0), 1 if the iterations settled, 2 if
    they ran out. Then the needed part of answers is written, that of work is all +0, numbers[0] is
    the last iteration's error (+0 if there was none), numbers[1] dt, numbers[2] 1 / dt (0 for a dt
-   of 0), numbers[3] the remaining time, and counts[0] the number of iterations.
+   of 0), numbers[3] the remaining time, counts[0] the number of iterations, and counts[1] 1 if in
+   the last iteration the average error of some fluid was not a number, else 0 (0 too if there was
+   none). Such an average is passed over when the greatest is taken: where counts[1] is 1, do not
+   trust a 1 for settled.
    Refused by 1 to 10. Then answers, numbers and counts[0] are unchanged; the needed part of work is
    all +0 after 9 and 10, and work is unchanged after 1 to 8.
    Takes some 34 KiB of stack where the scene's index, as iisph_step_lent has it, is of at most 4096

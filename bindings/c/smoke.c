@@ -48,9 +48,42 @@ static int lent_step(void) {
     SAME(iisph_step_lent(scene, len, answers, 8, work, 15, index, counts[0], numbers, 5, counts, 3) == 1);
     SAME(memcmp(answers, expected, sizeof expected) == 0);
     SAME(memcmp(numbers, expected_numbers, sizeof expected_numbers) == 0);
-    SAME(counts[0] == 2 && counts[1] == 7 && counts[2] == 7);
+    SAME(counts[0] == 2 && counts[1] == 0 && counts[2] == 7);
     for (int k = 0; k < 14; k++) SAME(work[k] == 0 && !signbit(work[k]));
     SAME(work[14] == 7);
+    return 0;
+}
+
+/* a fluid of one particle whose warm pressure, 1e308, makes the error no number in the first iteration and the pressure
+   0 in the second; and the most iterations */
+static void scene_overflowing(unsigned most) {
+    len = 0;
+    byte(0x11); byte(0); byte(1); byte(most);
+    real(1); real(1); real(0.05); vector(0, 0, 0);
+    two_bytes(1); real(1);
+    for (int k = 0; k < 9; k++) real(0);
+    real(1); real(1e308); byte(1); byte(0);
+    two_bytes(0); real(1); vector(2, 0, 0);
+}
+
+/* that an average was passed over is told by all three steps where the first iteration is the last, and by none where
+   the second is, or none */
+static int passed_over(void) {
+    double answers[7], work[14], numbers[4], clock[4] = {0.25, 7, 7, 3};
+    uint64_t index[22];
+    for (unsigned most = 0; most < 3; most++) {
+        uint64_t counts[3] = {7, 7, 7};
+        const uint64_t told = most == 1, ending = most == 0 ? 0 : most == 1 ? 2 : 1;
+        scene_overflowing(most);
+        SAME(iisph_step(scene, len, answers, 7, work, 14, numbers, 4, counts, 3) == ending);
+        SAME(numbers[0] == 0 && counts[0] == most && counts[1] == told && counts[2] == 7);
+        counts[1] = 7;
+        SAME(iisph_step_lent(scene, len, answers, 7, work, 14, index, 22, numbers, 4, counts, 3) == ending);
+        SAME(counts[0] == most && counts[1] == told && counts[2] == 7);
+        counts[1] = 7;
+        SAME(iisph_step_keeping(scene, len, clock, 4, answers, 7, work, 14, numbers, 4, counts, 3) == ending);
+        SAME(counts[0] == most && counts[1] == told && counts[2] == 7);
+    }
     return 0;
 }
 
@@ -240,7 +273,7 @@ int main(void) {
     SAME(iisph_step(scene, len, answers, 8, work, 15, numbers, 5, counts, 3) == 1);
     SAME(memcmp(answers, expected, sizeof expected) == 0);
     SAME(memcmp(numbers, expected_numbers, sizeof expected_numbers) == 0);
-    SAME(counts[0] == 2 && counts[1] == 14 && counts[2] == 7);
+    SAME(counts[0] == 2 && counts[1] == 0 && counts[2] == 7);
     for (int k = 0; k < 14; k++) SAME(work[k] == 0 && !signbit(work[k]));
     SAME(work[14] == 7);
 
@@ -250,6 +283,8 @@ int main(void) {
     SAME(memcmp(clock, moved_on, sizeof moved_on) == 0);
     SAME(memcmp(answers, expected, sizeof expected) == 0);
     SAME(memcmp(numbers, expected_numbers, sizeof expected_numbers) == 0);
+    SAME(counts[0] == 2 && counts[1] == 0 && counts[2] == 7);
+    if (passed_over()) return 1;
 
     /* the kernel: the shapes at 0.5 are 0.25 and -1.5 */
     const double normalizer = 8 / 3.141592653589793;

@@ -21,7 +21,7 @@
 //! let mut answers = vec![0.0; lengths.answers];
 //! let mut work = vec![0.0; lengths.work];
 //! let report = Solver::new().step(&packed, &mut answers, &mut work)?;
-//! assert_eq!(report.iterations, 2);
+//! assert_eq!((report.iterations, report.passed_over), (2, false));
 //! for particle in answers.chunks_exact(7) {
 //!     assert_eq!(particle, [0.0, 0.0, -1.0, 0.0, 0.0, -2.0, 0.0]); // position, velocity, pressure
 //! }
@@ -76,6 +76,10 @@ pub struct Report {
     pub ending: Ending,
     /// How many were carried out.
     pub iterations: u64,
+    /// Whether in the last iteration the average error of some fluid was not a number. Such an
+    /// average is passed over when the greatest is taken: where it is true, do not trust
+    /// [`Ending::Settled`].
+    pub passed_over: bool,
     /// The step's length.
     pub dt: f64,
     /// 1 / dt, or 0 for a zero.
@@ -149,7 +153,7 @@ fn report(code: u64, numbers: [f64; 4], counts: [u64; 2]) -> Result<Report, Refu
         2 => Ending::RanOut(error),
         _ => return Err(refusal(code, counts[1])),
     };
-    Ok(Report { ending, iterations: counts[0], dt, inv_dt, remaining_time })
+    Ok(Report { ending, iterations: counts[0], passed_over: counts[1] == 1, dt, inv_dt, remaining_time })
 }
 
 /// A clock that the caller keeps over steps, as the Rust's `TimestepManager`.

@@ -47,6 +47,23 @@ fn scene_b(speed: f64) -> Scene {
     }
 }
 
+// a particle whose warm pressure makes the error no number in the first iteration, and the pressure
+// 0 in the second
+fn overflowing(most_iterations: usize) -> Scene {
+    let particle = FluidParticle {
+        volume: 1.0,
+        warm_pressure: 1e308,
+        fluid_contacts: vec![contact(0, 1.0, [2.0, 0.0, 0.0])],
+        ..Default::default()
+    };
+    Scene {
+        step_length: 1.0,
+        most_iterations,
+        fluids: vec![Fluid { rest_density: 1.0, particles: vec![particle] }],
+        ..Default::default()
+    }
+}
+
 // the specification's particle that presses on a wall
 fn pressed() -> Scene {
     let particle = FluidParticle {
@@ -104,7 +121,14 @@ fn scene_a_answers() {
     let (report, answers) = stepped(&scene).unwrap();
     assert_eq!(
         report,
-        Report { ending: Ending::Settled(0.0), iterations: 2, dt: 0.5, inv_dt: 2.0, remaining_time: 0.5 }
+        Report {
+            ending: Ending::Settled(0.0),
+            iterations: 2,
+            passed_over: false,
+            dt: 0.5,
+            inv_dt: 2.0,
+            remaining_time: 0.5,
+        }
     );
     assert_eq!(bits(&answers), [0, 0, 0xBFF0000000000000, 0, 0, 0xC000000000000000, 0]);
 }
@@ -129,6 +153,23 @@ fn scene_b_runs_out() {
         assert_eq!(particle[3..6], [0.0; 3]);
         assert_eq!(particle[6], 0.5);
     }
+}
+
+#[test]
+fn an_average_that_is_passed_over_is_told() {
+    let told = |most| {
+        let scene = packed(overflowing(most));
+        let report = stepped(&scene).unwrap().0;
+        let mut clock = Clock { total_step_size: 1.0, ..Default::default() };
+        assert_eq!(clock.step(&scene, &mut [0.0; 7], &mut [0.0; 14]), Ok(report));
+        (report.ending, report.passed_over)
+    };
+    assert_eq!(told(0), (Ending::Unswept, false));
+    assert_eq!(told(1), (Ending::RanOut(0.0), true));
+    assert_eq!(told(2), (Ending::Settled(0.0), false));
+    let torn = include_bytes!("../../../examples/torn-droplet-overflow.bin");
+    let report = stepped(torn).unwrap().0;
+    assert_eq!((report.ending, report.iterations, report.passed_over), (Ending::Settled(0.0), 2, true));
 }
 
 #[test]

@@ -2,12 +2,13 @@
 use super::fields::Fields;
 use super::*;
 
-pub const EXAMPLES: [&[u8]; 5] = [
+pub const EXAMPLES: [&[u8]; 6] = [
     include_bytes!("../../../../examples/scene-a.bin"),
     include_bytes!("../../../../examples/scene-b.bin"),
     include_bytes!("../../../../examples/chamber.bin"),
     include_bytes!("../../../../examples/torn-droplet.bin"),
     include_bytes!("../../../../examples/torn-droplet-faint.bin"),
+    include_bytes!("../../../../examples/torn-droplet-overflow.bin"),
 ];
 
 #[test]

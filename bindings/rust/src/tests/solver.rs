@@ -59,7 +59,7 @@ fn calls() -> Vec<(Vec<u8>, Lengths)> {
 }
 
 // the answer, and both lists afterwards, which held sevens
-type Outcome = (Result<[u64; 6], Refusal>, Vec<u64>, Vec<u64>);
+type Outcome = (Result<[u64; 7], Refusal>, Vec<u64>, Vec<u64>);
 
 fn outcome(lengths: Lengths, step: impl FnOnce(&mut [f64], &mut [f64]) -> Result<Report, Refusal>) -> Outcome {
     let (mut answers, mut work) = (vec![7.0; lengths.answers], vec![7.0; lengths.work]);
@@ -70,7 +70,7 @@ fn outcome(lengths: Lengths, step: impl FnOnce(&mut [f64], &mut [f64]) -> Result
             Ending::RanOut(error) => (2, error),
         };
         let [error, dt, inv_dt, time] = [error, report.dt, report.inv_dt, report.remaining_time].map(f64::to_bits);
-        [ending, error, report.iterations, dt, inv_dt, time]
+        [ending, error, report.iterations, report.passed_over as u64, dt, inv_dt, time]
     });
     (answer, bits(&answers), bits(&work))
 }
