@@ -2,6 +2,7 @@
 // an average was not a number and was passed over (METHOD 6.4).
 use iisph_rows::rows::ERROR_TERM;
 use iisph_rules::IterationError;
+use iisph_rules::NO_ERROR;
 use math::is_nan;
 use math::larger;
 use scene_format::Kind;
@@ -72,10 +73,7 @@ pub fn max_error(scene: &[u8], layout: Layout, work: &[f64], n: usize) -> Iterat
     let fluids = layout.fluids;
     let heads = fluids.heads;
     let number = fluids.number;
-    let mut error = IterationError {
-        value: 0.0,
-        passed_over: false,
-    };
+    let mut error = NO_ERROR;
     let mut from = 0usize;
     let mut m = 0usize;
     while m < number {

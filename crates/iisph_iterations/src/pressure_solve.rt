@@ -6,6 +6,7 @@ use iisph_passes::traverse::Pass;
 use iisph_passes::traverse::traverse;
 use iisph_rules::Ending;
 use iisph_rules::IterationError;
+use iisph_rules::NO_ERROR;
 use math::Vec3;
 use scene_layout::Layout;
 ghost use mathlib.Core.Path.{_≡_};
@@ -74,10 +75,7 @@ pub fn pressure_solve(
     let least = stopping.min_pressure_iter;
     let most = stopping.max_pressure_iter;
     let limit = stopping.max_density_error;
-    let mut error = IterationError {
-        value: 0.0,
-        passed_over: false,
-    };
+    let mut error = NO_ERROR;
     let mut i = 0usize;
     while i < most {
         let number = i;

@@ -118,7 +118,7 @@ noError = record { value = +0; «passed_over» = false }
 unfoldable pub withAverage : IterationError → Float → IterationError
 withAverage e x = record { value = larger (e .value) x; «passed_over» = e .«passed_over» || isNan x }
 
--- the greatest of +0 and the averages that are numbers, and whether any is none
+-- the greatest of +0 and the averages that are numbers, and whether some average is not a number
 unfoldable pub errorOf : List Float → IterationError
 errorOf xs = fold withAverage noError xs
 

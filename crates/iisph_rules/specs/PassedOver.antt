@@ -36,7 +36,7 @@ pub record NanFluid (counts : List ℕ) (terms : List Float) (m : ℕ) : Type 0 
   pub some : 0 < getD counts m 0
   pub noNumber : average (getD counts m 0) (take (getD counts m 0) (drop (sum (take m counts)) terms)) ≡ nan
 
--- an average is that of a fluid which has particles
+-- some average is not a number exactly if that of some fluid with particles is not
 abbrev pub AveragesOfFluids : Type 0
 AveragesOfFluids =
     (counts : List ℕ) (terms : List Float) → SomeNan (averages counts terms) ↔ ((m : ℕ) × NanFluid counts terms m)

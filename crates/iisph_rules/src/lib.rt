@@ -10,6 +10,12 @@ pub struct IterationError {
     pub passed_over: bool,
 }
 
+// Before the first average.
+pub const NO_ERROR: IterationError = IterationError {
+    value: 0.0,
+    passed_over: false,
+};
+
 // How the iterations ended (METHOD 7.1), with the two parts of the last iteration's error.
 pub enum Ending {
     // There were none.
