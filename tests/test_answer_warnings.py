@@ -1,4 +1,5 @@
 """What tools/answers.py writes and says of averages that were passed over, and its JSON."""
+import itertools
 import json
 import pathlib
 import tempfile
@@ -8,7 +9,7 @@ import xml.etree.ElementTree as ElementTree
 from tests.test_answers import CHAMBER, DONE, EXAMPLES, HELD, done, in_chamber
 from tests.test_answers import answer_files, answers, commands, step_rules
 
-PASSED_OVER = "an average was not a number and was passed over: do not trust settled"      # the customer's words
+PASSED_OVER = "an average was not a number and was passed over: do not trust settled"      # written out, so that a changed text is noticed
 WARNING, UNTOLD = "WARNING: " + PASSED_OVER, answer_files.UNTOLD
 FLAGS = {" 1": True, " 0": False, "": None}      # behind the error; the last as answers were recorded before
 UNREAL = "NaN", "Infinity", "-Infinity"
@@ -84,6 +85,21 @@ class Warnings(unittest.TestCase):
         for kind, said in self.said.items():
             notes = ["", "", ""] if kind == "table" else [WARNING + "\n", "", UNTOLD + "\n"]
             self.assertEqual(said, [(0, note) for note in notes], kind)
+
+    def test_every_answer_with_a_yes_is_warned_of_and_no_other(self):
+        outputs = answers.table, answers.csv, answers.json, answers.fluid_vtk
+        endings = set()
+        for text in DONE:
+            answer, old = answers.parse(text), answers.parse(flagged("", text))
+            yes, swept = text.split("\n")[0].endswith(" 1"), answer.ending != "unswept"
+            endings.add((answer.ending, yes))
+            self.assertEqual((answers.alarms(answer), answers.doubts(answer)), ([WARNING] * yes, []))
+            self.assertEqual((answers.alarms(old), answers.doubts(old)), ([], [UNTOLD] * swept))
+            for output in outputs:
+                self.assertEqual(PASSED_OVER in output(answer), yes, output)
+                self.assertEqual(UNTOLD in output(old), swept and output is not answers.csv, output)
+            self.assertEqual("SCALARS passed_over " in answers.fluid_vtk(answer), yes)
+        self.assertEqual(endings, {("unswept", False), *itertools.product(("settled", "ranout"), (False, True))})
 
     def test_table_and_csv(self):
         yes, no, old = self.written["table"]

@@ -25,13 +25,14 @@ note with the CSV say that it was not.
 An answer has no positions of wall particles: WALLS.txt has a line for each, `WALL PARTICLE X Y Z`,
 and # begins a comment.
 A step passes over a fluid's average error that is not a number, and its answer tells whether it did
-so in the last iteration: then `settled` can't be trusted. Of this warn the table's first and last
-line, the column `warning` of the CSV, the JSON's `warnings`, the VTK files by their title and by
-`passed_over`, 1 at each point, the picture's red banner and, but for the table, standard error.
-Answers recorded before they told it are taken too; table, `warnings`, titles, picture and, but for
-the table, standard error then say that it is not known.
-Status: 0, of an answer with a warning too; 1 if the answer is a refusal, can't be read, or does not
-agree with the scene or the wall positions; 2 if a file or the command is wrong.
+so in the last iteration: then `settled` can't be trusted. The warning stands in the table's first
+and last line, in a column `warning` of the CSV, in the JSON's `warnings`, in the title of the VTK
+files and as `passed_over`, 1 at each of their points, in a red banner of the picture and, but for
+the table, on standard error. Answers recorded before they told it are taken too; table, `warnings`
+(`passed_over` is null), titles, picture and, but for the table, standard error then say that it is
+not known.
+Status: 0, with a warning too; 1 if the answer is a refusal, can't be read, or does not agree with
+the scene or the wall positions; 2 if a file or the command is wrong.
 """
 import sys
 

@@ -54,8 +54,8 @@ static int lent_step(void) {
     return 0;
 }
 
-/* a fluid of one particle whose warm pressure, 1e308, makes the error no number in the first iteration and the pressure
-   0 in the second; and the most iterations */
+/* a fluid of one particle whose warm pressure, 1e308, makes its average no number in the first iteration and the
+   pressure 0 in the second; and the most iterations */
 static void scene_overflowing(unsigned most) {
     len = 0;
     byte(0x11); byte(0); byte(1); byte(most);

@@ -95,7 +95,7 @@ def averages():
 
 
 def passed_over():
-    """Averages that are not a number. Each comment is there once: it names its scene."""
+    """Averages that are not a number, and what is taken for one. Each comment names one scene."""
     yield ("an infinite pressure stays", scene([overflowing(0)], PLAIN, most=1), swept("ranout", 1, passed_over=1),
            " 7FF0000000000000\nfluid 0 1")
     yield ("and then is not-a-number, which becomes +0: passed over before, not at the end",

@@ -63,7 +63,7 @@ pub struct Lengths {
 pub enum Ending {
     /// There were none.
     Unswept,
-    /// The last one met the stopping test.
+    /// The last one met the stopping test. Not to be trusted where [`Report::passed_over`] is true.
     Settled(f64),
     /// The last one did not.
     RanOut(f64),
@@ -78,7 +78,7 @@ pub struct Report {
     pub iterations: u64,
     /// Whether in the last iteration the average error of some fluid was not a number. Such an
     /// average is passed over when the greatest is taken: where it is true, do not trust
-    /// [`Ending::Settled`].
+    /// [`Ending::Settled`]. False where there was no iteration.
     pub passed_over: bool,
     /// The step's length.
     pub dt: f64,

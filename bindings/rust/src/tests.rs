@@ -47,8 +47,8 @@ fn scene_b(speed: f64) -> Scene {
     }
 }
 
-// a particle whose warm pressure makes the error no number in the first iteration, and the pressure
-// 0 in the second
+// a particle whose warm pressure makes the average of its fluid no number in the first iteration, and
+// the pressure 0 in the second
 fn overflowing(most_iterations: usize) -> Scene {
     let particle = FluidParticle {
         volume: 1.0,

@@ -1,4 +1,4 @@
--- The greatest average, fluid by fluid: taking in one fluid more leaves the same for the fluids that remain, so a loop
+-- The error of an iteration, fluid by fluid: taking in one fluid more leaves the same for the fluids that remain, so a loop
 -- that ends with none has the whole. By cases on the fluid's count. Assumes nothing.
 use Prim.Native.Nat.{ℕ, zero, suc, _+_, _<_, _≤_}
 use mathlib.Core.Path.{_≡_, refl, sym, ap, _∙_}

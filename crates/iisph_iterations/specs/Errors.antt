@@ -1,5 +1,5 @@
 -- The error of an iteration as a loop over the fluids makes it: the terms of one fluid, and the error so far
--- against their average. Scaffolding: no promise rests on it. Definitions only.
+-- with their average. Scaffolding: no promise rests on it. Definitions only.
 use Prim.Native.Nat.{ℕ, zero, suc, _+_, _*_}
 use mathlib.Core.List.{List}
 use lib.Ieee.{Float}

@@ -40,7 +40,8 @@ fn put_error(out: &mut [u8], at: usize, error: f64, passed_over: u64) -> usize
     put_decimal(out, last, passed_over)
 }
 
-// How the iterations ended, how many there were, and the last one's error. A step without any has no error.
+// How the iterations ended, how many there were, and the last one's error, with whether an average was passed over. A
+// step without any has neither.
 fn put_ending(out: &mut [u8], at: usize, iterations: u64, ending: Ending) -> usize
     requires { ⌜ at + length (endingText iterations ending) ≤ length (now out) ⌝ }
     ensures { λ r. ⌜ Writes (now (out .entry)) at (endingText iterations ending) (now (out .exit)) r ⌝ }

@@ -4,7 +4,7 @@
 use Prim.Native.Nat.{ℕ, zero, suc, _+_, _≤_}
 use mathlib.Core.Path.{_≡_, refl, sym, ap, subst, _∙_}
 use mathlib.Core.Bool.{Bool, true, false, _&&_}
-use mathlib.Core.List.{List}
+use mathlib.Core.List.{List, [], _∷_}
 use native.Mathlib.Omega.{arith}
 use lib.Dec.{T, leb, leb→le}
 use lib.Ieee
@@ -15,7 +15,7 @@ use Rattle.iisph_rules.specs.Coefficients.{coefficients}
 use Rattle.iisph_rules.specs.Iteration.{Iteration, iteration}
 use Rattle.iisph_rules.specs.Step.{firstPressures, isLast, settledWith, ranOutWith, Solution, iterateFrom}
 use Rattle.iisph_rules.specs.Step.{solution}
-use Rattle.iisph_rules.specs.Endings.{endingValues, endingError}
+use Rattle.iisph_rules.specs.Endings.{endingValues}
 use Rattle.iisph_rules.specs.PassedOver.{iterationAt}
 use Rattle.iisph_rules.specs.declared.Ending.{Ending}
 
@@ -84,17 +84,17 @@ iteration-at s (suc k) = ap (λ (it : Iteration). iteration s (coefficients s) (
 
 -- after i iterations: the ending has the error of the last of them
 abbrev OfLast : Scene → ℕ → Ending → Type 0
-OfLast s i e = (k : ℕ) → i ≡ suc k → endingError e ≡ iterationAt s k .error
+OfLast s i e = (k : ℕ) → i ≡ suc k → endingValues e ≡ iterationAt s k .error ∷ []
 
 of-last : (s : Scene) (i : ℕ) (e : Ending)
-    → endingError e ≡ iteration s (coefficients s) (pressuresAfter s i) .error → OfLast s (suc i) e
+    → endingValues e ≡ iteration s (coefficients s) (pressuresAfter s i) .error ∷ [] → OfLast s (suc i) e
 of-last s i e h k q =
     let same : k ≡ i = omega (arith, q) in
-    h ∙ sym (ap (λ (j : ℕ). iterationAt s j .error) same ∙ ap (λ (it : Iteration). it .error) (iteration-at s i))
+    h ∙ sym (ap (λ (it : Iteration). it .error ∷ []) (ap (iterationAt s) same ∙ iteration-at s i))
 
 iterateFrom-ending : (s : Scene) (n i : ℕ) (e : Ending) → OfLast s i e
     → let w = iterateFrom n s (coefficients s) i (pressuresAfter s i) e in OfLast s (w .iterations) (w .ending)
-unfolding iterateFrom endingError endingValues
+unfolding iterateFrom endingValues
 iterateFrom-ending s zero i e h = h
 iterateFrom-ending s (suc n) i e h =
     let error = iteration s (coefficients s) (pressuresAfter s i) .error in

@@ -14,9 +14,9 @@ use Rattle.math.specs.Real.{larger}
 use Rattle.lists.specs.Lists.{fold, sum}
 use Rattle.scene_format.specs.Scene.{Scene}
 use Rattle.scene_format.specs.SceneOf.{sceneOf}
-use Rattle.iisph_rules.specs.Iteration.{averages, withAverage, errorOf, iteration}
+use Rattle.iisph_rules.specs.Iteration.{averages, noError, withAverage, errorOf, iteration}
 use Rattle.iisph_rules.specs.Step.{reportOf}
-use Rattle.iisph_rules.specs.Endings.{endingError}
+use Rattle.iisph_rules.specs.Endings.{endingValues, endingError}
 use Rattle.iisph_rules.specs.PassedOver.{SomeNan, YesExactly, NanFluid, AveragesOfFluids, iterationAt}
 use Rattle.iisph_rules.specs.PassedOver.{EndingOfLast, PassedOverTold}
 use Rattle.iisph_rules.specs.declared.IterationError.{IterationError}
@@ -134,7 +134,7 @@ unfolding reportOf
 ending-of-last b a =
     let same = accepted-report a in
     let number = ap (λ (r : Report). r .iterations) same in (
-      λ k e. ap (λ (r : Report). endingError (r .ending)) (sym same) ∙ solution-ending (sceneOf b) k (number ∙ e),
+      λ k e. ap (λ (r : Report). endingValues (r .ending)) (sym same) ∙ solution-ending (sceneOf b) k (number ∙ e),
       λ e. ap (λ (r : Report). r .ending) (sym same) ∙ solution-unswept (sceneOf b) (number ∙ e),
     )
 
@@ -144,7 +144,9 @@ error-found s zero = refl
 error-found s (suc k) = refl
 
 pub passed-over-told : PassedOverTold
+unfolding endingError
 passed-over-told b a k e =
-    let q = ap (λ (x : IterationError). x .«passed_over») (ending-of-last b a .0 k e ∙ error-found (sceneOf b) k) in
+    let last = ap (λ (xs : List IterationError). getD xs 0 noError) (ending-of-last b a .0 k e) in
+    let q = ap (λ (x : IterationError). x .«passed_over») (last ∙ error-found (sceneOf b) k) in
     let told = yes-exactly (iterationAt (sceneOf b) k .averages) in
     (λ y. told .0 (sym q ∙ y), λ h. q ∙ told .1 h)

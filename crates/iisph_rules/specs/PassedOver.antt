@@ -5,7 +5,7 @@ use Prim.Native.Nat.{ℕ, zero, suc, _<_}
 use mathlib.Core.Path.{_≡_}
 use mathlib.Core.Bool.{true}
 use mathlib.Core.Logic.{_↔_}
-use mathlib.Core.List.{List}
+use mathlib.Core.List.{List, [], _∷_}
 use lib.Ieee.{Float, nan}
 use lib.ListN.{length, getD, take, drop}
 use Rattle.math.specs.Real.{+0}
@@ -16,7 +16,7 @@ use Rattle.iisph_rules.specs.Coefficients.{coefficients}
 use Rattle.iisph_rules.specs.Iteration.{average, averages, errorOf, Iteration, iteration}
 use Rattle.iisph_rules.specs.Step.{firstPressures}
 use Rattle.iisph_rules.specs.Answer.{Accepted}
-use Rattle.iisph_rules.specs.Endings.{endingError}
+use Rattle.iisph_rules.specs.Endings.{endingValues, endingError}
 use Rattle.iisph_rules.specs.declared.Ending.the-variants.{Unswept}
 
 -- ---- one iteration
@@ -53,7 +53,7 @@ abbrev pub EndingOfLast : Type 0
 EndingOfLast =
     (b : List ℕ) (a : Accepted b)
     → ((k : ℕ) → a .report .iterations ≡ suc k
-    → endingError (a .report .ending) ≡ iterationAt (sceneOf b) k .error)
+    → endingValues (a .report .ending) ≡ iterationAt (sceneOf b) k .error ∷ [])
     × (a .report .iterations ≡ 0 → a .report .ending ≡ Unswept)
 
 -- so a step whose last iteration is number k tells yes exactly if some average of that iteration is not a number

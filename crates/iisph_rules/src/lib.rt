@@ -10,13 +10,13 @@ pub struct IterationError {
     pub passed_over: bool,
 }
 
-// Before the first average.
+// The error before the first average: +0, and nothing passed over.
 pub const NO_ERROR: IterationError = IterationError {
     value: 0.0,
     passed_over: false,
 };
 
-// How the iterations ended (METHOD 7.1), with the two parts of the last iteration's error.
+// How the iterations ended (METHOD 7.1), with the last one's error and whether an average was passed over in it.
 pub enum Ending {
     // There were none.
     Unswept,

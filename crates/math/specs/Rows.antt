@@ -47,7 +47,7 @@ rows =
     ∷ zeroTest (⊝ +0) 1
     ∷ zeroTest (⊝ one) 0
     ∷ zeroTest notANumber 0
-    -- a not-a-number is none, an infinity is one
+    -- yes of a not-a-number alone: an infinity is a number
     ∷ nanTest notANumber 1
     ∷ nanTest (⊝ +∞) 0
     ∷ nanTest (⊝ +0) 0
