@@ -9,7 +9,8 @@ import xml.etree.ElementTree as ElementTree
 from tests.test_answers import CHAMBER, DONE, EXAMPLES, HELD, done, in_chamber
 from tests.test_answers import answer_files, answers, commands, step_rules
 
-PASSED_OVER = "an average was not a number and was passed over: do not trust settled"      # written out, so that a changed text is noticed
+# Written out, so that a changed text is noticed.
+PASSED_OVER = "an average was not a number and was passed over: do not trust settled"
 WARNING, UNTOLD = "WARNING: " + PASSED_OVER, answer_files.UNTOLD
 FLAGS = {" 1": True, " 0": False, "": None}      # behind the error; the last as answers were recorded before
 UNREAL = "NaN", "Infinity", "-Infinity"

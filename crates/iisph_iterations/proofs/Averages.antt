@@ -1,5 +1,5 @@
--- The error of an iteration, fluid by fluid: taking in one fluid more leaves the same for the fluids that remain, so a loop
--- that ends with none has the whole. By cases on the fluid's count. Assumes nothing.
+-- The error of an iteration, fluid by fluid: taking in one fluid more leaves the same for the fluids that remain, so a
+-- loop that ends with none has the whole. By cases on the fluid's count. Assumes nothing.
 use Prim.Native.Nat.{ℕ, zero, suc, _+_, _<_, _≤_}
 use mathlib.Core.Path.{_≡_, refl, sym, ap, _∙_}
 use mathlib.Core.List.{List, [], _∷_}

@@ -26,6 +26,12 @@ use Rattle.iisph_rules.proofs.Locality.{accepted-report}
 
 -- ---- the value is a number
 
+number-or-nan : (x : Float) {A : Type 0} → (x ≡ nan → A) → (Ieee.isNan x ≡ false → A) → A
+unfolding Ieee.isNan
+number-or-nan nan f g = f refl
+number-or-nan (inf s) f g = g refl
+number-or-nan (fin s m e) f g = g refl
+
 nothing-below-nan : (x : Float) → Ieee.lt x nan ≡ false
 unfolding Ieee.lt
 nothing-below-nan nan = refl
@@ -37,10 +43,8 @@ either-number true x y h k = k
 either-number false x y h k = h
 
 larger-number : (x y : Float) → Ieee.isNan x ≡ false → Ieee.isNan (larger x y) ≡ false
-unfolding Ieee.isNan
-larger-number x nan h = rw (nothing-below-nan x) h
-larger-number x (inf s) h = either-number (Ieee.lt x (inf s)) x (inf s) h refl
-larger-number x (fin s m e) h = either-number (Ieee.lt x (fin s m e)) x (fin s m e) h refl
+larger-number x y h =
+    number-or-nan y (λ q. rw (q, nothing-below-nan x) h) (λ n. either-number (Ieee.lt x y) x y h n)
 
 fold-number : (e : IterationError) (ys : List Float) → Ieee.isNan (e .value) ≡ false
     → Ieee.isNan (fold withAverage e ys .value) ≡ false
@@ -54,12 +58,6 @@ unfolding errorOf Ieee.isNan Ieee.ofBits
 error-number averages = fold-number _ averages refl
 
 -- ---- the yes or no
-
-number-or-nan : (x : Float) {A : Type 0} → (x ≡ nan → A) → (Ieee.isNan x ≡ false → A) → A
-unfolding Ieee.isNan
-number-or-nan nan f g = f refl
-number-or-nan (inf s) f g = g refl
-number-or-nan (fin s m e) f g = g refl
 
 or-right : (a : Bool) → a || true ≡ true
 or-right true = refl

@@ -8,15 +8,6 @@ use borrow.Author.Needs.{needs}
 use Rattle.iisph_codes.proofs.advance_listed.Statement.{statement}
 use Rattle.iisph_codes.proofs.advance_listed.Tie as tie
 
-slice-write-clock-2 : tie.Need-slice-write-clock-2
-slice-write-clock-2 c = simp length-set (omega arith)
-
-slice-write-clock-3 : tie.Need-slice-write-clock-3
-slice-write-clock-3 c = simp length-set (omega arith)
-
-slice-write-clock-4 : tie.Need-slice-write-clock-4
-slice-write-clock-4 c = simp length-set (omega arith)
-
 returns : tie.Need-returns
 unfolding clockNumbers clockOf
 returns c = (c .advance .ensures, refl)
@@ -31,8 +22,8 @@ advance-listed-spec =
     (λ c. search needs)
     (λ c κs. search needs)
     (λ c. search needs)
-    slice-write-clock-2
-    slice-write-clock-3
-    slice-write-clock-4
+    (λ c. simp length-set (omega arith))
+    (λ c. simp length-set (omega arith))
+    (λ c. simp length-set (omega arith))
     (λ c. search needs)
     returns)

@@ -7,18 +7,6 @@ use borrow.Author.Needs.{needs}
 use Rattle.iisph_codes.proofs.write_report.Statement.{statement}
 use Rattle.iisph_codes.proofs.write_report.Tie as tie
 
-slice-write-numbers-2 : tie.Need-slice-write-numbers-2
-slice-write-numbers-2 c = simp length-set (omega arith)
-
-slice-write-numbers-3 : tie.Need-slice-write-numbers-3
-slice-write-numbers-3 c = simp length-set (omega arith)
-
-slice-write-numbers-4 : tie.Need-slice-write-numbers-4
-slice-write-numbers-4 c = simp length-set (omega arith)
-
-slice-write-counts-2 : tie.Need-slice-write-counts-2
-slice-write-counts-2 c = simp length-set (omega arith)
-
 returns : tie.Need-returns
 unfolding reportNumbers reportCounts toldOf
 returns c =
@@ -31,12 +19,12 @@ write-report-spec =
     (tie.spec
     (λ c κs. search needs)
     (λ c. search needs)
-    slice-write-numbers-2
-    slice-write-numbers-3
-    slice-write-numbers-4
+    (λ c. simp length-set (omega arith))
+    (λ c. simp length-set (omega arith))
+    (λ c. simp length-set (omega arith))
     (λ c. search needs)
     (λ c. search needs)
-    slice-write-counts-2
+    (λ c. simp length-set (omega arith))
     (λ c. search needs)
     (λ c. search needs)
     returns)
