@@ -16,6 +16,7 @@ use Rattle.math.specs.declared.Vec3.{Vec3}
 use Rattle.scene_format.specs.Bytes.{vectorAt}
 use Rattle.scene_format.specs.Scene.{Scene, FluidParticle, Contact, fluidSize, particle}
 use Rattle.scene_format.specs.SceneOf.{targetAt, contactAt, sceneOf}
+use Rattle.scene_format.specs.declared.Criterion.{Criterion}
 use Rattle.scene_format.specs.declared.Kind.{Kind}
 use Rattle.scene_format.specs.declared.Kind.the-variants.{Fluid, Boundary}
 use Rattle.iisph_rules.specs.Coefficients.{dt, overContacts, particleMass, fluidMass, boundaryMass, density, djiFactor}
@@ -27,11 +28,12 @@ use Rattle.iisph_pressures.specs.IterationRows.{fluidTerm, boundaryTerm,
 use Rattle.scene_index.specs.Contacts.{ContactReady, overFirst, overList}
 use Rattle.iisph_rows.specs.Rows.{rowAt, volumesAt, elementAt, vectorFrom, massSlot, pressureSlot, dijSlot}
 use Rattle.iisph_rows.specs.Rows.{densitySlot, predictedSlot, aiiSlot}
-use Rattle.scene_format.specs.Format.{axes, contactWidth, gradientOffset, startsOf}
+use Rattle.scene_format.specs.Format.{axes, ruleOf, criterionOf, contactWidth, gradientOffset, startsOf}
 use Rattle.scene_index.specs.declared.contacts.ContactList.{ContactList}
 use Rattle.iisph_pressures.specs.declared.iteration.Next.{Next}
 use Rattle.iisph_pressures.specs.declared.iteration.Owner.{Owner}
 use Rattle.iisph_rows.proofs.Particles.{zero-is}
+use Rattle.scene_layout.proofs.Locations.{scene-criterion}
 use Rattle.scene_index.proofs.ContactLists.{contactsOf, ContactsAre, over-list, fold-next}
 use Rattle.iisph_pressures.proofs.IterationReads.{coefficient-at, pressure-in, dij-in, density-in, predicted-in}
 use Rattle.iisph_pressures.proofs.IterationReads.{aii-in, mass-in}
@@ -161,47 +163,51 @@ module _ {b : List ℕ} (i : ℕ) {fluid boundary : ContactList}
 
 -- ---- the next pressure
 
-module _ (density0 aii predicted sum p : Float) where
+module _ (criterion : Criterion) (density0 aii predicted sum p : Float) where
   next-is : {t u : Bool} → t ≡ Ieee.lt aiiLimit (magnitude aii)
       → u ≡ Ieee.lt +0 (relaxed p aii (density0 ⊖ predicted) sum)
       → let next = relaxed p aii (density0 ⊖ predicted) sum in
-      choose t (cond u (record { pressure = next; term = errorTerm density0 aii sum next }) noPressure) noPressure
-      ≡ nextFrom density0 aii predicted sum p
+      choose t
+      (cond u (record { pressure = next; term = errorTerm criterion density0 predicted aii sum next }) noPressure)
+      noPressure
+      ≡ nextFrom criterion density0 aii predicted sum p
   unfolding nextFrom clamped
   next-is e q = rw (e, q)
 
   module _ {m : Float} (me : m ≡ magnitude aii) where
-    pub next-kept : let next = half ⊗ p ⊕ half ⊗ (density0 ⊖ predicted ⊖ sum) ⊘ aii in
+    pub next-kept : {term : Float}
+        → let next = half ⊗ p ⊕ half ⊗ (density0 ⊖ predicted ⊖ sum) ⊘ aii in
         Ieee.lt aiiLimit m ≡ true → Ieee.lt +0 next ≡ true
-        → NextIs (record { pressure = next; term = (⊝ sum ⊖ aii ⊗ next) ⊘ density0 })
-        (nextFrom density0 aii predicted sum p)
-    unfolding relaxed errorTerm choose
-    next-kept e q =
+        → term ≡ errorTerm criterion density0 predicted aii sum next
+        → NextIs (record { pressure = next; term = term }) (nextFrom criterion density0 aii predicted sum p)
+    unfolding relaxed choose
+    next-kept e q te =
         let k = next-is (sym e ∙ ap (Ieee.lt aiiLimit) me) (sym q) in
-        record { pressure = ap (λ k. k .pressure) k; term = ap (λ k. k .term) k }
+        record { pressure = ap (λ k. k .pressure) k; term = te ∙ ap (λ k. k .term) k }
 
     pub next-clamped : let next = half ⊗ p ⊕ half ⊗ (density0 ⊖ predicted ⊖ sum) ⊘ aii in
         Ieee.lt aiiLimit m ≡ true → Ieee.lt +0 next ≡ false
-        → NextIs (record { pressure = +0; term = +0 }) (nextFrom density0 aii predicted sum p)
+        → NextIs (record { pressure = +0; term = +0 }) (nextFrom criterion density0 aii predicted sum p)
     unfolding relaxed choose
     next-clamped e q =
         let k = next-is (sym e ∙ ap (Ieee.lt aiiLimit) me) (sym q) in
         record { pressure = ap (λ k. k .pressure) k; term = ap (λ k. k .term) k }
 
     pub next-none : Ieee.lt aiiLimit m ≡ false
-        → NextIs (record { pressure = +0; term = +0 }) (nextFrom density0 aii predicted sum p)
+        → NextIs (record { pressure = +0; term = +0 }) (nextFrom criterion density0 aii predicted sum p)
     unfolding choose
     next-none e =
         let k = next-is (sym e ∙ ap (Ieee.lt aiiLimit) me) refl in
         record { pressure = ap (λ k. k .pressure) k; term = ap (λ k. k .term) k }
 
-next-same : {d d′ a a′ q q′ s s′ p p′ : Float} → d ≡ d′ → a ≡ a′ → q ≡ q′ → s ≡ s′ → p ≡ p′
-    → nextFrom d a q s p ≡ nextFrom d′ a′ q′ s′ p′
-next-same de ae qe se pe = rw (de, ae, qe, se, pe)
+next-same : {c c′ : Criterion} {d d′ a a′ q q′ s s′ p p′ : Float}
+    → c ≡ c′ → d ≡ d′ → a ≡ a′ → q ≡ q′ → s ≡ s′ → p ≡ p′ → nextFrom c d a q s p ≡ nextFrom c′ d′ a′ q′ s′ p′
+next-same ce de ae qe se pe = rw (ce, de, ae, qe, se, pe)
 
 next-whole : (s : Scene) (ps : List Float) (ds : List Vector) (i : ℕ)
     → let k = coefficient (coefficients s) i in
-    nextFrom (particle s i .density0) (k .aii) (k .predictedDensity) (pressureSum s (coefficients s) ps ds i)
+    nextFrom (s .header .criterion) (particle s i .density0) (k .aii) (k .predictedDensity)
+    (pressureSum s (coefficients s) ps ds i)
     (pressure ps i)
     ≡ nextPressure s (coefficients s) ps ds i
 unfolding nextFrom nextPressure
@@ -231,21 +237,25 @@ pub next-made : (b : List ℕ) {n : ℕ} {work : List Float} → n ≡ fluidSize
     → (i : ℕ) → i < n → {fluid boundary : ContactList}
     → ContactsAre b Fluid (particle (sceneOf b) i) fluid → ContactsAre b Boundary (particle (sceneOf b) i) boundary
     → (t : Float) → t ≡ dt (sceneOf b) → (d : Vec3) → coordinates d ≡ vectorFrom work (rowAt i + dijSlot)
-    → {x y : Float} {r : Next}
+    → {x y : Float} {c : Criterion} {r : Next}
     → let ps = pressuresIn n work in
     let ds = dijsIn n work in
     x ≡ overList Fluid b fluid (withTerm (fluidTerm (sceneOf b) ps ds (ownerOf work n i t d))) +0
     → y ≡ overList Boundary b boundary (withTerm (boundaryTerm (sceneOf b) (boundary .density0) (coordinates d))) x
+    → c ≡ criterionOf (ruleOf b)
     → NextIs r
-    (nextFrom (fluid .density0) (elementAt work (aiiSlot axes * n + i)) (elementAt work (predictedSlot axes * n + i)) y
+    (nextFrom c (fluid .density0) (elementAt work (aiiSlot axes * n + i))
+    (elementAt work (predictedSlot axes * n + i))
+    y
     (elementAt work (rowAt i + pressureSlot axes)))
     → NextIs r (nextPressure (sceneOf b) (coefficients (sceneOf b)) ps ds i)
-next-made b {n} {work} size q i h fs bs t te d de {r = r} xe ye re =
+next-made b {n} {work} size q i h fs bs t te d de {r = r} xe ye ce re =
     let sum =
     sum-made i fs bs (pressuresIn n work) (dijsIn n work) (ownerOf work n i t d) xe ye (de ∙ dij-in work i h)
     (factor-made b (particle (sceneOf b) i) te (mass-in q size i h) (density-in q size i h))
     (pressure-in work i h) in
     subst (NextIs r)
-    (next-same (fs .density0) (aii-in q size i h) (predicted-in q size i h) sum (pressure-in work i h)
+    (next-same (ce ∙ sym (scene-criterion b)) (fs .density0) (aii-in q size i h) (predicted-in q size i h) sum
+    (pressure-in work i h)
     ∙ next-whole (sceneOf b) (pressuresIn n work) (dijsIn n work) i)
     re

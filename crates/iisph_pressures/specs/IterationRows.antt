@@ -12,12 +12,13 @@ use Rattle.iisph_rows.specs.Rows.{quotientSlot}
 use Rattle.iisph_rows.specs.Rows.{rowAt, elementAt, vectorFrom, Rows, Behind}
 use Rattle.iisph_rules.specs.Coefficients.{particleMass, fluidMass, boundaryMass, coefficientsOf, coefficients}
 use Rattle.iisph_rules.specs.Coefficients.{coefficient}
-use Rattle.iisph_rules.specs.Iteration.{pressure, dij, relaxed, NextPressure, noPressure, clamped, aiiLimit}
+use Rattle.iisph_rules.specs.Iteration.{pressure, dij, relaxed, errorTerm, NextPressure, noPressure, clamped, aiiLimit}
 use Rattle.lists.specs.Lists.{choose, table}
 use Rattle.math.specs.Real.{_⊕_, _⊖_, _⊗_, _⊘_, ⊝, magnitude}
 use Rattle.math.specs.Vector.{Vector, coordinates, _⊞_, _⊟_, _⊡_, _·_}
 use Rattle.scene_format.specs.Format.{axes}
 use Rattle.scene_format.specs.Scene.{Scene, Contact, particle}
+use Rattle.scene_format.specs.declared.Criterion.{Criterion}
 use Rattle.iisph_pressures.specs.declared.iteration.Next.{Next}
 use Rattle.iisph_pressures.specs.declared.iteration.Owner.{Owner}
 
@@ -98,11 +99,12 @@ boundaryTerm s density0 d c = boundaryMass s density0 c ⊗ (d · c .gradient)
 abbrev pub withTerm : (Contact → Float) → Float → Contact → Float
 withTerm term sum c = sum ⊕ term c
 
--- `nextPressure` from what it takes of the particle
-unfoldable pub nextFrom : Float → Float → Float → Float → Float → NextPressure
-nextFrom density0 aii predictedDensity sum p =
-    choose (Ieee.lt aiiLimit (magnitude aii))
-    (clamped density0 aii sum (relaxed p aii (density0 ⊖ predictedDensity) sum)) noPressure
+-- `nextPressure` from what it takes of the header and of the particle
+unfoldable pub nextFrom : Criterion → Float → Float → Float → Float → Float → NextPressure
+nextFrom criterion density0 aii predicted sum p =
+    let next = relaxed p aii (density0 ⊖ predicted) sum in
+    choose (Ieee.lt aiiLimit (magnitude aii)) (clamped next (errorTerm criterion density0 predicted aii sum next))
+    noPressure
 
 -- the code's next pressure is this one
 pub record NextIs (r : Next) (k : NextPressure) : Type 0 where

@@ -13,6 +13,7 @@ use iisph_rows::rows::VOLUMES;
 use iisph_rows::rows::vector_at;
 use math::Vec3;
 use math::magnitude;
+use scene_format::Criterion;
 use scene_format::Kind;
 use scene_format::format::CONTACT_GRADIENT;
 use scene_format::format::CONTACT_WIDTH;
@@ -26,7 +27,7 @@ ghost use lib.ListN.{length};
 ghost use Rattle.iisph_rows.specs.Passes.{PassOver, TimedPass};
 ghost use Rattle.iisph_rows.specs.Rows.{rowAt, rowWidth};
 ghost use Rattle.iisph_rules.specs.Coefficients.{coefficients};
-ghost use Rattle.iisph_rules.specs.Iteration.{dijPjl, nextPressure};
+ghost use Rattle.iisph_rules.specs.Iteration.{dijPjl, errorTerm, nextPressure};
 ghost use Rattle.math.specs.Real.{+0};
 ghost use Rattle.math.specs.Vector.{coordinates, origin};
 ghost use Rattle.scene_format.specs.Format.{axes};
@@ -162,17 +163,41 @@ fn boundary_pressure_sum(
     sum
 }
 
+// The error term of a next pressure p above 0: the Rust's, or that of the density which results from the iteration.
+fn error_term(
+    criterion: Criterion,
+    density0: f64,
+    predicted_density: f64,
+    aii: f64,
+    sum: f64,
+    p: f64,
+) -> f64
+    ensures { λ r. ⌜ r ≡ errorTerm criterion density0 «predicted_density» aii sum p ⌝ }
+{
+    match criterion {
+        Criterion::Salva => (-sum - aii * p) / density0,
+        Criterion::Ihmsen => (predicted_density + (sum + aii * p) - density0) / density0,
+    }
+}
+
 // The next pressure from the pressure p and the pressure sum: +0 where |aii| is not above 1e-9, or where it is not
 // above 0.
-fn next_from(density0: f64, aii: f64, predicted_density: f64, sum: f64, p: f64) -> Next
-    ensures { λ r. ⌜ NextIs r (nextFrom density0 aii «predicted_density» sum p) ⌝ }
+fn next_from(
+    criterion: Criterion,
+    density0: f64,
+    aii: f64,
+    predicted_density: f64,
+    sum: f64,
+    p: f64,
+) -> Next
+    ensures { λ r. ⌜ NextIs r (nextFrom criterion density0 aii «predicted_density» sum p) ⌝ }
 {
     if magnitude(aii) > 1e-9 {
         let next = 0.5 * p + 0.5 * (density0 - predicted_density - sum) / aii;
         if next > 0.0 {
             return Next {
                 pressure: next,
-                term: (-sum - aii * next) / density0,
+                term: error_term(criterion, density0, predicted_density, aii, sum, next),
             };
         }
     }
@@ -214,6 +239,7 @@ pub fn next_pressure_of(
     let part = fluid_pressure_sum(scene, index, work, n, fluid, owner);
     let sum = boundary_pressure_sum(scene, index, work, n, boundary, dij, part);
     next_from(
+        read::criterion(scene),
         fluid.density0,
         work[AII * n + i],
         work[PREDICTED_DENSITY * n + i],

@@ -1,6 +1,6 @@
--- The claims of specs/PassedOver.antt: along the averages the answer turns to yes with the first that is not a number
--- and stays, and the value stays a number; a fluid without particles leaves no average. By induction on the lists. An
--- ending has both from the last iteration. Assumes nothing.
+-- The claims of specs/PassedOver.antt: along the averages, under the Rust's criterion, the answer turns to yes with the
+-- first that is not a number and stays, and the value stays a number; a fluid without particles leaves no average. By
+-- induction on the lists. An ending has both from the last iteration. Assumes nothing.
 use Prim.Native.Nat.{ℕ, zero, suc}
 use mathlib.Core.Path.{_≡_, refl, sym, ap, _∙_}
 use mathlib.Core.Bool.{Bool, true, false, cond, _||_, true≢false}
@@ -14,7 +14,9 @@ use Rattle.math.specs.Real.{larger}
 use Rattle.lists.specs.Lists.{fold, sum}
 use Rattle.scene_format.specs.Scene.{Scene}
 use Rattle.scene_format.specs.SceneOf.{sceneOf}
-use Rattle.iisph_rules.specs.Iteration.{averages, noError, withAverage, errorOf, iteration}
+use Rattle.scene_format.specs.declared.Criterion.{Criterion}
+use Rattle.scene_format.specs.declared.Criterion.the-variants.{Salva}
+use Rattle.iisph_rules.specs.Iteration.{averages, noError, firstError, withAverage, errorOf, iteration}
 use Rattle.iisph_rules.specs.Step.{reportOf}
 use Rattle.iisph_rules.specs.Endings.{endingValues, endingError}
 use Rattle.iisph_rules.specs.PassedOver.{SomeNan, YesExactly, NanFluid, AveragesOfFluids, iterationAt}
@@ -47,15 +49,16 @@ larger-number x y h =
     number-or-nan y (λ q. rw (q, nothing-below-nan x) h) (λ n. either-number (Ieee.lt x y) x y h n)
 
 fold-number : (e : IterationError) (ys : List Float) → Ieee.isNan (e .value) ≡ false
-    → Ieee.isNan (fold withAverage e ys .value) ≡ false
+    → Ieee.isNan (fold (withAverage Salva) e ys .value) ≡ false
 unfolding fold withAverage
 fold-number e [] h = h
-fold-number e (y ∷ ys) h = fold-number (withAverage e y) ys (larger-number (e .value) y h)
+fold-number e (y ∷ ys) h = fold-number (withAverage Salva e y) ys (larger-number (e .value) y h)
 
 -- an average that is not a number leaves the error a number
-pub error-number : (averages : List Float) → Ieee.isNan (errorOf averages .value) ≡ false
-unfolding errorOf Ieee.isNan Ieee.ofBits
-error-number averages = fold-number _ averages refl
+pub error-number : (averages : List Float) → Ieee.isNan (errorOf Salva averages .value) ≡ false
+unfolding errorOf firstError Ieee.isNan Ieee.ofBits
+error-number [] = refl
+error-number (x ∷ xs) = fold-number _ (x ∷ xs) refl
 
 -- ---- the yes or no
 
@@ -64,28 +67,29 @@ or-right true = refl
 or-right false = refl
 
 stays-yes : (e : IterationError) (xs : List Float) → e .«passed_over» ≡ true
-    → fold withAverage e xs .«passed_over» ≡ true
+    → fold (withAverage Salva) e xs .«passed_over» ≡ true
 unfolding fold withAverage
 stays-yes e [] h = h
-stays-yes e (x ∷ xs) h = stays-yes (withAverage e x) xs (rw h)
+stays-yes e (x ∷ xs) h = stays-yes (withAverage Salva e x) xs (rw h)
 
-some-yes : (e : IterationError) (xs : List Float) → SomeNan xs → fold withAverage e xs .«passed_over» ≡ true
+some-yes : (e : IterationError) (xs : List Float) → SomeNan xs → fold (withAverage Salva) e xs .«passed_over» ≡ true
 unfolding fold withAverage Ieee.isNan
 some-yes e [] (k, l, q) = absurd (omega (arith, l))
-some-yes e (x ∷ xs) (zero, l, q) = stays-yes (withAverage e x) xs (rw q (or-right (e .«passed_over»)))
-some-yes e (x ∷ xs) (suc k, l, q) = some-yes (withAverage e x) xs (k, omega (arith, l), q)
+some-yes e (x ∷ xs) (zero, l, q) = stays-yes (withAverage Salva e x) xs (rw q (or-right (e .«passed_over»)))
+some-yes e (x ∷ xs) (suc k, l, q) = some-yes (withAverage Salva e x) xs (k, omega (arith, l), q)
 
 yes-some : (e : IterationError) (xs : List Float) → e .«passed_over» ≡ false
-    → fold withAverage e xs .«passed_over» ≡ true → SomeNan xs
+    → fold (withAverage Salva) e xs .«passed_over» ≡ true → SomeNan xs
 unfolding fold withAverage
 yes-some e [] h y = absurd (true≢false (sym y ∙ h))
 yes-some e (x ∷ xs) h y =
     number-or-nan x (λ q. (0, omega arith, q))
-    (λ n. let (k, l, q) = yes-some (withAverage e x) xs (rw (h, n)) y in (suc k, omega (arith, l), q))
+    (λ n. let (k, l, q) = yes-some (withAverage Salva e x) xs (rw (h, n)) y in (suc k, omega (arith, l), q))
 
 pub yes-exactly : YesExactly
-unfolding errorOf
-yes-exactly xs = (yes-some _ xs refl, some-yes _ xs)
+unfolding errorOf firstError
+yes-exactly [] = (λ y. absurd (true≢false (sym y)), λ (k, l, q). absurd (omega (arith, l)))
+yes-exactly (x ∷ xs) = (yes-some _ (x ∷ xs) refl, some-yes _ (x ∷ xs))
 
 -- ---- an average for each fluid that has particles
 
@@ -136,15 +140,18 @@ ending-of-last b a =
       λ e. ap (λ (r : Report). r .ending) (sym same) ∙ solution-unswept (sceneOf b) (number ∙ e),
     )
 
-error-found : (s : Scene) (k : ℕ) → iterationAt s k .error ≡ errorOf (iterationAt s k .averages)
+pub error-found : (s : Scene) (k : ℕ)
+    → iterationAt s k .error ≡ errorOf (s .header .criterion) (iterationAt s k .averages)
 unfolding iterationAt iteration
 error-found s zero = refl
 error-found s (suc k) = refl
 
 pub passed-over-told : PassedOverTold
 unfolding endingError
-passed-over-told b a k e =
+passed-over-told b a k c e =
     let last = ap (λ (xs : List IterationError). getD xs 0 noError) (ending-of-last b a .0 k e) in
-    let q = ap (λ (x : IterationError). x .«passed_over») (last ∙ error-found (sceneOf b) k) in
-    let told = yes-exactly (iterationAt (sceneOf b) k .averages) in
+    let averages = iterationAt (sceneOf b) k .averages in
+    let found = error-found (sceneOf b) k ∙ ap (λ (c : Criterion). errorOf c averages) c in
+    let q = ap (λ (x : IterationError). x .«passed_over») (last ∙ found) in
+    let told = yes-exactly averages in
     (λ y. told .0 (sym q ∙ y), λ h. q ∙ told .1 h)

@@ -1,6 +1,6 @@
--- One iteration over the pressures (METHOD 6), from the coefficients `co` and the old pressures
--- `ps` of all fluid particles, by their numbers. Its error is made in three steps: a term for each particle, an average
--- for each fluid, a fold over the averages. Definitions only.
+-- One iteration over the pressures (METHOD 6), from the coefficients `co` and the old pressures `ps` of all fluid
+-- particles, by their numbers. Its error is made in three steps: a term for each particle, by the criterion; an average
+-- for each fluid; a fold over the averages, by the criterion. Definitions only.
 use Prim.Native.Nat.{ℕ, zero, suc}
 use mathlib.Core.Bool.{false, cond, _||_}
 use mathlib.Core.List.{List, [], _∷_, map}
@@ -8,10 +8,12 @@ use lib.ListN.{getD, take, drop}
 use lib.IntN.{pos}
 use lib.Ieee
 use lib.Ieee.{Float, binary64}
-use Rattle.math.specs.Real.{_⊕_, _⊖_, _⊗_, _⊘_, ⊝, bits, +0, half, isNan, magnitude, larger, total}
+use Rattle.math.specs.Real.{_⊕_, _⊖_, _⊗_, _⊘_, ⊝, bits, +0, -∞, half, isNan, magnitude, larger, total}
 use Rattle.math.specs.Vector.{Vector, _⊞_, _⊟_, _⊡_, _·_}
 use Rattle.lists.specs.Lists.{fold, table, choose}
 use Rattle.scene_format.specs.Scene.{Scene, FluidParticle, fluidSize, particle}
+use Rattle.scene_format.specs.declared.Criterion.{Criterion}
+use Rattle.scene_format.specs.declared.Criterion.the-variants.{Salva, Ihmsen}
 use Rattle.iisph_rules.specs.Coefficients.{dt, zeroVector, overContacts, fluidMass, boundaryMass, djiFactor}
 use Rattle.iisph_rules.specs.Coefficients.{Coefficients, coefficient}
 use Rattle.iisph_rules.specs.declared.IterationError.{IterationError}
@@ -63,9 +65,11 @@ pressureSum s co ps ds i =
 unfoldable pub relaxed : Float → Float → Float → Float → Float
 relaxed p aii derr sum = half ⊗ p ⊕ half ⊗ (derr ⊖ sum) ⊘ aii
 
--- the error term of a next pressure p above 0: ((-sum) - aii × p) / rest
-unfoldable pub errorTerm : Float → Float → Float → Float → Float
-errorTerm density0 aii sum p = (⊝ sum ⊖ aii ⊗ p) ⊘ density0
+-- the error term of a next pressure p above 0. The Rust's: ((-sum) - aii × p) / rest. Ihmsen's, of the density that
+-- results from the iteration: ((predicted + (sum + aii × p)) - rest) / rest
+unfoldable pub errorTerm : Criterion → Float → Float → Float → Float → Float → Float
+errorTerm Salva density0 predicted aii sum p = (⊝ sum ⊖ aii ⊗ p) ⊘ density0
+errorTerm Ihmsen density0 predicted aii sum p = (predicted ⊕ (sum ⊕ aii ⊗ p) ⊖ density0) ⊘ density0
 
 -- a next pressure with its error term
 pub record NextPressure : Type 0 where
@@ -75,10 +79,9 @@ pub record NextPressure : Type 0 where
 abbrev pub noPressure : NextPressure
 noPressure = record { pressure = +0; term = +0 }
 
--- a next pressure is kept if it is above 0; if not, or if it is no number, there is none
-unfoldable pub clamped : Float → Float → Float → Float → NextPressure
-clamped density0 aii sum p =
-    cond (Ieee.lt +0 p) (record { pressure = p; term = errorTerm density0 aii sum p }) noPressure
+-- a next pressure p is kept, with its term, if it is above 0; if not, or if it is no number, there is none
+unfoldable pub clamped : Float → Float → NextPressure
+clamped p term = cond (Ieee.lt +0 p) (record { pressure = p; term = term }) noPressure
 
 -- 1e-9
 abbrev pub aiiLimit : Float
@@ -88,10 +91,12 @@ aiiLimit = bits 0x3E112E0BE826D695
 unfoldable pub nextPressure : Scene → List Coefficients → List Float → List Vector → ℕ → NextPressure
 nextPressure s co ps ds i =
     let density0 = particle s i .density0 in
+    let predicted = coefficient co i .predictedDensity in
     let aii = coefficient co i .aii in
-    let derr = density0 ⊖ coefficient co i .predictedDensity in
     let sum = pressureSum s co ps ds i in
-    choose (Ieee.lt aiiLimit (magnitude aii)) (clamped density0 aii sum (relaxed (pressure ps i) aii derr sum))
+    let next = relaxed (pressure ps i) aii (density0 ⊖ predicted) sum in
+    choose (Ieee.lt aiiLimit (magnitude aii))
+    (clamped next (errorTerm (s .header .criterion) density0 predicted aii sum next))
     noPressure
 
 -- of each fluid particle; all from the old pressures, beside which they are stored
@@ -110,17 +115,25 @@ averages [] terms = []
 averages (zero ∷ counts) terms = averages counts terms
 averages (suc n ∷ counts) terms = average (suc n) (take (suc n) terms) ∷ averages counts (drop (suc n) terms)
 
--- before the first average
+-- where there are no averages
 abbrev pub noError : IterationError
 noError = record { value = +0; «passed_over» = false }
 
--- with one average more: the average, if it is greater; one that is not a number is passed over, and that is noted
-unfoldable pub withAverage : IterationError → Float → IterationError
-withAverage e x = record { value = larger (e .value) x; «passed_over» = e .«passed_over» || isNan x }
+-- before the first average: the Rust's error is +0; Ihmsen's is -infinity, below which no average lies
+unfoldable pub firstError : Criterion → IterationError
+firstError Salva = noError
+firstError Ihmsen = record { value = -∞; «passed_over» = false }
 
--- the greatest of +0 and the averages that are numbers, and whether some average is not a number
-unfoldable pub errorOf : List Float → IterationError
-errorOf xs = fold withAverage noError xs
+-- with one average more: the average, if it is greater. One that is not a number the Rust passes over, and that is
+-- noted; under Ihmsen's criterion the error is then not a number, and stays so
+unfoldable pub withAverage : Criterion → IterationError → Float → IterationError
+withAverage Salva e x = record { value = larger (e .value) x; «passed_over» = e .«passed_over» || isNan x }
+withAverage Ihmsen e x = record { value = cond (isNan x) x (larger (e .value) x); «passed_over» = false }
+
+-- of all averages
+unfoldable pub errorOf : Criterion → List Float → IterationError
+errorOf criterion [] = noError
+errorOf criterion (x ∷ xs) = fold (withAverage criterion) (firstError criterion) (x ∷ xs)
 
 -- ---- the iteration
 
@@ -134,4 +147,4 @@ unfoldable pub iteration : Scene → List Coefficients → List Float → Iterat
 iteration s co ps =
     let next = nextPressures s co ps in
     let found = averages (s .fluidCounts) (map (λ n. n .term) next) in
-    record { pressures = map (λ n. n .pressure) next; averages = found; error = errorOf found }
+    record { pressures = map (λ n. n .pressure) next; averages = found; error = errorOf (s .header .criterion) found }

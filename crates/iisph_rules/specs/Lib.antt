@@ -4,4 +4,5 @@ pub mod Step
 pub mod Answer
 pub mod Endings
 pub mod PassedOver
+pub mod Largest
 pub mod Locality

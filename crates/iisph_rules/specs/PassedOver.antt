@@ -1,6 +1,6 @@
--- What the yes or no of an iteration's error tells (METHOD 6.4, 7.1), each claim as one type: yes exactly if some
--- average is not a number, and an ending carries that of the last iteration. proofs/PassedOver.antt proves the claims.
--- Definitions only.
+-- What the yes or no of an iteration's error tells (METHOD 6.4, 7.1), each claim as one type: under the Rust's criterion
+-- yes exactly if some average is not a number, and an ending carries that of the last iteration.
+-- proofs/PassedOver.antt proves the claims. Definitions only.
 use Prim.Native.Nat.{ℕ, zero, suc, _<_}
 use mathlib.Core.Path.{_≡_}
 use mathlib.Core.Bool.{true}
@@ -12,6 +12,7 @@ use Rattle.math.specs.Real.{+0}
 use Rattle.lists.specs.Lists.{sum}
 use Rattle.scene_format.specs.Scene.{Scene}
 use Rattle.scene_format.specs.SceneOf.{sceneOf}
+use Rattle.scene_format.specs.declared.Criterion.the-variants.{Salva}
 use Rattle.iisph_rules.specs.Coefficients.{coefficients}
 use Rattle.iisph_rules.specs.Iteration.{average, averages, errorOf, Iteration, iteration}
 use Rattle.iisph_rules.specs.Step.{firstPressures}
@@ -27,7 +28,7 @@ SomeNan xs = (k : ℕ) × (k < length xs) × (getD xs k +0 ≡ nan)
 
 -- yes exactly if some average is not a number
 abbrev pub YesExactly : Type 0
-YesExactly = (xs : List Float) → errorOf xs .«passed_over» ≡ true ↔ SomeNan xs
+YesExactly = (xs : List Float) → errorOf Salva xs .«passed_over» ≡ true ↔ SomeNan xs
 
 -- fluid m is there and has particles, and the average of its terms, which stand behind those of the fluids before it,
 -- is not a number
@@ -56,8 +57,9 @@ EndingOfLast =
     → endingValues (a .report .ending) ≡ iterationAt (sceneOf b) k .error ∷ [])
     × (a .report .iterations ≡ 0 → a .report .ending ≡ Unswept)
 
--- so a step whose last iteration is number k tells yes exactly if some average of that iteration is not a number
+-- so a step by the Rust's criterion whose last iteration is number k tells yes exactly if some average of that
+-- iteration is not a number
 abbrev pub PassedOverTold : Type 0
 PassedOverTold =
-    (b : List ℕ) (a : Accepted b) (k : ℕ) → a .report .iterations ≡ suc k
+    (b : List ℕ) (a : Accepted b) (k : ℕ) → sceneOf b .header .criterion ≡ Salva → a .report .iterations ≡ suc k
     → endingError (a .report .ending) .«passed_over» ≡ true ↔ SomeNan (iterationAt (sceneOf b) k .averages)

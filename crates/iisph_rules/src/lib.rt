@@ -10,7 +10,7 @@ pub struct IterationError {
     pub passed_over: bool,
 }
 
-// The error before the first average: +0, and nothing passed over.
+// The error where there are no averages: +0, and nothing passed over.
 pub const NO_ERROR: IterationError = IterationError {
     value: 0.0,
     passed_over: false,

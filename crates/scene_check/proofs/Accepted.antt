@@ -1,7 +1,7 @@
 -- What holds of an accepted packed scene (refusals 1 to 7): besides what Fields says, every contact names a particle
 -- that is there. The walk over the names goes through the same records and models as the one over the fields, and is
 -- taken apart in the same way. Assumes nothing.
-use Prim.Native.Nat.{ℕ, _+_, _*_, _<_}
+use Prim.Native.Nat.{ℕ, _+_, _*_, _<_, _≤_}
 use mathlib.Core.Path.{_≡_, refl}
 use mathlib.Core.Bool.{Bool, true, false}
 use mathlib.Core.List.{List}
@@ -124,3 +124,6 @@ module _ (b : List ℕ) where
 
   pub accepted-within : {e : ℕ} → checked b ≡ At e → (κ : Kind) → ModelsWithin κ b
   accepted-within q = models-within (accepted q .fields)
+
+  pub accepted-header : {e : ℕ} → checked b ≡ At e → headerWidth axes ≤ length b
+  accepted-header q = accepted q .fields .header .room

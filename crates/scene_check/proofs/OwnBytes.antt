@@ -10,6 +10,7 @@ use lib.Dec.{ltb}
 use borrow.Author.Tests.{ltb-true, ltb-false}
 use Rattle.lists.specs.Lists.{startsFrom, sum}
 use Rattle.lists.proofs.Lists.{table-same}
+use Rattle.math.specs.Real.{bits}
 use Rattle.scene_format.specs.Bytes.{Bytes, byteAt, be16At, be32At, be64At, doubleWidth, doubleAt, vectorAt}
 use Rattle.scene_format.specs.Format.{axes, vectorWidth, minPressureIterOffset, maxPressureIterOffset}
 use Rattle.scene_format.specs.Format.{totalStepSizeOffset, remainingTimeOffset, maxDensityErrorOffset, gravityOffset}
@@ -51,9 +52,13 @@ module _ {b b′ : List ℕ} {at at′ n : ℕ} (s : SameBytes b at b′ at′ n
       omega (arith, same-first (omega arith), s .each 1 (omega arith), s .each 2 (omega arith), s .each 3 (omega arith))
 
 module _ {b b′ : List ℕ} where
+  pub same-be64 : {at at′ n : ℕ} → SameBytes b at b′ at′ n → doubleWidth ≤ n → be64At b at ≡ be64At b′ at′
+  unfolding be64At
+  same-be64 s h = cc (same-be32 s (omega arith), same-be32 (same-part s 4 4 (omega arith)) (omega arith))
+
   pub same-double : {at at′ n : ℕ} → SameBytes b at b′ at′ n → doubleWidth ≤ n → doubleAt b at ≡ doubleAt b′ at′
-  unfolding doubleAt be64At
-  same-double s h = cc (same-be32 s (omega arith), same-be32 (same-part s 4 4 (omega arith)) (omega arith))
+  unfolding doubleAt
+  same-double s h = ap bits (same-be64 s h)
 
   pub same-vector : (d : ℕ) {at at′ n : ℕ} → SameBytes b at b′ at′ n → vectorWidth d ≤ n
       → vectorAt d b at ≡ vectorAt d b′ at′
@@ -143,21 +148,26 @@ module _ {b b′ : List ℕ} {p p′ : Location} where
       same-keeps k k′ (boundaryContactCount b k (p .at)) (boundaryContactCount b′ k′ (p′ .at))
       (keeps-below b y (p .head)) (keeps-below b′ y′ (p′ .head)) (omega (arith, h .long))
 
-  pub same-boundary-particle : Bytes b → Bytes b′ → SameRecord Boundary b p b′ p′
+  -- where it is known otherwise that both keep forces or neither does
+  pub same-kept-particle : keepsAt b (p .head) ≡ keepsAt b′ (p′ .head) → SameRecord Boundary b p b′ p′
       → boundaryParticleAt b p ≡ boundaryParticleAt b′ p′
   unfolding boundaryParticleAt nextRecord ownWidth contactsWidth
-  same-boundary-particle y y′ h =
+  same-kept-particle e h =
       let s = h .bytes in
       let k = keepsAt b (p .head) in
       let c = boundaryContactCount b k (p .at) in
       let contacts = same-part s (boundaryRecordWidth axes k) (boundaryContactWidth * c) (omega arith) in
-      rw (← same-record-keeps y y′ h)
+      rw (← e)
       (cc (
         same-vector axes s (omega arith),
         same-force k (same-part s (forceOffset axes) (vectorWidth axes * k) (omega arith)) (omega arith),
         s .each (boundaryCountOffset axes k) (omega arith),
         same-weights c contacts (omega arith),
       ))
+
+  pub same-boundary-particle : Bytes b → Bytes b′ → SameRecord Boundary b p b′ p′
+      → boundaryParticleAt b p ≡ boundaryParticleAt b′ p′
+  same-boundary-particle y y′ h = same-kept-particle (same-record-keeps y y′ h) h
 
 -- ---- two scenes
 
@@ -166,6 +176,7 @@ module _ {b b′ : List ℕ} (s : SameBytes b 0 b′ 0 (headerWidth axes)) where
   unfolding headerOf
   same-header =
       cc (
+        s .each 1 (omega arith),
         s .each minPressureIterOffset (omega arith),
         s .each maxPressureIterOffset (omega arith),
         same-double (same-part s totalStepSizeOffset doubleWidth (omega arith)) (omega arith),

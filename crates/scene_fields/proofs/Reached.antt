@@ -3,19 +3,19 @@
 -- Assumes nothing.
 use Prim.Native.Nat.{ℕ, zero, suc, _+_, _*_, _<_, _≤_}
 use mathlib.Core.Path.{_≡_, refl, ap, subst, _∙_}
-use mathlib.Core.Bool.{Bool, true, false}
+use mathlib.Core.Bool.{Bool, true, false, _||_, true≢false}
 use mathlib.Core.List.{List}
 use native.Mathlib.Nat.{not-suc-le-zero, le-of-suc-le-suc, mul-zero, mul-suc}
 use native.Mathlib.Omega.{arith}
 use lib.ListN.{length}
-use borrow.Author.Tests.{leb-true, ltb-false, eqb-true, eqb-false, not-false}
+use borrow.Author.Tests.{leb-true, ltb-false, eqb-false, not-false}
 use Rattle.lists.specs.Lists.{choose, iter}
 use Rattle.scene_format.specs.Bytes.{byteAt, doubleWidth, FiniteAt}
 use Rattle.scene_format.specs.Format.{mostModels, mostParticles, upperHalf, lowerHalf, countWidth, particlesAt}
 use Rattle.scene_fields.specs.Fields.{_▹_, times, refusedIf, field, plain, double, count, halfByte, halves, ended}
 use Rattle.scene_format.specs.declared.Kind.{Kind}
 use Rattle.scene_fields.specs.declared.fields.Half.{Half}
-use Rattle.scene_fields.specs.declared.fields.Half.the-variants.{Fixed, ModelCount}
+use Rattle.scene_fields.specs.declared.fields.Half.the-variants.{Between, ModelCount}
 use Rattle.scene_format.specs.declared.Walk.{Walk}
 use Rattle.scene_format.specs.declared.Walk.the-variants.{At, Refused}
 use Rattle.scene_format.specs.declared.Refusal.{Refusal}
@@ -103,11 +103,15 @@ field-leads : (b : List ℕ) (k : ℕ) (rule : ℕ → Walk) {at x : ℕ} {Q : T
 unfolding field
 field-leads b k rule l = restated (refused-if-leads _ _ l) (λ h. (refl, (leb-true _ _ (not-false _ (h .0)), h .1)))
 
+or-false : (a b : Bool) → a || b ≡ false → (a ≡ false) × (b ≡ false)
+or-false false b q = (refl, q)
+or-false true b q = absurd (true≢false q)
+
 -- ---- single fields
 
 -- what a half that is passed holds
 unfoldable pub HalfOk : Half → ℕ → Type 0
-HalfOk (Fixed wanted) x = x ≡ wanted
+HalfOk (Between least most) x = (least ≤ x) × (x ≤ most)
 HalfOk ModelCount x = x ≤ mostModels
 
 module _ (b : List ℕ) where
@@ -131,17 +135,18 @@ module _ (b : List ℕ) where
   half-leads : (rule : Half) (x at : ℕ) {w : Walk} {y : ℕ} {Q : Type 0} → Leads w y Q
       → Leads (halfByte rule x at w) y (HalfOk rule x × Q)
   unfolding halfByte HalfOk
-  half-leads (Fixed wanted) x at l =
-      restated (refused-if-leads _ _ l) (λ h. (refl, (eqb-true _ _ (not-false _ (h .0)), h .1)))
+  half-leads (Between least most) x at l =
+      restated (refused-if-leads _ _ l)
+      (λ h. let (a, b) = or-false _ _ (h .0) in (refl, ((ltb-false _ _ a, ltb-false _ _ b), h .1)))
   half-leads ModelCount x at l = restated (refused-if-leads _ _ l) (λ h. (refl, (ltb-false _ _ (h .0), h .1)))
 
   pub halves-steps : (upper lower : Half)
       → Steps (halves b upper lower) (λ at. at + 1)
-      (λ at. HalfOk upper (upperHalf (byteAt b at)) × HalfOk lower (lowerHalf (byteAt b at)))
+      (λ at. (at + 1 ≤ length b) × HalfOk upper (upperHalf (byteAt b at)) × HalfOk lower (lowerHalf (byteAt b at)))
   unfolding halves
   halves-steps upper lower at =
       restated (field-leads b 1 _ (half-leads upper _ at (half-leads lower _ at (stay _))))
-      (λ h. (refl, (h .1 .0, h .1 .1 .0)))
+      (λ h. (refl, (h .0, h .1 .0, h .1 .1 .0)))
 
   pub ended-steps : Steps (ended b) (λ at. at) (λ at. length b ≤ at)
   unfolding ended

@@ -12,6 +12,8 @@ use scene_format::read::byte;
 use scene_format::read::non_finite;
 use scene_format::read::particles;
 ghost use mathlib.Core.Path.{_≡_};
+ghost use mathlib.Core.Bool.{_||_};
+ghost use lib.Dec.{ltb};
 ghost use Rattle.scene_fields.specs.Fields as walk;
 
 // A field of k bytes with no rule of its own. Every other field is read only once it has passed this.
@@ -72,10 +74,17 @@ pub fn count(s: &[u8], kind: Kind, at: usize) -> Walk
     Walk::At(next)
 }
 
-// The rule of half a byte: a fixed number, or a number of models.
+// The rule of half a byte: it lies between two numbers, each included, or is a number of models.
 pub enum Half {
-    Fixed(usize),
+    Between(usize, usize),
     ModelCount,
+}
+
+// Whether x is below or above all numbers between two.
+fn outside(x: usize, least: usize, most: usize) -> bool
+    ensures { λ r. ⌜ r ≡ (ltb x least || ltb most x) ⌝ }
+{
+    x < least || most < x
 }
 
 // Half a byte, x, at an offset: its refusal, or the walk onward.
@@ -83,8 +92,8 @@ fn half_byte(rule: Half, x: usize, at: usize, onward: Walk) -> Walk
     ensures { λ r. ⌜ r ≡ walk.halfByte rule x at onward ⌝ }
 {
     match rule {
-        Half::Fixed(wanted) => {
-            if x != wanted {
+        Half::Between(least, most) => {
+            if outside(x, least, most) {
                 return Walk::Refused(Refusal::UnknownForm(at));
             }
         }

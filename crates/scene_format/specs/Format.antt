@@ -2,10 +2,14 @@
 -- customer's walls, are two kinds of models with one description: what is said of models is said once, by their kind.
 -- Total: of bytes that the check refuses it says nothing useful. Definitions only.
 use Prim.Native.Nat.{ℕ, _+_, _*_, _/_, _%_}
+use mathlib.Core.Bool.{cond}
 use mathlib.Core.List.{List, map, flatten}
+use lib.Dec.{eqb}
 use lib.ListN.{getD}
 use Rattle.lists.specs.Lists.{iter, trail, startsFrom}
 use Rattle.scene_format.specs.Bytes.{byteAt, be16At, doubleWidth}
+use Rattle.scene_format.specs.declared.Criterion.{Criterion}
+use Rattle.scene_format.specs.declared.Criterion.the-variants.{Salva, Ihmsen}
 use Rattle.scene_format.specs.declared.Kind.{Kind}
 use Rattle.scene_format.specs.declared.Kind.the-variants.{Fluid, Boundary}
 
@@ -46,17 +50,31 @@ upperHalf x = x / halfModulus
 abbrev pub lowerHalf : ℕ → ℕ
 lowerHalf x = x % halfModulus
 
--- the version, and the only one there is
+-- the version: the first, and version 2, which has its layout and names a rule
 abbrev pub versionOf : List ℕ → ℕ
 versionOf b = upperHalf (byteAt b 0)
 
-abbrev pub knownVersion : ℕ
-knownVersion = 1
+abbrev pub firstVersion : ℕ
+firstVersion = 1
+
+abbrev pub lastVersion : ℕ
+lastVersion = 2
 
 -- how many models of a kind there are
 abbrev pub modelNumber : Kind → List ℕ → ℕ
 modelNumber Fluid b = lowerHalf (byteAt b 0)
 modelNumber Boundary b = upperHalf (byteAt b 1)
+
+-- the number of the rule by which the iterations stop, and the greatest one of a version: the first has zeros there
+abbrev pub ruleOf : List ℕ → ℕ
+ruleOf b = lowerHalf (byteAt b 1)
+
+abbrev pub mostRule : ℕ → ℕ
+mostRule version = cond (eqb version firstVersion) 0 1
+
+-- what a rule's number stands for
+unfoldable pub criterionOf : ℕ → Criterion
+criterionOf rule = cond (eqb rule 0) Salva Ihmsen
 
 abbrev pub minPressureIterOffset : ℕ
 minPressureIterOffset = 2

@@ -2,7 +2,7 @@
 use Prim.Native.Nat.{ℕ, _+_, _*_, _/_, _%_}
 use mathlib.Core.List.{List, [], _∷_, _++_, map, flatten}
 use lib.ListN.{length, replicate}
-use Rattle.scene_format.specs.Format.{axes, nameableParticles, halfModulus, knownVersion, countModulus}
+use Rattle.scene_format.specs.Format.{axes, nameableParticles, halfModulus, firstVersion, countModulus}
 use Rattle.scene_format.specs.declared.Kind.the-variants.{Boundary}
 
 -- ---- numbers, the most significant byte first
@@ -74,11 +74,16 @@ pub record Header : Type 0 where
   pub maxDensityError : ℕ
   pub gravity : List ℕ
 
-unfoldable pub packed : Header → List (List ℕ) → List (List ℕ) → List ℕ
-packed h fluids boundaries =
-    (halfModulus * knownVersion + length fluids)
-    ∷ (halfModulus * length boundaries)
+-- in a version and with a rule
+unfoldable pub packedAs : ℕ → ℕ → Header → List (List ℕ) → List (List ℕ) → List ℕ
+packedAs version rule h fluids boundaries =
+    (halfModulus * version + length fluids)
+    ∷ (halfModulus * length boundaries + rule)
     ∷ h .minPressureIter
     ∷ h .maxPressureIter
     ∷ doubles (h .totalStepSize ∷ h .remainingTime ∷ h .maxDensityError ∷ h .gravity)
     ++ (flatten fluids ++ flatten boundaries)
+
+-- in the first version, which has no rule but 0
+unfoldable pub packed : Header → List (List ℕ) → List (List ℕ) → List ℕ
+packed h fluids boundaries = packedAs firstVersion 0 h fluids boundaries

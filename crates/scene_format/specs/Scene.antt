@@ -7,6 +7,7 @@ use lib.Ieee.{Float}
 use lib.ListN.{length, getD}
 use Rattle.math.specs.Real.{+0}
 use Rattle.math.specs.Vector.{Vector}
+use Rattle.scene_format.specs.declared.Criterion.{Criterion}
 use Rattle.scene_format.specs.declared.Kind.{Kind}
 use Rattle.scene_format.specs.declared.Kind.the-variants.{Fluid, Boundary}
 
@@ -35,9 +36,11 @@ pub record BoundaryParticle : Type 0 where
   pub force : Vector
   pub weights : List Float
 
--- the number of axes, the least and the most iterations, the step length, the remaining time, the error limit, gravity
+-- the number of axes, the criterion by which the iterations stop, the least and the most iterations, the step length,
+-- the remaining time, the error limit, gravity
 pub record Header : Type 0 where
   pub axes : ℕ
+  pub criterion : Criterion
   pub minPressureIter : ℕ
   pub maxPressureIter : ℕ
   pub totalStepSize : Float

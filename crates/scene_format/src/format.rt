@@ -23,8 +23,10 @@ pub const Z: usize = 2 * DOUBLE_WIDTH;
 // Half a byte, four bits, has so many values.
 pub const HALF_MODULUS: usize = 16;
 
-// The header: the only version there is, the numbers that stand by themselves, then gravity.
-pub const VERSION: usize = 1;
+// The header: the first version and the last, the numbers that stand by themselves, then gravity.
+pub const FIRST_VERSION: usize = 1;
+
+pub const LAST_VERSION: usize = 2;
 
 pub const MIN_PRESSURE_ITER: usize = 2;
 

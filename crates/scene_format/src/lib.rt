@@ -9,7 +9,7 @@ ghost use Rattle.scene_format.specs.Refusals.{numberOf, placeOf};
 pub enum Refusal {
     // 1: a field is not wholly there.
     MissingField(usize),
-    // 2: another version than 1, or a bit set where zeros belong.
+    // 2: a version that is not known, or a rule that its version does not have.
     UnknownForm(usize),
     // 3: more than 8 fluids or boundaries.
     TooManyModels(usize),
@@ -75,6 +75,12 @@ pub enum Walk {
 pub enum Kind {
     Fluid,
     Boundary,
+}
+
+// By which error the iterations stop (METHOD 6.3 and 6.4): the Rust's, or that of Ihmsen et al. 2014.
+pub enum Criterion {
+    Salva,
+    Ihmsen,
 }
 
 // The model that a contact names (the Rust's `j_model`).

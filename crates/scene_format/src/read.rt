@@ -1,5 +1,6 @@
 // Reads at an offset. They ask for what an accepted scene gives: the bytes are there, and a double is finite.
 use crate::ContactName;
+use crate::Criterion;
 use crate::Kind;
 use crate::ModelNumber;
 use crate::ParticleNumber;
@@ -8,6 +9,7 @@ use crate::format::BOUNDARY_CONTACTS;
 use crate::format::BOUNDARY_COUNT_MODULUS;
 use crate::format::CONTACT_WIDTH;
 use crate::format::COUNT_WIDTH;
+use crate::format::FIRST_VERSION;
 use crate::format::FLUID_CONTACTS;
 use crate::format::FLUID_HEAD_WIDTH;
 use crate::format::HALF_MODULUS;
@@ -27,6 +29,7 @@ ghost use Rattle.scene_format.specs.Bytes.{nonFiniteExponent, plainlyFin
 ghost use Rattle.scene_format.specs.Bytes.{vectorAt, FiniteAt, AllFinite};
 ghost use Rattle.scene_format.specs.Format.{axes, countWidth, keepsAt, nameWidth, particlesAt, firstRecord};
 ghost use Rattle.scene_format.specs.Format.{nextRecord, countModulus, minPressureIterOffset, modelNumber};
+ghost use Rattle.scene_format.specs.Format.{versionOf, ruleOf, mostRule, criterionOf};
 ghost use Rattle.scene_format.specs.Within.{NameIs, RecordWithin};
 
 // A byte as a wider number.
@@ -152,6 +155,30 @@ pub fn model_number(s: &[u8], kind: Kind) -> usize
     match kind {
         Kind::Fluid => byte(s, 0) % HALF_MODULUS,
         Kind::Boundary => byte(s, 1) / HALF_MODULUS,
+    }
+}
+
+// Of the header: the criterion that its rule stands for.
+pub fn criterion(s: &[u8]) -> Criterion
+    requires { ⌜ minPressureIterOffset ≤ length (now s) ⌝ }
+    ensures { λ r. ⌜ r ≡ criterionOf (ruleOf (now (s .entry))) ⌝ }
+{
+    if byte(s, 1) % HALF_MODULUS == 0 {
+        Criterion::Salva
+    } else {
+        Criterion::Ihmsen
+    }
+}
+
+// Of the header: the greatest rule that its version has.
+pub fn most_rule(s: &[u8]) -> usize
+    requires { ⌜ 1 ≤ length (now s) ⌝ }
+    ensures { λ r. ⌜ r ≡ mostRule (versionOf (now (s .entry))) ⌝ }
+{
+    if byte(s, 0) / HALF_MODULUS == FIRST_VERSION {
+        0
+    } else {
+        1
     }
 }
 

@@ -226,9 +226,9 @@ module _ (b : List ℕ) where
         refl,
         record {
           room = omega (arith, d .each 5 (omega arith) .present);
-          version = first .0;
-          few = few (first .1) (second .0);
-          zeroBits = second .1;
+          version = first .1;
+          few = few (first .2) (second .1);
+          rule = second .2 .1;
           totalStepSize = finite-at d 0 (omega arith) refl;
           remainingTime = finite-at d 1 (omega arith) refl;
           maxDensityError = finite-at d 2 (omega arith) refl;

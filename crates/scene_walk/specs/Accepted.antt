@@ -4,8 +4,9 @@ use Prim.Native.Nat.{ℕ, _+_, _*_, _<_, _≤_}
 use mathlib.Core.Path.{_≡_}
 use mathlib.Core.List.{List}
 use lib.ListN.{length}
-use Rattle.scene_format.specs.Bytes.{byteAt, FiniteAt, AllFinite}
-use Rattle.scene_format.specs.Format.{axes, mostModels, lowerHalf, versionOf, knownVersion, modelNumber}
+use Rattle.scene_format.specs.Bytes.{FiniteAt, AllFinite}
+use Rattle.scene_format.specs.Format.{axes, mostModels, versionOf, firstVersion, lastVersion, ruleOf, mostRule}
+use Rattle.scene_format.specs.Format.{modelNumber}
 use Rattle.scene_format.specs.Format.{totalStepSizeOffset, remainingTimeOffset, maxDensityErrorOffset, gravityOffset}
 use Rattle.scene_format.specs.Format.{headerWidth, weightOffset, gradientOffset, contactWidth, boundaryContactWidth}
 use Rattle.scene_format.specs.Format.{velocityOffset, accelerationOffset, volumeOffset, warmPressureOffset, recordWidth}
@@ -16,9 +17,9 @@ use Rattle.scene_format.specs.declared.Kind.the-variants.{Fluid, Boundary}
 
 pub record HeaderOk (b : List ℕ) : Type 0 where
   pub room : headerWidth axes ≤ length b
-  pub version : versionOf b ≡ knownVersion
+  pub version : (firstVersion ≤ versionOf b) × (versionOf b ≤ lastVersion)
   pub few : (κ : Kind) → modelNumber κ b ≤ mostModels
-  pub zeroBits : lowerHalf (byteAt b 1) ≡ 0
+  pub rule : ruleOf b ≤ mostRule (versionOf b)
   pub totalStepSize : FiniteAt b totalStepSizeOffset
   pub remainingTime : FiniteAt b remainingTimeOffset
   pub maxDensityError : FiniteAt b maxDensityErrorOffset

@@ -3,20 +3,21 @@
 use Prim.Native.Nat.{ℕ}
 use mathlib.Core.List.{List}
 use Rattle.scene_fields.specs.Fields.{_▹_, times, plain, double, count, halves, ended}
-use Rattle.scene_format.specs.Format.{axes, knownVersion, modelNumber, particlesAt, keepsAt, nameWidth, contactCount}
+use Rattle.scene_format.specs.Format.{axes, versionOf, firstVersion, lastVersion, mostRule, modelNumber, particlesAt}
+use Rattle.scene_format.specs.Format.{keepsAt, nameWidth, contactCount}
 use Rattle.scene_format.specs.Format.{headerDoubles, contactDoubles, boundaryContactDoubles, recordDoubles}
 use Rattle.scene_format.specs.Format.{boundaryRecordDoubles, boundaryContactCount}
 use Rattle.scene_format.specs.declared.Kind.{Kind}
 use Rattle.scene_format.specs.declared.Kind.the-variants.{Fluid, Boundary}
 use Rattle.scene_format.specs.declared.Walk.{Walk}
-use Rattle.scene_fields.specs.declared.fields.Half.the-variants.{Fixed, ModelCount}
+use Rattle.scene_fields.specs.declared.fields.Half.the-variants.{Between, ModelCount}
 
--- the version and the number of fluids, the number of boundaries and four zero bits, the least and the most iterations;
--- step length, remaining time, error limit and gravity
+-- the version and the number of fluids, the number of boundaries and the rule, the least and the most iterations; step
+-- length, remaining time, error limit and gravity
 unfoldable pub header : List ℕ → ℕ → Walk
 header b at =
-    halves b (Fixed knownVersion) ModelCount at
-    ▹ halves b ModelCount (Fixed 0)
+    halves b (Between firstVersion lastVersion) ModelCount at
+    ▹ halves b ModelCount (Between 0 (mostRule (versionOf b)))
     ▹ plain b 1
     ▹ plain b 1
     ▹ times (headerDoubles axes) (double b)

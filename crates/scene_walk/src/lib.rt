@@ -15,15 +15,17 @@ use scene_format::format::BOUNDARY_CONTACTS;
 use scene_format::format::CONTACT_DOUBLES;
 use scene_format::format::CONTACT_WIDTH;
 use scene_format::format::DOUBLE_WIDTH;
+use scene_format::format::FIRST_VERSION;
 use scene_format::format::FLUID_CONTACTS;
 use scene_format::format::HEADER_DOUBLES;
+use scene_format::format::LAST_VERSION;
 use scene_format::format::NAME_WIDTH;
 use scene_format::format::RECORD_DOUBLES;
 use scene_format::format::VECTOR_WIDTH;
-use scene_format::format::VERSION;
 use scene_format::read::byte;
 use scene_format::read::keeps;
 use scene_format::read::model_number;
+use scene_format::read::most_rule;
 use scene_format::read::particles;
 use scene_format::read::plainly_finite;
 ghost use mathlib.Core.Path.{_≡_};
@@ -50,11 +52,13 @@ fn plain_on(s: &[u8], k: usize, w: Walk) -> Walk
 fn header(s: &[u8], from: usize) -> Walk
     ensures { λ r. ⌜ r ≡ walk.header (now (s .entry)) from ⌝ }
 {
-    let fluids = halves(s, Half::Fixed(VERSION), Half::ModelCount, from);
+    let version = Half::Between(FIRST_VERSION, LAST_VERSION);
+    let fluids = halves(s, version, Half::ModelCount, from);
     let Walk::At(at) = fluids else {
         return fluids;
     };
-    let boundaries = halves(s, Half::ModelCount, Half::Fixed(0), at);
+    let rule = Half::Between(0, most_rule(s));
+    let boundaries = halves(s, Half::ModelCount, rule, at);
     let min_pressure_iter = plain_on(s, 1, boundaries);
     let max_pressure_iter = plain_on(s, 1, min_pressure_iter);
     let Walk::At(at) = max_pressure_iter else {

@@ -4,6 +4,7 @@ use Prim.Native.Nat.{_<_, _≤_}
 use native.Mathlib.Omega.{arith}
 use borrow.Author.Needs.{needs}
 use denote.Ref.{now}
+use Rattle.scene_check.proofs.Accepted.{accepted-header}
 use Rattle.scene_format.specs.Format.{mostOfAKind}
 use Rattle.scene_format.specs.Scene.{fluidSize, particle}
 use Rattle.scene_format.specs.SceneOf.{sceneOf}
@@ -114,45 +115,51 @@ boundary-pressure-sum-requires c κs =
     let p = Begin u .pre in
     ((p .0 .0 .over, p .1), boundary u .ready)
 
+criterion-requires : tie.Need-criterion-requires
+criterion-requires c κs =
+    let s = Begin (Row (c .before .before)) in
+    omega (arith, accepted-header _ (s .pre .0 .0 .over .indexed .accepted))
+
 mul-next-from : tie.Need-mul-next-from
-mul-next-from c = omega (arith, few (Begin (Row (c .before .before))))
+mul-next-from c = omega (arith, few (Begin (Row (c .before .before .before))))
 
 add-next-from : tie.Need-add-next-from
 add-next-from c =
-    let s = Begin (Row (c .before .before)) in
+    let s = Begin (Row (c .before .before .before)) in
     omega (arith, few s, s .pre .0 .1)
 
 mul-next-from-2 : tie.Need-mul-next-from-2
 mul-next-from-2 c =
-    let s = Begin (Row (c .before .before)) in
+    let s = Begin (Row (c .before .before .before)) in
     omega (arith, few s, s .pre .0 .1)
 
 shared-slice-read-next-from : tie.Need-shared-slice-read-next-from
 shared-slice-read-next-from c =
-    let p = Begin (Row (c .before .before .before)) .pre in
+    let p = Begin (Row (c .before .before .before .before)) .pre in
     omega (arith, p .1 .room, p .0 .1)
 
 mul-next-from-3 : tie.Need-mul-next-from-3
-mul-next-from-3 c = omega (arith, few (Begin (Row (c .before .before .before))))
+mul-next-from-3 c = omega (arith, few (Begin (Row (c .before .before .before .before))))
 
 add-next-from-2 : tie.Need-add-next-from-2
 add-next-from-2 c =
-    let s = Begin (Row (c .before .before .before)) in
+    let s = Begin (Row (c .before .before .before .before)) in
     omega (arith, few s, s .pre .0 .1)
 
 mul-next-from-4 : tie.Need-mul-next-from-4
 mul-next-from-4 c =
-    let s = Begin (Row (c .before .before .before)) in
+    let s = Begin (Row (c .before .before .before .before)) in
     omega (arith, few s, s .pre .0 .1)
 
 shared-slice-read-next-from-2 : tie.Need-shared-slice-read-next-from-2
 shared-slice-read-next-from-2 c =
-    let p = Begin (Row (c .before .before .before .before)) .pre in
+    let p = Begin (Row (c .before .before .before .before .before)) .pre in
     omega (arith, p .1 .room, p .0 .1)
 
 returns : tie.Need-returns
 returns c =
-    let y = c .before .before .before in
+    let r = c .before .before .before in
+    let y = r .before in
     let v = y .before .before in
     let u = Row v in
     let p = Begin u .pre in
@@ -160,6 +167,7 @@ returns c =
     (v .vector-at .ensures)
     (y .before .fluid-pressure-sum .ensures)
     (y .boundary-pressure-sum .ensures)
+    (r .criterion .ensures)
     (c .next-from .ensures)
 
 pub next-pressure-of-spec : {M : Type 1} → statement M
@@ -183,6 +191,7 @@ next-pressure-of-spec =
     vector-at-requires
     fluid-pressure-sum-requires
     boundary-pressure-sum-requires
+    criterion-requires
     mul-next-from
     add-next-from
     mul-next-from-2

@@ -1,5 +1,5 @@
 -- `scene_fields::fields::half_byte` meets its contract: by the rule, and by whether the half keeps it. Assumes nothing.
-use borrow.Author.Tests.{eq-eqb, ne-eqb, lt-ltb, le-ltb}
+use borrow.Author.Tests.{lt-ltb, le-ltb}
 use borrow.Author.Needs.{needs}
 use Rattle.lists.specs.Lists.{choose}
 use Rattle.scene_fields.specs.Fields.{refusedIf, halfByte}
@@ -8,7 +8,7 @@ use Rattle.scene_fields.proofs.fields.half_byte.Tie as tie
 
 returns : tie.Need-returns
 unfolding halfByte refusedIf choose
-returns c = rw (c .before .before .rule .given .1, ne-eqb _ _ (c .if1 .taken))
+returns c = let o = c .before in rw (o .before .before .rule .given .1, ← o .outside .ensures, c .if1 .taken)
 
 returns-2 : tie.Need-returns-2
 unfolding halfByte refusedIf choose
@@ -16,7 +16,7 @@ returns-2 c = rw (c .before .enum-told .given .1, lt-ltb _ _ (c .if2 .taken))
 
 returns-3 : tie.Need-returns-3
 unfolding halfByte refusedIf choose
-returns-3 c = rw (c .before .before .rule .given .1, eq-eqb _ _ (c .if1 .left))
+returns-3 c = let o = c .before in rw (o .before .before .rule .given .1, ← o .outside .ensures, c .if1 .left)
 
 returns-4 : tie.Need-returns-4
 unfolding halfByte refusedIf choose
@@ -24,4 +24,5 @@ returns-4 c = rw (c .before .enum-told .given .1, le-ltb _ _ (c .if2 .left))
 
 pub half-byte-spec : {M : Type 1} → statement M
 half-byte-spec =
-    tie.close (tie.spec (λ c. search needs) returns (λ c. search needs) returns-2 returns-3 returns-4)
+    tie.close
+    (tie.spec (λ c. search needs) (λ c κs. search needs) returns (λ c. search needs) returns-2 returns-3 returns-4)
