@@ -27,7 +27,7 @@ use Rattle.worked_examples.specs.Scenes
 unfoldable pub writing : ℕ
 unfolding flatten
     Packed.be16 Packed.be64 Packed.doubles Packed.contact Packed.boundaryContact Packed.fluidRecord
-    Packed.boundaryRecord Packed.fluid Packed.boundary Packed.packed
+    Packed.boundaryRecord Packed.fluid Packed.boundary Packed.packedAs Packed.packed
     Scenes.emptyScene Scenes.sceneA Scenes.contactA Scenes.headerB Scenes.pair Scenes.sceneB Scenes.boundaryScene
 writing = 0
 
@@ -53,7 +53,7 @@ unfolding zipWith
     Vector._⊞_ Vector._⊟_ Vector._⊡_ Vector.added Vector._·_
     Clock.inverse Clock.advanced
     Bytes.doubleAt Bytes.vectorAt
-    Format.modelLocations Format.locationsOf
+    Format.criterionOf Format.modelLocations Format.locationsOf
     Scene.fluidSize Scene.boundarySize Scene.particle Scene.boundary
     SceneOf.targetAt SceneOf.contactAt SceneOf.contactList SceneOf.fluidParticleAt SceneOf.forceAt
     SceneOf.boundaryParticleAt SceneOf.headerOf SceneOf.sceneOf
@@ -66,7 +66,7 @@ unfolding zipWith
     Coefficients.coefficientsOf Coefficients.coefficients
     Iteration.dijSum Iteration.dijPjl Iteration.dijPjls Iteration.pressureSum Iteration.relaxed Iteration.errorTerm
     Iteration.clamped Iteration.nextPressure Iteration.nextPressures Iteration.average Iteration.averages
-    Iteration.withAverage Iteration.errorOf Iteration.iteration
+    Iteration.firstError Iteration.withAverage Iteration.errorOf Iteration.iteration
     Step.firstPressures Step.iterateFrom Step.solution Step.pressureShare Step.boundaryAcceleration
     Step.finalVelocityChange Step.newVelocity Step.newPosition Step.fluidAnswer Step.forceFrom Step.boundaryForce
     Step.boundaryAnswer Step.answersFrom Step.answersOf Step.reportOf Step.firstZero Step.unlessZero Step.sceneAnswer

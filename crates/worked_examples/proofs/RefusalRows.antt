@@ -9,4 +9,4 @@ unfolding writing walking empty naming refusalRows
 refusals-hold =
     refl and refl and refl and refl and refl and refl and refl and refl and refl and refl and refl and refl
     and refl and refl and refl and refl and refl and refl and refl and refl and refl and refl and refl and refl
-    and none
+    and refl and refl and refl and refl and refl and refl and none

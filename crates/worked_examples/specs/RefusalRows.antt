@@ -43,10 +43,17 @@ refusalRows =
     ∷ refuses (empty ++ 0 ∷ []) (TrailingBytes 52)
     ∷ refuses (take 4 empty ++ be64 bits·∞) (NotFinite 4)
     ∷ refuses (naming 0 1) (DanglingContact 152)
-    -- byte 0: the version, then the fluids; byte 1: the boundaries, then the zero bits
-    ∷ refuses (set empty 0 0x29) (UnknownForm 0)
+    -- byte 0: the version, then the fluids; byte 1: the boundaries, then the rule, of which the first version has 0
+    -- alone
+    ∷ refuses (set empty 0 0x39) (UnknownForm 0)
+    ∷ refuses (set empty 0 0x29) (TooManyModels 0)
     ∷ refuses (set empty 1 0x9F) (TooManyModels 1)
     ∷ refuses (set empty 1 0x8F) (UnknownForm 1)
+    ∷ refuses (set empty 1 0x01) (UnknownForm 1)
+    ∷ accepts (set empty 0 0x20) 52
+    ∷ accepts (set (set empty 0 0x20) 1 0x01) 52
+    ∷ refuses (set (set empty 0 0x20) 1 0x02) (UnknownForm 1)
+    ∷ refuses (set (set empty 0 0x20) 1 0x92) (TooManyModels 1)
     -- a field is there before its rule counts
     ∷ refuses [] (MissingField 0)
     ∷ refuses (0x00 ∷ []) (UnknownForm 0)

@@ -10,6 +10,7 @@ use Rattle.math.specs.Real.{bits}
 use Rattle.math.specs.Rows as math
 use Rattle.scene_format.specs.Scene.{Scene}
 use Rattle.scene_format.specs.SceneOf.{sceneOf}
+use Rattle.scene_format.specs.declared.Criterion.{Criterion}
 use Rattle.scene_format.specs.declared.Refusal.{Refusal}
 use Rattle.scene_format.specs.declared.Walk.{Walk}
 use Rattle.scene_check.specs.Walk.{checked}
@@ -18,7 +19,7 @@ use Rattle.scene_lists.specs.declared.Contacts.{Contacts}
 use Rattle.scene_lists.specs.declared.ListAnswer.{ListAnswer}
 use Rattle.iisph_rules.specs.Coefficients as rules
 use Rattle.iisph_rules.specs.Coefficients.{Coefficients, boundaryVolume}
-use Rattle.iisph_rules.specs.Iteration.{Iteration, iteration}
+use Rattle.iisph_rules.specs.Iteration.{errorOf, Iteration, iteration}
 use Rattle.iisph_rules.specs.Step.{firstPressures}
 use Rattle.iisph_rules.specs.Answer.{stepAnswer, answersAfter, workAfter}
 use Rattle.iisph_rules.specs.declared.Ending.{Ending}
@@ -44,6 +45,8 @@ pub data Row : Type 0 where
   before : List ℕ → List Coefficients → Row
   -- what each of the first iterations on a packed scene makes
   iterated : List ℕ → List Iteration → Row
+  -- averages, the error that a criterion finds of them, and whether an average was passed over
+  found : Criterion → List ℕ → ℕ → Bool → Row
   -- a boundary particle's weights and its volume
   volumeOf : List ℕ → ℕ → Row
 
@@ -121,6 +124,8 @@ Holds (refused b answers work r cleared) =
     }
 Holds (before b co) = rules.coefficients (sceneOf b) ≡ co
 Holds (iterated b its) = iterations (sceneOf b) (firstPressures (sceneOf b)) (length its) ≡ its
+Holds (found criterion averages error passedOver) =
+    errorOf criterion (map bits averages) ≡ record { value = bits error; «passed_over» = passedOver }
 Holds (volumeOf weights v) =
     boundaryVolume (record { velocity = []; keepsForces = false; force = []; weights = map bits weights }) ≡ bits v
 

@@ -1,5 +1,5 @@
--- The definitions yield every worked example: those of worked_examples by its theorem, the texts by evaluation, for
--- which `writing` opens every definition that a text goes through. Assumes nothing.
+-- The definitions yield every worked example: those of worked_examples and worked_stopping by their theorems, the texts
+-- by evaluation, for which `writing` opens every definition that a text goes through. Assumes nothing.
 use Prim.Native.Nat.{ℕ}
 use mathlib.Core.Path.{refl}
 use mathlib.Core.List.{List, map}
@@ -16,6 +16,8 @@ use Rattle.worked_examples.specs.PassedOver
 use Rattle.worked_examples.proofs.Evaluation.{evaluation}
 use Rattle.worked_examples.proofs.Rows as worked-proofs
 use Rattle.worked_examples.proofs.Rows.{both}
+use Rattle.worked_stopping.specs.Stopping
+use Rattle.worked_stopping.proofs.Stopping.{stopping-hold}
 use Rattle.worked_texts.specs.Rows.{example, Holds, ascii, texts, rows}
 
 writing : ℕ
@@ -29,8 +31,9 @@ unfolding evaluation
 writing = 0
 
 texts-hold : All Holds texts
-unfolding writing ascii PassedOver.light PassedOver.bothInfinities texts
-texts-hold = refl and refl and refl and refl and refl and refl and refl and refl and none
+unfolding writing ascii PassedOver.light PassedOver.bothInfinities PassedOver.overflowing Stopping.ruled
+    Stopping.nanBehind texts
+texts-hold = refl and refl and refl and refl and refl and refl and refl and refl and refl and none
 
 examples-hold : {rs : List worked.Row} → All worked.Holds rs → All Holds (map example rs)
 examples-hold none = none
@@ -39,4 +42,4 @@ examples-hold (h and p) = h and examples-hold p
 -- every worked example holds
 pub rows-hold : All Holds rows
 unfolding rows
-rows-hold = both (examples-hold worked-proofs.rows-hold) texts-hold
+rows-hold = both (examples-hold worked-proofs.rows-hold) (both (examples-hold stopping-hold) texts-hold)

@@ -1,5 +1,6 @@
--- Every worked example, as one list: those of doubles, kernel, its table, check and step (worked_examples), and packed
--- scenes with the text that the program writes for them. Definitions only.
+-- Every worked example, as one list: those of doubles, kernel, its table, check and step (worked_examples), those of
+-- versions and criteria (worked_stopping), and packed scenes with the text that the program writes for them.
+-- Definitions only.
 use Prim.Native.Nat.{ℕ}
 use Prim.Native.Char.{code}
 use Prim.Native.String.{String, [] as end, _∷_ as _then_}
@@ -10,6 +11,7 @@ use Rattle.worked_examples.specs.Row as worked
 use Rattle.worked_examples.specs.Rows as worked-rows
 use Rattle.worked_examples.specs.Scenes.{emptyScene, sceneA, contactA, boundaryScene}
 use Rattle.worked_examples.specs.PassedOver.{bothInfinities}
+use Rattle.worked_stopping.specs.Stopping.{stopping, nanBehind}
 use Rattle.iisph_text.specs.Text.{textOf}
 
 pub data Row : Type 0 where
@@ -57,6 +59,17 @@ texts =
     ∷ "fluid 0 2 BFE0000000000000 0000000000000000 0000000000000000"
     ∷ " BFE0000000000000 0000000000000000 0000000000000000 4010000000000000\n"
     ∷ [])
+    -- a scene in version 2 whose error is not a number
+    ∷ writes nanBehind
+    ("step ranout 1 7FF8000000000000 0\n"
+    ∷ "clock 3FF0000000000000 3FF0000000000000 BFF0000000000000\n"
+    ∷ "fluid 0 0 0000000000000000 0000000000000000 0000000000000000"
+    ∷ " 0000000000000000 0000000000000000 0000000000000000 0000000000000000\n"
+    ∷ "fluid 0 1 0000000000000000 0000000000000000 0000000000000000"
+    ∷ " 0000000000000000 0000000000000000 0000000000000000 0000000000000000\n"
+    ∷ "fluid 1 0 FFF0000000000000 7FF8000000000000 7FF8000000000000"
+    ∷ " FFF0000000000000 7FF8000000000000 7FF8000000000000 7FF0000000000000\n"
+    ∷ [])
     -- no bytes; scene A without contacts; as many bytes as are read, and one more
     ∷ writes [] ("refused 1 0\n" ∷ [])
     ∷ writes (sceneA []) ("refused 9 62\n" ∷ [])
@@ -66,4 +79,4 @@ texts =
 
 -- every worked example
 unfoldable pub rows : List Row
-rows = map example worked-rows.rows ++ texts
+rows = map example worked-rows.rows ++ (map example stopping ++ texts)

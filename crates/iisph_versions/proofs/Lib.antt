@@ -1,0 +1,3 @@
+pub mod Scenes
+pub mod Walks
+pub mod Versions
