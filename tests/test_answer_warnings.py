@@ -1,19 +1,21 @@
 """What tools/answers.py writes and says of averages that were passed over, and its JSON."""
 import itertools
 import json
+import math
 import pathlib
 import tempfile
 import unittest
 import xml.etree.ElementTree as ElementTree
 
-from tests.test_answers import CHAMBER, DONE, EXAMPLES, HELD, done, in_chamber
-from tests.test_answers import answer_files, answers, commands, step_rules
+from tests.test_answers import CHAMBER, CHAMBER_SCENE, DONE, EXAMPLES, done, in_chamber
+from tests.test_answers import answer_files, answers, commands, step_rules, step_scenes
 
 # Written out, so that a changed text is noticed.
 PASSED_OVER = "an average was not a number and was passed over: do not trust settled"
 WARNING, UNTOLD = "WARNING: " + PASSED_OVER, answer_files.UNTOLD
 FLAGS = {" 1": True, " 0": False, "": None}      # behind the error; the last as answers were recorded before
 UNREAL = "NaN", "Infinity", "-Infinity"
+NUMBERED = [text for text in DONE if text.split()[3] != step_rules.bits(math.nan)]
 
 
 def flagged(flag, text=CHAMBER):
@@ -36,18 +38,19 @@ def printed(found):
 
 class Warnings(unittest.TestCase):
     """What each command writes and says of an answer that passed an average over, of one that did
-    not, and of one that can't tell."""
+    not, and of one that can't tell; their scene is the chamber, stopping as the Rust does."""
 
     @classmethod
     def setUpClass(cls):
         cls.written, cls.said = {}, {}
         with tempfile.TemporaryDirectory() as folder:
-            name = pathlib.Path(folder) / "answer"
+            name, scene = pathlib.Path(folder) / "answer", pathlib.Path(folder) / "scene"
+            scene.write_bytes(step_scenes.under(CHAMBER_SCENE, 1, 0))
             for flag in FLAGS:
                 name.write_text(flagged(flag))
                 for kind in answers.COMMANDS:
                     files = [] if kind == "table" else [name if kind == "vtk" else "-", EXAMPLES / "chamber.walls"]
-                    status, out, err = done(kind, name, *files, *HELD)
+                    status, out, err = done(kind, name, *files, "--scene", scene)
                     cls.written.setdefault(kind, []).append(out)
                     cls.said.setdefault(kind, []).append((status, err))
                 for kind in "fluid", "wall":
@@ -59,7 +62,7 @@ class Warnings(unittest.TestCase):
             for flag, passed_over in FLAGS.items():
                 answer = answers.parse(flagged(flag).replace("settled", ending))
                 self.assertIs(answer.passed_over, passed_over)
-                self.assertEqual((answer.ending, answer.iterations, len(answer.error)), (ending, 41, 1))
+                self.assertEqual((answer.ending, answer.iterations, len(answer.error)), (ending, 23, 1))
         self.assertIs(answers.parse("step unswept 0\n" + CHAMBER.split("\n", 1)[1]).passed_over, False)
 
     def test_a_damaged_flag_is_refused(self):
@@ -68,15 +71,15 @@ class Warnings(unittest.TestCase):
         error, rest = CHAMBER.split()[3], CHAMBER.split("\n", 1)[1]
         texts += ["step %s\n" % words + rest
                   for words in ("unswept", "unswept 0 0", "unswept 0 1", "unswept 0 " + error,
-                                "unswept 0 %s 0" % error, "settled", "settled 41", "settled 41 0",
-                                "settled 0 %s 0" % error, "ended 41 %s 0" % error)]
+                                "unswept 0 %s 0" % error, "settled", "settled 23", "settled 23 0",
+                                "settled 0 %s 0" % error, "ended 23 %s 0" % error)]
         for text in texts:
             with self.assertRaisesRegex(commands.Wrong, "line 1 is none"):
                 answers.parse(text)
 
     def test_json_keeps_everything(self):
         unreal = set()
-        for text in [flagged(flag, text) for text in DONE for flag in FLAGS]:
+        for text in DONE + [flagged(flag, text) for text in NUMBERED for flag in FLAGS]:
             found = answers.json(answers.parse(text))
             self.assertEqual(printed(json.loads(found, parse_constant=self.fail)), text)
             unreal |= {x for x in UNREAL if '"%s"' % x in found}
@@ -90,7 +93,7 @@ class Warnings(unittest.TestCase):
     def test_every_answer_with_a_yes_is_warned_of_and_no_other(self):
         outputs = answers.table, answers.csv, answers.json, answers.fluid_vtk
         endings = set()
-        for text in DONE:
+        for text in NUMBERED:
             answer, old = answers.parse(text), answers.parse(flagged("", text))
             yes, swept = text.split("\n")[0].endswith(" 1"), answer.ending != "unswept"
             endings.add((answer.ending, yes))
@@ -108,7 +111,7 @@ class Warnings(unittest.TestCase):
         self.assertEqual(old.split("\n"), [no.split("\n")[0], UNTOLD, *no.split("\n")[1:]])
         yes, no, old = self.written["csv"]
         head, *rows = no.split("\n")[:-1]
-        self.assertEqual((old, head), (no, "kind,model,particle,x,y,z,vx,vy,vz,pressure,volume,fx,fy,fz"))
+        self.assertEqual((old, head), (no, "kind,model,particle,x,y,z,vx,vy,vz,pressure,volume,fx,fy,fz,stopping"))
         self.assertEqual(yes.split("\n")[:-1], [head + ",warning", *[row + "," + PASSED_OVER for row in rows]])
 
     def test_json_begins_with_its_warnings(self):
@@ -123,7 +126,8 @@ class Warnings(unittest.TestCase):
     def test_vtk_has_it_in_the_title_and_at_each_point(self):
         for kind, n in ("fluid", 60), ("wall", 79):
             yes, no, old = [text.split("\n") for text in self.written[kind]]
-            self.assertEqual(no[1], kind + " particles after a pressure step, held against the scene")
+            self.assertEqual(no[1], kind + " particles after a pressure step, held against the scene, "
+                                           "stopping by salva")
             self.assertEqual((yes[1], old[1]), ("%s; %s" % (WARNING, no[1]), "%s; %s" % (no[1], UNTOLD)))
             at = no.index("POINT_DATA %d" % n) + 1      # in front of the scalars: viewers show the first
             self.assertEqual(yes[2:], [*no[2:at], "SCALARS passed_over int 1", "LOOKUP_TABLE default", *"1" * n,

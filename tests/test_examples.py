@@ -3,6 +3,8 @@ import json
 import math
 import os
 import pathlib
+import re
+import struct
 import subprocess
 import sys
 import unittest
@@ -17,9 +19,18 @@ EXAMPLES = ROOT / "examples"
 NAMES = sorted(path.stem for path in EXAMPLES.glob("*.json"))
 
 
+def stopped(stopping, limit, most):
+    """The chamber, stopping so: after how many iterations, with what error and force on its floor."""
+    text = json.dumps({**chamber.chamber(), "stopping": stopping, "error_limit": limit, "most_iterations": most})
+    read = step_rules.walk(scene.pack(text)[0])
+    _, iterations, error, _ = step_rules.step(read).split()
+    return (int(iterations), struct.unpack(">d", bytes.fromhex(error))[0],
+            sum(w.force[2] for w in read.walls[0].particles))
+
+
 class Examples(unittest.TestCase):
     def test_each_is_packed_and_answered(self):
-        self.assertEqual(NAMES, ["chamber", "lost-neighbour", "scene-a", "scene-b", "torn-droplet",
+        self.assertEqual(NAMES, ["chamber", "lost-neighbour", "scene-a", "scene-b", "scene-b-ihmsen", "torn-droplet",
                                  "torn-droplet-faint", "torn-droplet-overflow"])
         for name in NAMES:
             data, text = (EXAMPLES / (name + ".bin")).read_bytes(), (EXAMPLES / (name + ".txt")).read_text()
@@ -33,6 +44,27 @@ class Examples(unittest.TestCase):
     def test_the_chamber_is_what_its_tool_writes(self):
         self.assertEqual(json.loads((EXAMPLES / "chamber.json").read_text()), json.loads(json.dumps(chamber.chamber())))
         self.assertEqual((EXAMPLES / "chamber.walls").read_text(), chamber.positions())
+
+    def test_the_chamber_stops_as_the_readme_says(self):
+        text = (EXAMPLES / "README.md").read_text()
+        for stopping, limit, most in (("salva", "0.05", 50), ("salva", "-1", 250), ("ihmsen2014", "0.001", 50),
+                                      ("ihmsen2014", "0.0001", 50), ("ihmsen2014", "0.00001", 50)):
+            row = stopping, limit, *stopped(stopping, float(limit), most)
+            self.assertIn("\n| %s | %s | %d | %.2g | %.3e |\n" % row, text)
+
+    def test_the_figures_beside_the_picture(self):
+        said = re.search(r"after (\d+), with (\S+) N on the floor and error (\S+)\.\sBy the Rust's and its limit of "
+                         r"0.05 they would settle after (\d+) with (\S+) N, where 250 give\s(\S+) N, while that error "
+                         r"rises from (\S+) to (\S+) ", (ROOT / "README.md").read_text())
+        paper, early, late = stopped("ihmsen2014", 1e-5, 50), stopped("salva", 0.05, 50), stopped("salva", -1, 250)
+        found = paper[0], paper[2], paper[1], early[0], early[2], late[2], early[1], late[1]
+        for word, x in zip(said.groups(), found, strict=True):
+            self.assertAlmostEqual(float(word) / x, 1.0, delta=0.005)
+
+    def test_by_the_rusts_error_it_stops_at_once_or_never(self):
+        errors = [stopped("salva", -1, most)[1] for most in range(2, 20)]
+        self.assertTrue(all(a < b for a, b in zip(errors, errors[1:])))
+        self.assertEqual([stopped("salva", limit, 50)[0] for limit in (1, 0.0062, 0.0039, 0.0038)], [2, 2, 2, 50])
 
     def test_its_spline_is_the_specifications(self):
         for r, shape, fall in ((0.0, 1.0, 0.0), (0.5, 0.25, -1.5), (0.75, 0.03125, -0.375), (1.0, 0.0, 0.0),
@@ -57,6 +89,12 @@ class Examples(unittest.TestCase):
         ending, terms = step_rules.step(read), [p.term for _, p in read.all]
         self.assertEqual((ending, terms[:2]), ("settled 2 0000000000000000 1", [2.0, 2.0]))
         self.assertTrue(math.isnan(terms[2]) and read.all[2][1].pressure == math.inf)
+
+    def test_scene_b_ends_alike_by_both_criteria_but_sooner_by_the_papers(self):
+        (rust, answer), (paper, same) = ((EXAMPLES / (name + ".txt")).read_text().split("\n", 1)
+                                         for name in ("scene-b", "scene-b-ihmsen"))
+        self.assertEqual((rust, paper), ("step ranout 50 4000000000000000 0", "step settled 2 0000000000000000 0"))
+        self.assertEqual(answer, same)
 
 
 if __name__ == "__main__":

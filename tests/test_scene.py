@@ -110,8 +110,8 @@ class Places(unittest.TestCase):
 
     def test_every_field_has_its_name(self):
         rich = step_scenes.rich()
-        for at, name in ((0, "header: version and fluids"), (1, "header: walls"), (2, "header: least iterations"),
-                         (3, "header: most iterations"),
+        for at, name in ((0, "header: version and fluids"), (1, "header: walls and rule"),
+                         (2, "header: least iterations"), (3, "header: most iterations"),
                          (4, "header: step length"), (51, "header: gravity z"), (52, "fluid 0: count"),
                          (54, "fluid 0: rest density"), (62, "fluid 1: count"),
                          (72, "fluid 1, particle 0: position x"),
@@ -244,7 +244,7 @@ class Mistakes(unittest.TestCase):
         sound = (ROOT / "examples/torn-droplet.bin").read_bytes()
         self.assertEqual(scene.at(sound, 310)[1:], ([], True))      # refused 9, but not damaged
         for data, offset, said in ((sound[:-1], 4, "refusal 1 at 399: "), (sound + b"x", 4, "refusal 5 at 400: "),
-                                   (b"\x20" + sound[1:], 4, "refusal 2 at 0: ")):
+                                   (b"\x30" + sound[1:], 4, "refusal 2 at 0: ")):
             _, notes, whole = scene.at(data, offset)
             self.assertEqual((len(notes), notes[0].startswith("a step refuses this scene, " + said), whole),
                              (1, True, False))

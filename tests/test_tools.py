@@ -15,7 +15,7 @@ from unittest import mock
 
 ROOT = pathlib.Path(__file__).resolve().parent.parent
 sys.path[:0] = [str(ROOT / "tools"), str(ROOT / "checks")]
-from answer_files import PASSED_OVER    # noqa: E402
+from answer_files import NO_NUMBER, PASSED_OVER    # noqa: E402
 
 FILES = {folder: sorted((ROOT / folder).glob("*.py")) for folder in ("tools", "checks")}
 TOOLS = [path.stem for paths in FILES.values() for path in paths if os.access(path, os.X_OK)]
@@ -119,15 +119,19 @@ class Run(unittest.TestCase):
         self.assertEqual(self.ran("scene.bin"), (0, "new\nthe scene", ""))
         self.assertEqual((self.root / "target/run.log").read_text(), "rt check iisph\n")
 
-    def test_it_warns_of_an_average_that_was_passed_over(self):
-        for first, warned in (("step settled 2 0000000000000000 1", True), ("step ranout 1 7FF0000000000000 1", True),
-                              ("step settled 2 0000000000000000 0", False), ("step unswept 0", False),
-                              ("refused 7 1", False), ("too long", False)):
+    def test_it_warns_of_an_average_that_is_not_a_number(self):
+        for first, warning in (("step settled 2 0000000000000000 1", PASSED_OVER),
+                               ("step ranout 1 7FF0000000000000 1", PASSED_OVER),
+                               ("step ranout 50 7FF8000000000000 0", NO_NUMBER),
+                               ("step ranout 1 7FF0000000000000 0", None),
+                               ("step settled 2 0000000000000000 0", None), ("step unswept 0", None),
+                               ("refused 7 1", None), ("too long", None)):
             text = first + "\nclock 1\nstep settled 1 0 1\n\n"
             (self.root / "scene.bin").write_text(text)
             self.script("kit/rt", "printf '#!/bin/sh\\ncat; exit 3\\n' > target/bin/iisph; chmod +x target/bin/iisph")
             status, out, err = self.ran("scene.bin")
-            self.assertEqual((status, out, "WARNING: " + PASSED_OVER in err), (3, text, warned), err)
+            said = [line for line in err.splitlines() if "WARNING" in line]
+            self.assertEqual((status, out, said), (3, text, ["tools/run: WARNING: " + warning] if warning else []))
 
     def test_every_message_says_what_to_do(self):
         for arguments, piece in (((), "give one packed scene"), (("a", "b"), "give one packed scene"),

@@ -6,17 +6,27 @@ from commands import counted
 from scene_json import written
 
 PASSED_OVER = "an average was not a number and was passed over: do not trust settled"
+NO_NUMBER = "a fluid's average error is not a number and never settles: do not trust the pressures"
 UNTOLD = "recorded before answers told whether an average was passed over, so it is not known; run the step again"
 UNHELD = ("not held against a scene, so it would not be noticed if the last lines of a fluid or wall were missing; "
           "add --scene SCENE.bin")
 
 
+def warnings(answer):
+    """What nobody may overlook, by a name: at most one, since the error is a number where an average
+    was passed over."""
+    if any(map(math.isnan, answer.error)):
+        return {"error_not_a_number": NO_NUMBER}
+    return {"passed_over": PASSED_OVER} if answer.passed_over else {}
+
+
 def alarms(answer):
-    """What nobody may overlook: at most one text, for outputs to begin with."""
-    return ["WARNING: " + PASSED_OVER] if answer.passed_over else []
+    """A warning as outputs begin with it."""
+    return ["WARNING: " + text for text in warnings(answer).values()]
 
 
 def doubts(answer): return [UNTOLD] if answer.passed_over is None else []
+def stopping(answer): return ", stopping by " + answer.stopping if answer.stopping else ""
 
 
 # ---- table, CSV and JSON
@@ -27,7 +37,7 @@ def decimal(x): return "%.6g" % x
 def ended(answer):
     ending = ENDINGS[answer.ending]
     return "".join([ending % counted(answer.iterations, "iteration") if "%" in ending else ending,
-                    *[", error " + decimal(x) for x in answer.error]])
+                    *[", error " + decimal(x) for x in answer.error], stopping(answer)])
 
 
 def table(answer):
@@ -55,8 +65,9 @@ def columns(heads, rows):
 
 
 def csv(answer):
-    """A warning stands in each row, in a last column that other answers lack: so it is seen wherever
-    the rows go, and the columns before it are read as ever."""
+    """By what iterations stopped, where it is known, and a warning stand in each row, in last columns
+    that other answers lack: so they are seen wherever the rows go, and the columns before them are
+    read as ever."""
     lines = ["kind,model,particle,x,y,z,vx,vy,vz,pressure,volume,fx,fy,fz"]
     lines += [",".join(["fluid", str(p.model), str(p.number), *map(repr, [*p.position, *p.velocity, p.pressure])])
               + ",,,," for p in answer.fluid]
@@ -64,8 +75,9 @@ def csv(answer):
         cells = ["wall", str(w.model), str(w.number), *(map(repr, w.position) if w.position else ["", "", ""]), "", "",
                  "", "", repr(w.volume)]
         lines.append(",".join(cells + (list(map(repr, w.force)) if w.force else ["", "", ""])))
-    if answer.passed_over:
-        lines = [line + "," + (PASSED_OVER if k else "warning") for k, line in enumerate(lines)]
+    more = [("stopping", answer.stopping)] * bool(answer.stopping)
+    for head, cell in more + [("warning", text) for text in warnings(answer).values()]:
+        lines = [line + "," + (cell if k else head) for k, line in enumerate(lines)]
     return "\n".join(lines) + "\n"
 
 
@@ -83,9 +95,9 @@ def json(answer):
               "velocity": numbers(p.velocity), "pressure": number(p.pressure)} for p in answer.fluid]
     walls = [{"wall": w.model, "particle": w.number, **({"position": numbers(w.position)} if w.position else {}),
               "volume": number(w.volume), **({"force": numbers(w.force)} if w.force else {})} for w in answer.wall]
-    return written({"warnings": [PASSED_OVER] * bool(answer.passed_over) + doubts(answer), "ending": answer.ending,
+    return written({"warnings": [*warnings(answer).values(), *doubts(answer)], "ending": answer.ending,
                     "iterations": answer.iterations, "error": (numbers(answer.error) or [None])[0],
-                    "passed_over": answer.passed_over, "held": answer.held,
+                    "passed_over": answer.passed_over, "held": answer.held, "stopping": answer.stopping,
                     "clock": dict(zip(["dt", "inv_dt", "remaining_time"], numbers(answer.clock))),
                     "fluid": fluid, "walls": walls}, width=300) + "\n"
 
@@ -96,10 +108,9 @@ def vtk(answer, kind, scalars, vectors):
     """Legacy VTK of points; what is not finite, or not kept, is written as 0 and marked, since
     readers stumble over it. Titles, of 255 letters at most, are rarely shown: so a warning is the
     first scalar too, which VTK makes the active one."""
-    particles, title = getattr(answer, kind), "%s particles after a pressure step%s" % (kind, held(answer))
-    n, title = len(particles), "; ".join([*alarms(answer), title, *doubts(answer)])
-    if answer.passed_over:
-        scalars = [("passed_over", "int", lambda p: 1), *scalars]
+    title = "%s particles after a pressure step%s%s" % (kind, held(answer), stopping(answer))
+    particles, title = getattr(answer, kind), "; ".join([*alarms(answer), title, *doubts(answer)])
+    n, scalars = len(particles), [*((name, "int", lambda p: 1) for name in warnings(answer)), *scalars]
     safe = lambda xs: " ".join(repr(x) if math.isfinite(x) else "0.0" for x in xs)
     lines = ["# vtk DataFile Version 3.0", title, "ASCII", "DATASET POLYDATA", "POINTS %d double" % n,
              *[safe(p.position) for p in particles],

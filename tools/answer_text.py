@@ -9,7 +9,7 @@ from commands import Wrong, counted
 from scene_json import tree
 from scene_walk import Walk, told
 
-REFUSALS = {1: "a field is not wholly there", 2: "another version than 1, or a bit set where zeros belong",
+REFUSALS = {1: "a field is not wholly there", 2: "another version than 1 or 2, or a rule that it does not have",
             3: "more than 8 fluids or walls", 4: "a count above 4,096", 5: "bytes follow the last record",
             6: "a double that is not finite", 7: "a contact that names nobody",
             8: "the answer or work list is too short", 9: "a density is zero", 10: "a predicted density is zero"}
@@ -32,13 +32,16 @@ def whole(word, most):
 def step_into(answer, words):
     """Adds the first line: how the step ended, after how many iterations and, if there were any,
     the error and whether an average was passed over. Answers recorded before that was told end with
-    the error, and can't tell."""
+    the error, and can't tell. An error that is not a number has passed no average over, and none
+    settles with it."""
     answer.ending, iterations, *more = words
     answer.iterations, swept = whole(iterations, 255), answer.ending != "unswept"
     if answer.ending not in ENDINGS or swept != (answer.iterations > 0) or len(more) not in ([1, 2] if swept else [0]):
         raise ValueError
     answer.error = [double(x) for x in more[:1]]
     answer.passed_over = whole(more[1], 1) == 1 if len(more) == 2 else None if swept else False
+    if any(map(math.isnan, answer.error)) and (answer.ending, answer.passed_over) != ("ranout", False):
+        raise ValueError
 
 
 def line_into(answer, k, words):
@@ -105,7 +108,7 @@ def parse(text, name=None):
         raise Wrong("the last line has no end, so the text was cut off there; " + AGAIN)
     if len(lines) == 1:
         no_answer(lines[0], name)
-    answer = Record(ending=None, clock=None, fluid=[], wall=[], held=False)
+    answer = Record(ending=None, clock=None, fluid=[], wall=[], held=False, stopping=None)
     for k, line in enumerate(lines, 1):
         try:
             line_into(answer, k, line.split(" "))
@@ -128,20 +131,36 @@ def hold(answer, data, name):
                 raise Wrong("the answer has %s of %s %d, but %s has %d%s"
                             % (counted(found.get(model, 0), "particle"), *model, name, walk.counts.get(model, 0),
                                other))
-    keeps = [w["keeps_forces"] for w in tree(walk).get("walls", [])]
+    scene = tree(walk)
+    keeps = [w["keeps_forces"] for w in scene.get("walls", [])]
     for w in answer.wall:
         if keeps[w.model] != (w.force is not None):
             raise Wrong("wall %d keeps %s forces in %s, but its lines %s%s"
                         % (w.model, *(("its", name, "have none") if keeps[w.model] else ("no", name, "have some")),
                            other))
-    least, most, dt, remaining = struct.unpack_from(">2xBBdd", data)
+    dt, remaining = scene["step_length"], scene["remaining_time"]
     if struct.pack(">3d", *answer.clock) != struct.pack(">3d", dt, 1.0 / dt if dt else 0.0, remaining - dt):
         raise Wrong("the answer's clock is not the one of %s%s" % (name, other))
-    if not {"unswept": most == 0 == answer.iterations, "settled": least < answer.iterations <= most,
-            "ranout": answer.iterations == most > 0}[answer.ending]:
-        raise Wrong("the answer ended after %s, which %s does not allow%s"
-                    % (counted(answer.iterations, "iteration"), name, other))
+    hold_ending(answer, scene, name, other)
     answer.held = True
+
+
+def hold_ending(answer, scene, name, other):
+    """Holds how an answer ended to its scene, and takes from this by what iterations stopped, if
+    there were any."""
+    most, settles = scene["most_iterations"], any(error <= scene["error_limit"] for error in answer.error)
+    settles = settles and answer.iterations > scene["least_iterations"]
+    if not {"unswept": most == 0, "settled": settles and answer.iterations <= most,
+            "ranout": not settles and answer.iterations == most}[answer.ending]:
+        raise Wrong("the answer ended after %s%s, which %s does not allow%s"
+                    % (counted(answer.iterations, "iteration"),
+                       "".join(" with error %r" % error for error in answer.error), name, other))
+    stopping = scene.get("stopping", "salva")
+    # the Rust's error is a number and not below 0; the paper's passes no average over
+    if not (all(error >= 0.0 for error in answer.error) if stopping == "salva" else answer.passed_over is False):
+        raise Wrong("the answer's first line is none of a step that stops by %s, as %s does%s"
+                    % (stopping, name, other))
+    answer.stopping = stopping if answer.error else None
 
 
 def place_walls(answer, text, name):

@@ -20,17 +20,20 @@ ParaView, and as a picture.
 An answer that is damaged, cut within a line or merged with another is refused. Whether the last
 lines of a fluid or wall are missing the text alone can't tell: with --scene the answer is held to
 the scene that it is of (how many particles each fluid and wall has, which walls keep forces, the
-clock, the iterations); without it the table, the picture, the VTK files, `held` in the JSON and a
-note with the CSV say that it was not.
+clock, the iterations and the error); without it the table, the picture, the VTK files, `held` in
+the JSON and a note with the CSV say that it was not. With --scene it is told by what the iterations
+stopped, salva or ihmsen2014: in the table and the picture behind the error, in a column `stopping`
+of the CSV, as `stopping` in the JSON, which else is null, and in the title of the VTK files.
 An answer has no positions of wall particles: WALLS.txt has a line for each, `WALL PARTICLE X Y Z`,
 and # begins a comment.
-A step passes over a fluid's average error that is not a number, and its answer tells whether it did
-so in the last iteration: then `settled` can't be trusted. The warning stands in the table's first
-and last line, in a column `warning` of the CSV, in the JSON's `warnings`, in the title of the VTK
-files and as `passed_over`, 1 at each of their points, in a red banner of the picture and, but for
-the table, on standard error. Answers recorded before they told it are taken too; table, `warnings`
-(`passed_over` is null), titles, picture and, but for the table, standard error then say that it is
-not known.
+By salva a step passes over a fluid's average error that is not a number, and its answer tells
+whether it did so in the last iteration: then `settled` can't be trusted. By ihmsen2014 the error is
+then not a number either, and never settles. A warning of each stands in the table's first and last
+line, in a column `warning` of the CSV, in the JSON's `warnings`, in the title of the VTK files and
+as `passed_over` or `error_not_a_number`, 1 at each of their points, in a red banner of the picture
+and, but for the table, on standard error. Answers recorded before they told what was passed over
+are taken too; table, `warnings` (`passed_over` is null), titles, picture and, but for the table,
+standard error then say that it is not known.
 Status: 0, with a warning too; 1 if the answer is a refusal, can't be read, or does not agree with
 the scene or the wall positions; 2 if a file or the command is wrong.
 """

@@ -5,7 +5,8 @@ gradients of the cubic spline.
 A lattice of 5 x 3 x 4 particles at distances of 1 mm, still and of rest density 1000 kg/m3, under
 gravity for 1 ms; SI units. Below it is a floor, to the left a blade that moves in at 20 mm/s, to
 the right a wall: these keep forces. Glass in front and behind keeps none. The top is open. The
-spline's radius is 1.4 mm, so that a particle touches those at a distance of 1 mm alone.
+spline's radius is 1.4 mm, so that a particle touches those at a distance of 1 mm alone. Iterations
+stop by the error of the 2014 paper; examples/README.md says why, and how the limit was found.
 tools/scene.py packs the scene, and tools/answers.py takes the wall positions.
 """
 import argparse
@@ -72,9 +73,9 @@ def chamber():
     walls = [{"keeps_forces": keeps,
               "particles": [{"velocity": velocity, "contacts": near(place, stones, "wall", False)} for place in places]}
              for places, keeps, velocity in WALLS]
-    return {"comment": COMMENT, "least_iterations": 40, "most_iterations": 100, "step_length": 0.001,
-            "remaining_time": 0.001, "error_limit": 0.05,
-            "gravity": [0, 0, -9.81], "fluids": [{"rest_density": REST, "particles": ink}], "walls": walls}
+    return {"comment": COMMENT, "stopping": "ihmsen2014", "step_length": 0.001, "remaining_time": 0.001,
+            "error_limit": 1e-05, "gravity": [0, 0, -9.81], "fluids": [{"rest_density": REST, "particles": ink}],
+            "walls": walls}
 
 
 def positions():

@@ -13,13 +13,14 @@ far each contact list is checked.
 A file named - is standard input or output. Status: 0; 1 if `show`, `at` or `looks` meets a scene
 that a step refuses for its bytes (1 to 7), if nothing stands at the offset, or if the JSON is
 wrong; 2 if a file or the command is. `pack` writes what the JSON says and ends with 0, and notes
-what a step will refuse. `looks` has no line for a list behind a refused contact, and none at all
-for a scene that is refused 1 to 6: its lists are not checked.
+what a step will refuse and, where the JSON leaves it open, by which error the iterations stop.
+`looks` has no line for a list behind a refused contact, and none at all for a scene that is refused
+1 to 6: its lists are not checked.
 
 The JSON, in the words of docs/FORMAT.md. What has a value below is that where it is left out; a
 list that is left out is empty.
 
-  {"comment": "", "least_iterations": 1, "most_iterations": 50,
+  {"comment": "", "version": 1, "stopping": "salva", "least_iterations": 1, "most_iterations": 50,
    "step_length": .., "remaining_time": .., "error_limit": .., "gravity": [0, 0, 0],
    "fluids": [{"rest_density": .., "particles": [
      {"position": [0, 0, 0], "velocity": [0, 0, 0], "acceleration": [0, 0, 0],
@@ -30,6 +31,8 @@ list that is left out is empty.
      {"velocity": [0, 0, 0], "force": [0, 0, 0],
       "contacts": [{"wall": .., "particle": .., "weight": ..}]}]}]}
 
+Iterations stop by the error of the Rust, "salva", or by that of the 2014 paper, "ihmsen2014", which
+needs version 2. With "stopping" alone the version is 2; version 2 alone is refused.
 A double is a decimal or, in quotes, its 16 hex digits: 0.5 or "3FE0000000000000". `show --json`
 writes decimals that read back as the same double, and hex digits for what is infinite or not a
 number. A force may stand only where keeps_forces is true. The comment is not packed.

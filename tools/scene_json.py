@@ -6,11 +6,14 @@ import re
 import struct
 
 from commands import Wrong
-from scene_walk import CONTACT, CONTACTS, FLUID_PARTICLE, HEADER, MODELS, NAMED, PARTICLES, WALL_PARTICLE
+from scene_walk import CONTACT, CONTACTS, FLUID_PARTICLE, HEADER, MODELS, NAMED, PARTICLES, VERSIONS, WALL_PARTICLE
 from scene_walk import Walk, key_of, told
 
 LONGEST = 32768      # of what the program reads
 LEFT_OUT = {"warm_pressure": 0, "least_iterations": 1, "most_iterations": 50, "keeps_forces": False}
+UNSAID = ("it names neither version nor stopping, so it is of version 1 and stops by the Rust's error, which can "
+          "settle long before the pressures are right; to stop by the 2014 paper's, add "
+          '"stopping": "ihmsen2014"; to keep it so, add "version": 1')
 
 
 # ---- from a packed scene
@@ -137,20 +140,47 @@ def wall(path, value):
     return struct.pack(">H", keeps << 15 | len(found)) + records
 
 
+def chosen(path, value, words):
+    """Takes one of these words or numbers; 1.0 and true are not 1."""
+    said = list(map(json.dumps, words))
+    if json.dumps(value) not in said:
+        raise Wrong("%s: give %s, not %.40s" % (path, " or ".join(said), json.dumps(value)))
+    return value
+
+
+def version_and_rule(scene):
+    """Where a scene's JSON names a rule alone, the version is the one that has every rule; where it
+    names neither, they are 1 and 0, as ever."""
+    version = chosen("version", scene.get("version", max(VERSIONS) if "stopping" in scene else 1), VERSIONS)
+    if version != 1 and "stopping" not in scene:
+        raise Wrong("stopping is missing, and version %d does not tell it; give %s"
+                    % (version, " or ".join(map(json.dumps, VERSIONS[version]))))
+    words = VERSIONS[max(VERSIONS)]
+    rule = words.index(chosen("stopping", scene.get("stopping", words[0]), words))
+    if rule >= len(VERSIONS[version]):
+        raise Wrong('stopping: "%s" is none of version %d, which has %s; set version to %d, or leave the version out'
+                    % (words[rule], version, " or ".join(map(json.dumps, VERSIONS[version])), max(VERSIONS)))
+    return version, rule
+
+
 def pack(text):
-    """The packed scene of a JSON text, and notes on what the program will say to it."""
+    """The packed scene of a JSON text, and notes on what the program will say to it and on what was
+    left open."""
     try:
         scene = json.loads(text, parse_constant=no_constant, object_pairs_hook=unique)
     except (ValueError, RecursionError) as e:
-        raise Wrong("this is no JSON: %s; mend it there, or start from examples/scene-a.json" % e) from None
-    members("", scene, ["comment", "least_iterations", "most_iterations", *[key for key, _ in HEADER], "fluids",
-                        "walls"])
+        raise Wrong("this is no JSON: %s; mend it there, or start from examples/scene-b-ihmsen.json" % e) from None
+    members("", scene, ["comment", "version", "stopping", "least_iterations", "most_iterations",
+                        *[key for key, _ in HEADER], "fluids", "walls"])
+    version, rule = version_and_rule(scene)
     fluids, walls = items("", scene, "fluids", MODELS), items("", scene, "walls", MODELS)
-    data = bytes([16 + len(fluids), 16 * len(walls)]
+    data = bytes([version << 4 | len(fluids), len(walls) << 4 | rule]
                  + [whole(*member("", scene, key), 255) for key in ("least_iterations", "most_iterations")])
     data += doubles("", scene, HEADER) + b"".join([fluid(*f) for f in fluids] + [wall(*w) for w in walls])
     notes = ["it is packed, but a step refuses it: " + line for line in told(Walk(data).faults[:1])]
     if len(data) > LONGEST:
         notes.append("it has %d bytes, and the program takes %d; leave out particles or contacts, or call the library"
                      % (len(data), LONGEST))
+    if "version" not in scene and "stopping" not in scene:
+        notes.append(UNSAID)
     return data, notes

@@ -6,6 +6,8 @@ from types import SimpleNamespace as Record
 from commands import counted
 
 MODELS, PARTICLES, NAMED, CONTACTS = 8, 4096, 4095, 255
+# The rules by which iterations may stop, of each version: rule 0 comes first.
+VERSIONS = {1: ["salva"], 2: ["salva", "ihmsen2014"]}
 HEADER = [("step_length", 1), ("remaining_time", 1), ("error_limit", 1), ("gravity", 3)]
 FLUID_PARTICLE = ([("position", 3), ("velocity", 3), ("acceleration", 3), ("volume", 1), ("warm_pressure", 1)],
                   ["fluid contact", "wall contact"])
@@ -19,6 +21,7 @@ CONTACT = {"fluid contact": ("fluid", [("weight", 1), ("gradient", 3)]),
 def key_of(word): return word.replace(" ", "_") + "s"
 def span(at, size): return "byte %d" % at if size == 1 else "bytes %d to %d" % (at, at + size - 1)
 def titled(owner): return ", ".join("%s %d" % part for part in owner) or "header"
+def titled_rule(k, words): return "rule %d (%s)" % (k, words[k]) if k < len(words) else "rule %d" % k
 
 
 class Walk:
@@ -72,18 +75,14 @@ class Walk:
                                % (titled(owner), field.name, field.text))
 
     def scene(self):
-        first = self.whole((), "version and fluids", 1, lambda n: "version %d, %s" % (n >> 4, counted(n & 15, "fluid")))
-        if first >> 4 != 1:
-            self.fault(2, 0, "the version is %d, not 1; is this a packed scene? tools/scene.py pack makes one from JSON"
-                       % (first >> 4))
+        first = self.whole((), "version and fluids", 1, lambda n: "version %d, %s" % (n >> 4, counted(n & 15, "fluid")),
+                           lambda n: {"version": n >> 4})
+        if first >> 4 not in VERSIONS:
+            self.fault(2, 0, "the version is %d, not %s; is this a packed scene? tools/scene.py pack makes one from "
+                       "JSON" % (first >> 4, " or ".join(map(str, VERSIONS))))
         if first & 15 > MODELS:
             self.fault(3, 0, "%d fluids; leave out some, at most %d may be there" % (first & 15, MODELS))
-        second = self.whole((), "walls", 1, lambda n: counted(n >> 4, "wall"))
-        if second >> 4 > MODELS:
-            self.fault(3, 1, "%d walls; leave out some, at most %d may be there" % (second >> 4, MODELS))
-        if second & 15:
-            self.fault(2, 1, "the last four bits of byte 1 are %d, not 0; put %02X hex there"
-                       % (second & 15, second & 0xF0))
+        second = self.walls_and_rule(first)
         for key in "least_iterations", "most_iterations":
             self.whole((), key.replace("_", " "), 1, lambda n: "%s %d" % (key.replace("_", " "), n), lambda n: {key: n})
         self.doubles((), HEADER)
@@ -94,6 +93,27 @@ class Walk:
         for owner in [(("wall", m),) for m in range(second >> 4)]:
             count = self.count(owner, 0x7FFF, lambda n: {"keeps_forces": n > 0x7FFF})
             self.particles(owner, count & 0x7FFF, *WALL_PARTICLE[count >> 15])
+
+    def walls_and_rule(self, first):
+        """Byte 1. What its last four bits may be hangs on the version in byte 0, which is `first`;
+        version 1 has a single rule, so its JSON and its text name none."""
+        version, words = first >> 4, VERSIONS.get(first >> 4, [])
+
+        def text(n):
+            return counted(n >> 4, "wall") + (", " + titled_rule(n & 15, words) if version != 1 or n & 15 else "")
+
+        def parts(n): return {"stopping": words[n & 15]} if version != 1 and n & 15 < len(words) else {}
+
+        both = self.whole((), "walls and rule", 1, text, parts)
+        if both >> 4 > MODELS:
+            self.fault(3, 1, "%d walls; leave out some, at most %d may be there" % (both >> 4, MODELS))
+        if words and both & 15 >= len(words):
+            ways = ["%02X hex there for %s" % (both & 0xF0 | k, titled_rule(k, words)) for k in range(len(words))]
+            ways += ["%02X hex at byte 0 for version %d, which has it" % (other << 4 | first & 15, other)
+                     for other in VERSIONS if both & 15 < len(VERSIONS[other])]
+            self.fault(2, 1, "rule %d, the last four bits of byte 1, is none of version %d; put %s"
+                       % (both & 15, version, " or ".join(ways)))
+        return both
 
     def count(self, owner, mask, parts=lambda n: {}):
         def text(n): return counted(n & mask, "particle") + (", keeps forces" if n & ~mask else "")
