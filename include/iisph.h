@@ -14,9 +14,9 @@
    each takes of the stack is told below, as bindings/c/stack.c measures it.
 
    A packed scene has its fields most significant bit first, doubles as their 64 bits:
-       header      version (4 bits, 1), fluids (4 bits, 0 to 8); boundaries (4 bits, 0 to 8), 4 zero
-                   bits; least iterations (1 byte); most iterations (1 byte); step length,
-                   remaining time, error limit, gravity (3): 52 bytes in all
+       header      version (4 bits, 1 or 2), fluids (4 bits, 0 to 8); boundaries (4 bits, 0 to 8),
+                   rule (4 bits, 0, or 1 in version 2); least iterations (1 byte); most iterations
+                   (1 byte); step length, remaining time, error limit, gravity (3): 52 bytes in all
        each fluid  count (2 bytes, 0 to 4096), rest density; then records: position, velocity,
                    acceleration (3 doubles each), volume, warm pressure, the numbers of fluid and of
                    boundary contacts (1 byte each), and those contacts: model (4 bits), particle
@@ -25,10 +25,25 @@
                    force (only if kept), the number of contacts (1 byte), and those contacts, to
                    boundaries: model (4 bits), particle (12 bits), weight
 
+   The rule is the stopping criterion: it names the error that has to be at most the error limit for
+   the iterations to end. Either error is an average over the particles of a fluid, in which one
+   whose pressure becomes 0 counts as 0, and of the fluids' averages the greatest. An iteration's
+   pressures are the same under both. Version 1 has rule 0 alone; else the versions are the same.
+   Choose rule 1, unless steps have to equal the Rust's, which they do under rule 0 alone.
+        0  salva's: by how much the pressures lower the density, over the rest density. It grows
+           with them, towards the compression that there would be without them, and stays there. So
+           it can settle long before they are right, while they are still too low; and where that
+           compression is above the limit, it runs out though they are right. It is never negative.
+           An average that is not a number is passed over, which is told (iisph_step).
+        1  that of Ihmsen et al. 2014: by how much the density that results from the iteration is
+           above the rest density, over the rest density. It tends to 0 as the pressures become
+           right. It may be negative, so a negative limit can be met. Where the average of any fluid
+           is not a number, neither is the error, and the iteration does not settle.
+
    A refusal has a number and an offset in the scene, that of the byte where the field, contact or
    record in question begins:
         1  a field is not wholly there
-        2  version not 1, or the 4 zero bits not zero
+        2  version not 1 or 2, or a rule that the version does not have
         3  more than 8 fluids or boundaries
         4  a count above 4096
         5  bytes follow the last record
@@ -52,6 +67,9 @@
 #include <stddef.h>
 #include <stdint.h>
 
+/* The rules, for the lower 4 bits of a packed scene's byte 1. */
+enum { IISPH_RULE_SALVA = 0, IISPH_RULE_IHMSEN2014 = 1 };
+
 #ifdef __cplusplus
 extern "C" {
 #endif
@@ -63,11 +81,12 @@ extern "C" {
        does not matter. iisph_needed tells both lengths.
    Returns 0 if there was no iteration (the scene's most is 0), 1 if the iterations settled, 2 if
    they ran out. Then the needed part of answers is written, that of work is all +0, numbers[0] is
-   the last iteration's error (+0 if there was none), numbers[1] dt, numbers[2] 1 / dt (0 for a dt
-   of 0), numbers[3] the remaining time, counts[0] the number of iterations, and counts[1] 1 if in
-   the last iteration the average error of some fluid was not a number, else 0 (0 too if there was
-   none). Such an average is passed over when the greatest is taken: where counts[1] is 1, do not
-   trust a 1 for settled.
+   the last iteration's error by the scene's rule (+0 if there was none), numbers[1] dt, numbers[2]
+   1 / dt (0 for a dt of 0), numbers[3] the remaining time, counts[0] the number of iterations, and
+   counts[1] 1 if in the last iteration, under rule 0, the average error of some fluid was not a
+   number, else 0 (0 too if there was none). Such an average is passed over when the greatest is
+   taken: where counts[1] is 1, do not trust a 1 for settled. Under rule 1, where it is not passed
+   over, counts[1] is 0, and numbers[0] may be negative or, after a 2, not a number.
    Refused by 1 to 10. Then answers, numbers and counts[0] are unchanged; the needed part of work is
    all +0 after 9 and 10, and work is unchanged after 1 to 8.
    Takes some 34 KiB of stack where the scene's index, as iisph_step_lent has it, is of at most 4096

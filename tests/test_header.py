@@ -1,5 +1,5 @@
 """include/iisph.h declares the functions of the crates of the C interface, each list as a pointer and a length, and the
-Rust binding declares them alike."""
+Rust binding declares them alike; both give the rules the same names and numbers."""
 import pathlib
 import re
 import unittest
@@ -45,6 +45,13 @@ class Header(unittest.TestCase):
 
     def test_is_what_rust_declares(self):
         self.assertEqual(dict(bound()), dict(declared()))
+
+    def test_names_the_rules_as_rust_does(self):
+        in_c = re.findall(r"IISPH_RULE_(\w+) = (\d+)", HEADER)
+        source = (ROOT / "bindings/rust/src/stopping.rs").read_text()
+        in_rust = [(name.upper(), number) for name, number in re.findall(r"^    (\w+) = (\d+),$", source, re.M)]
+        self.assertEqual(in_c, [("SALVA", "0"), ("IHMSEN2014", "1")])
+        self.assertEqual(in_rust, in_c)
 
     def test_fits_in_100_columns(self):
         self.assertEqual([line for line in HEADER.splitlines() if len(line) > 100], [])

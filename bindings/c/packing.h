@@ -1,4 +1,8 @@
 /* Packs a scene for the C programs here, field by field as include/iisph.h has them: `scene`, of `len` bytes. */
+#ifndef PACKING_H
+#define PACKING_H
+
+#include "iisph.h"
 #include <stddef.h>
 #include <stdint.h>
 #include <string.h>
@@ -26,10 +30,16 @@ static void vector(double x, double y, double z) {
     real(z);
 }
 
-/* the header, of so many fluids and boundaries */
-static void pack_header(unsigned fluids, unsigned boundaries) {
+/* the first two bytes of a scene: its version and rule, and how many fluids and boundaries there are */
+static void pack_form(unsigned version, unsigned rule, unsigned fluids, unsigned boundaries) {
     len = 0;
-    byte(0x10 | fluids); byte(boundaries << 4); byte(1); byte(50);
+    byte(version << 4 | fluids); byte(boundaries << 4 | rule);
+}
+
+/* the header of version 1, of so many fluids and boundaries */
+static void pack_header(unsigned fluids, unsigned boundaries) {
+    pack_form(1, IISPH_RULE_SALVA, fluids, boundaries);
+    byte(1); byte(50);
     real(0.5); real(1); real(0.05); vector(0, 0, -4);
 }
 
@@ -73,3 +83,5 @@ static void pack_scene(unsigned fluids, unsigned boundaries, unsigned particles)
     for (unsigned model = 0; model < fluids; model++) pack_fluid(model, particles, boundaries > 0);
     for (unsigned model = 0; model < boundaries; model++) pack_boundary(model, particles);
 }
+
+#endif

@@ -1,14 +1,16 @@
 //! One IISPH pressure step over a packed scene, and its smoothing kernel: a safe interface to
 //! the C archives, whose functions are proved to meet their contracts for all arguments.
-//! `include/iisph.h` has the format of a packed scene and of the lists; [`Scene::pack`] writes one.
-//! The specification's scene A, from its numbers to its answers:
+//! `include/iisph.h` has the format of a packed scene and of the lists; [`Scene::pack`] writes one, and
+//! [`Stopping`] tells which stopping criterion to choose for it.
+//! The specification's scene A as version 2, from its numbers to its answers:
 //!
 //! ```
-//! use iisph::{Contact, Fluid, FluidParticle, Scene, Solver};
+//! use iisph::{Contact, Fluid, FluidParticle, Scene, Solver, Stopping, Version};
 //!
 //! let itself = Contact { model: 0, particle: 0, weight: 2.0, gradient: [0.0; 3] };
 //! let drop = FluidParticle { volume: 0.5, fluid_contacts: vec![itself], ..Default::default() };
 //! let scene = Scene {
+//!     version: Version::Two(Stopping::Ihmsen2014),
 //!     step_length: 0.5,
 //!     remaining_time: 1.0,
 //!     gravity: [0.0, 0.0, -4.0],
@@ -40,6 +42,7 @@ mod lists;
 mod pack;
 mod refusals;
 mod solver;
+mod stopping;
 
 use refusals::refusal;
 
@@ -48,6 +51,7 @@ pub use lists::{check_list, CheckedList, Contacts, Unchecked};
 pub use pack::{Boundary, BoundaryContact, BoundaryParticle, Contact, Fluid, FluidParticle, Misfit, Scene};
 pub use refusals::{KernelRefusal, Reason, Refusal};
 pub use solver::Solver;
+pub use stopping::{Stopping, Version};
 
 /// The lengths that the lists of a step must have at least.
 #[derive(Clone, Copy, Debug, PartialEq, Eq, Hash)]
@@ -58,14 +62,15 @@ pub struct Lengths {
     pub work: usize,
 }
 
-/// How the iterations ended, with the last iteration's error.
+/// How the iterations ended, with the last iteration's error. What that measures, and which values it
+/// can have, the variants of [`Stopping`] tell.
 #[derive(Clone, Copy, Debug, PartialEq)]
 pub enum Ending {
     /// There were none.
     Unswept,
     /// The last one met the stopping test. Not to be trusted where [`Report::passed_over`] is true.
     Settled(f64),
-    /// The last one did not.
+    /// The last one did not. Under [`Stopping::Ihmsen2014`] its error may be not a number.
     RanOut(f64),
 }
 
@@ -76,9 +81,10 @@ pub struct Report {
     pub ending: Ending,
     /// How many were carried out.
     pub iterations: u64,
-    /// Whether in the last iteration the average error of some fluid was not a number. Such an
-    /// average is passed over when the greatest is taken: where it is true, do not trust
-    /// [`Ending::Settled`]. False where there was no iteration.
+    /// Whether in the last iteration the average error of some fluid was not a number and, as
+    /// [`Stopping::Salva`] has it, was passed over when the greatest was taken: where it is true, do not
+    /// trust [`Ending::Settled`]. False under [`Stopping::Ihmsen2014`], where such an average makes the
+    /// error not a number, and where there was no iteration.
     pub passed_over: bool,
     /// The step's length.
     pub dt: f64,

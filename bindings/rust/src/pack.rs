@@ -1,4 +1,5 @@
 //! From structures to a packed scene.
+use crate::stopping::Version;
 use std::error::Error;
 use std::fmt;
 
@@ -6,10 +7,12 @@ const MODELS: usize = 8;
 const PARTICLES: usize = 4096;
 const CONTACTS: usize = 255;
 
-/// A scene, as a step takes it once it is packed. [`Default`] has the iterations and the error
-/// limit of salva's solver (1, 50 and 0.05), zeros, and no models.
+/// A scene, as a step takes it once it is packed. [`Default`] has version 1, the iterations and the
+/// error limit of salva's solver (1, 50 and 0.05), zeros, and no models.
 #[derive(Clone, Debug, PartialEq)]
 pub struct Scene {
+    /// As which version it is packed, and so under which [stopping criterion](crate::Stopping).
+    pub version: Version,
     /// The iteration with this number, counted from 0, is the first that may be the last: at most 255.
     pub least_iterations: usize,
     /// No more are carried out: at most 255.
@@ -18,7 +21,8 @@ pub struct Scene {
     pub step_length: f64,
     /// The time that is left before the step.
     pub remaining_time: f64,
-    /// The iterations end where the error is at most this.
+    /// The iterations end where the error, that of the stopping criterion, is at most this. Only
+    /// [`Stopping::Ihmsen2014`](crate::Stopping::Ihmsen2014) can meet a negative one.
     pub error_limit: f64,
     /// Gravity, an acceleration.
     pub gravity: [f64; 3],
@@ -31,6 +35,7 @@ pub struct Scene {
 impl Default for Scene {
     fn default() -> Scene {
         Scene {
+            version: Version::One,
             least_iterations: 1,
             most_iterations: 50,
             step_length: 0.0,
@@ -189,7 +194,8 @@ impl Scene {
         let boundaries = fits("boundaries.len()", self.boundaries.len(), MODELS)?;
         let least = fits("least_iterations", self.least_iterations, 255)?;
         let most = fits("most_iterations", self.most_iterations, 255)?;
-        let mut out = vec![0x10 | fluids as u8, (boundaries as u8) << 4, least as u8, most as u8];
+        let (version, rule) = self.version.numbers();
+        let mut out = vec![version << 4 | fluids as u8, (boundaries as u8) << 4 | rule, least as u8, most as u8];
         doubles(&mut out, &[self.step_length, self.remaining_time, self.error_limit]);
         doubles(&mut out, &self.gravity);
         each("fluids", &self.fluids, |fluid| fluid.pack(&mut out))?;

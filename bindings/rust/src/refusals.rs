@@ -8,7 +8,8 @@ use std::fmt;
 pub enum Reason {
     /// A field is not wholly there.
     Missing = 1,
-    /// Another version than 1, or a bit set where zeros belong.
+    /// Another version than 1 and 2, at offset 0; or a rule that the version does not have, at offset
+    /// 1: version 1 has rule 0 alone, version 2 has 0 and 1.
     Form,
     /// More than 8 fluids or boundaries.
     Models,
@@ -50,8 +51,13 @@ impl Reason {
     fn text(self) -> &'static str {
         match self {
             Reason::Missing => "a field is not wholly there",
-            Reason::Form => "another version than 1, or a bit set where zeros belong",
-            Reason::Models => "more than 8 fluids or boundaries",
+            Reason::Form => {
+                "the version is neither 1 nor 2, or does not have the rule; \
+                 write version 1 with rule 0, or version 2 with rule 0 (salva) or 1 (Ihmsen 2014)"
+            }
+            Reason::Models => {
+                "more than 8 fluids or boundaries; join fluids of one rest density, or boundaries, until there are 8"
+            }
             Reason::Count => "a count above 4096",
             Reason::Trailing => "bytes follow the last record",
             Reason::NotFinite => "a double is infinite or not a number",

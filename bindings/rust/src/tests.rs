@@ -7,6 +7,7 @@ mod fields;
 mod lists;
 mod packing;
 mod solver;
+mod stopping;
 
 fn empty(most: usize) -> Scene {
     Scene { most_iterations: most, error_limit: 0.0, ..Default::default() }

@@ -56,12 +56,19 @@ impl Fields<'_> {
     }
 
     pub fn scene(&mut self) -> Scene {
-        let (fluids, boundaries) = (self.whole(1) & 15, self.whole(1) >> 4);
-        let mut scene = Scene { least_iterations: self.whole(1), most_iterations: self.whole(1), ..Default::default() };
+        let (first, second) = (self.whole(1), self.whole(1));
+        let version = match (first >> 4, second & 15) {
+            (1, 0) => Version::One,
+            (2, 0) => Version::Two(Stopping::Salva),
+            (2, 1) => Version::Two(Stopping::Ihmsen2014),
+            form => panic!("no such version and rule: {form:?}"),
+        };
+        let (least_iterations, most_iterations) = (self.whole(1), self.whole(1));
+        let mut scene = Scene { version, least_iterations, most_iterations, ..Default::default() };
         (scene.step_length, scene.remaining_time, scene.error_limit, scene.gravity) =
             (self.double(), self.double(), self.double(), self.vector());
-        scene.fluids = (0..fluids).map(|_| self.fluid()).collect();
-        scene.boundaries = (0..boundaries).map(|_| self.boundary()).collect();
+        scene.fluids = (0..first & 15).map(|_| self.fluid()).collect();
+        scene.boundaries = (0..second >> 4).map(|_| self.boundary()).collect();
         assert!(self.0.is_empty());
         scene
     }

@@ -2,13 +2,14 @@
 use super::fields::Fields;
 use super::*;
 
-pub const EXAMPLES: [&[u8]; 6] = [
+pub const EXAMPLES: [&[u8]; 7] = [
     include_bytes!("../../../../examples/scene-a.bin"),
     include_bytes!("../../../../examples/scene-b.bin"),
     include_bytes!("../../../../examples/chamber.bin"),
     include_bytes!("../../../../examples/torn-droplet.bin"),
     include_bytes!("../../../../examples/torn-droplet-faint.bin"),
     include_bytes!("../../../../examples/torn-droplet-overflow.bin"),
+    include_bytes!("../../../../examples/scene-b-ihmsen.bin"),
 ];
 
 #[test]

@@ -40,14 +40,14 @@ fn crowd(models: usize, particles: usize) -> Scene {
 
 // scenes of the tests, and crowds, each with lists that are one too long and one too short: done, and
 // refused by every number
-fn calls() -> Vec<(Vec<u8>, Lengths)> {
+pub fn calls() -> Vec<(Vec<u8>, Lengths)> {
     let whole = packed(whole_scene_a());
     let mut scenes: Vec<Vec<u8>> = EXAMPLES.iter().map(|example| example.to_vec()).collect();
     scenes.extend([empty(50), empty(0), empty(1), scene_b(1.0), pressed(), crowd(3, 40), crowd(8, 0)].map(packed));
     scenes.extend([scene_a(Vec::new()), scene_b(-0.5), scene_a(vec![contact(1, 2.0, [0.0; 3])])].map(packed));
     scenes.extend([Scene { step_length: f64::NAN, ..empty(50) }, crowd(1, 700), crowd(2, 1500)].map(packed));
     scenes.extend([Vec::new(), whole[..51].to_vec(), [&whole[..], &[0]].concat()]);
-    scenes.extend([[&[0x21], &whole[1..]].concat(), [&[0x19], &whole[1..]].concat()]);
+    scenes.extend([[&[0x31], &whole[1..]].concat(), [&[0x19], &whole[1..]].concat()]);
     scenes.push([&whole[..52], &4097u16.to_be_bytes(), &whole[54..]].concat());
     let with_lists = |scene: Vec<u8>| {
         let Lengths { answers, work } = needed(&scene).unwrap_or(Lengths { answers: 3, work: 3 });
@@ -59,9 +59,9 @@ fn calls() -> Vec<(Vec<u8>, Lengths)> {
 }
 
 // the answer, and both lists afterwards, which held sevens
-type Outcome = (Result<[u64; 7], Refusal>, Vec<u64>, Vec<u64>);
+pub type Outcome = (Result<[u64; 7], Refusal>, Vec<u64>, Vec<u64>);
 
-fn outcome(lengths: Lengths, step: impl FnOnce(&mut [f64], &mut [f64]) -> Result<Report, Refusal>) -> Outcome {
+pub fn outcome(lengths: Lengths, step: impl FnOnce(&mut [f64], &mut [f64]) -> Result<Report, Refusal>) -> Outcome {
     let (mut answers, mut work) = (vec![7.0; lengths.answers], vec![7.0; lengths.work]);
     let answer = step(&mut answers, &mut work).map(|report| {
         let (ending, error) = match report.ending {

@@ -1,0 +1,132 @@
+/* How the iterations end, for smoke.c: by all three steps, under both rules; and which versions and rules are
+   refused. */
+#ifndef ENDINGS_H
+#define ENDINGS_H
+
+#include "iisph.h"
+#include "packing.h"
+#include "same.h"
+#include <math.h>
+
+enum { UNSWEPT, SETTLED, RAN_OUT };
+
+static double pair_answers[14];
+
+/* one fluid, no boundary and no gravity; the step length is 1 */
+static void pack_still(unsigned version, unsigned rule, unsigned least, unsigned most, double limit) {
+    pack_form(version, rule, 1, 0);
+    byte(least); byte(most);
+    real(1); real(1); real(limit); vector(0, 0, 0);
+}
+
+/* a particle that touches the one of that name */
+static void pack_moving(double speed, double warm, unsigned named, double gradient) {
+    vector(0, 0, 0); vector(speed, 0, 0); vector(0, 0, 0);
+    real(1); real(warm); byte(1); byte(0);
+    two_bytes(named); real(1); vector(gradient, 0, 0);
+}
+
+/* scene B, with a warm pressure w: the first iteration makes both pressures right. Its error is 1 + w under rule 0 and
+   1 - w under rule 1; those that follow have 2 and 0 */
+static void scene_b(unsigned version, unsigned rule, unsigned least, double warm, double limit) {
+    pack_still(version, rule, least, 50, limit);
+    two_bytes(2); real(1);
+    pack_moving(1, warm, 1, 1);
+    pack_moving(-1, warm, 0, -1);
+}
+
+/* one particle whose warm pressure makes the average of its fluid no number in the first iteration, and the pressure 0
+   in the second */
+static void scene_overflowing(unsigned version, unsigned rule, unsigned least, unsigned most) {
+    pack_still(version, rule, least, most, 0.05);
+    two_bytes(1); real(1);
+    pack_moving(0, 1e308, 0, 2);
+}
+
+static int same_number(double a, double b) { return isnan(a) ? isnan(b) : a == b; }
+
+/* whether all three steps on the scene end so; its answers are then in pair_answers */
+static int end(uint64_t ending, uint64_t iterations, double error, uint64_t passed_over) {
+    double work[28], clock[4] = {0.25, 7, 7, 3};
+    uint64_t index[24];
+    for (int way = 0; way < 3; way++) {
+        double numbers[4] = {7, 7, 7, 7};
+        uint64_t counts[3] = {7, 7, 7}, told;
+        told = way == 0 ? iisph_step(scene, len, pair_answers, 14, work, 28, numbers, 4, counts, 3)
+             : way == 1 ? iisph_step_lent(scene, len, pair_answers, 14, work, 28, index, 24, numbers, 4, counts, 3)
+             : iisph_step_keeping(scene, len, clock, 4, pair_answers, 14, work, 28, numbers, 4, counts, 3);
+        if (told != ending || counts[0] != iterations || counts[1] != passed_over || counts[2] != 7) return 0;
+        if (!same_number(numbers[0], error)) return 0;
+    }
+    return 1;
+}
+
+/* scene B is at rest after its step, and both pressures are right */
+static int at_rest(void) {
+    for (int k = 0; k < 14; k += 7) SAME(pair_answers[k + 3] == 0 && pair_answers[k + 6] == 0.5);
+    return 0;
+}
+
+/* rule 0 of either version does not settle though the pressures are right; rule 1 does, and meets a negative limit */
+static int rules(void) {
+    scene_b(1, IISPH_RULE_SALVA, 1, 0, 0.05);
+    SAME(end(RAN_OUT, 50, 2, 0) && !at_rest());
+    scene_b(2, IISPH_RULE_SALVA, 1, 0, 0.05);
+    SAME(end(RAN_OUT, 50, 2, 0) && !at_rest());
+    scene_b(2, IISPH_RULE_IHMSEN2014, 1, 0, 0.05);
+    SAME(end(SETTLED, 2, 0, 0) && !at_rest());
+
+    scene_b(2, IISPH_RULE_SALVA, 0, 8, -7);
+    SAME(end(RAN_OUT, 50, 2, 0));
+    scene_b(2, IISPH_RULE_IHMSEN2014, 0, 8, -7);
+    SAME(end(SETTLED, 1, -7, 0));
+    scene_b(2, IISPH_RULE_IHMSEN2014, 0, 8, -7.5);
+    SAME(end(RAN_OUT, 50, 0, 0));
+    return 0;
+}
+
+/* that an average was passed over, under rule 0, is told of the last iteration alone */
+static int passed_over(void) {
+    for (unsigned version = 1; version < 3; version++) {
+        scene_overflowing(version, IISPH_RULE_SALVA, 1, 0);
+        SAME(end(UNSWEPT, 0, 0, 0));
+        scene_overflowing(version, IISPH_RULE_SALVA, 1, 1);
+        SAME(end(RAN_OUT, 1, 0, 1));
+        scene_overflowing(version, IISPH_RULE_SALVA, 1, 2);
+        SAME(end(SETTLED, 2, 0, 0));
+        scene_overflowing(version, IISPH_RULE_SALVA, 0, 2);
+        SAME(end(SETTLED, 1, 0, 1));
+    }
+    return 0;
+}
+
+/* under rule 1 none is passed over: the error is no number, and the iteration does not settle */
+static int no_number(void) {
+    scene_overflowing(2, IISPH_RULE_IHMSEN2014, 0, 0);
+    SAME(end(UNSWEPT, 0, 0, 0));
+    scene_overflowing(2, IISPH_RULE_IHMSEN2014, 0, 1);
+    SAME(end(RAN_OUT, 1, NAN, 0));
+    scene_overflowing(2, IISPH_RULE_IHMSEN2014, 0, 2);
+    SAME(end(SETTLED, 2, 0, 0));
+    return 0;
+}
+
+/* the version comes before the fluids, the boundaries before the rule */
+static int refused_forms(void) {
+    static const struct { unsigned version, rule, fluids, boundaries; uint64_t code, offset; } forms[] = {
+        {0, 0, 0, 0, 102, 0}, {3, 0, 9, 0, 102, 0}, {2, 2, 9, 9, 103, 0},
+        {1, 1, 0, 9, 103, 1}, {2, 2, 0, 9, 103, 1}, {1, 1, 0, 8, 102, 1}, {2, 2, 0, 8, 102, 1}, {2, 15, 0, 0, 102, 1},
+    };
+    for (size_t k = 0; k < sizeof forms / sizeof *forms; k++) {
+        double answers[1], work[1], numbers[4];
+        uint64_t counts[2] = {7, 7};
+        pack_form(forms[k].version, forms[k].rule, forms[k].fluids, forms[k].boundaries);
+        SAME(iisph_step(scene, len, answers, 1, work, 1, numbers, 4, counts, 2) == forms[k].code);
+        SAME(counts[0] == 7 && counts[1] == forms[k].offset);
+    }
+    return 0;
+}
+
+static int endings(void) { return rules() || passed_over() || no_number() || refused_forms(); }
+
+#endif
