@@ -20,6 +20,7 @@ from parts import list_scenes
 from reference import batch
 
 CRATE = pathlib.Path(__file__).resolve().parent.parent / "crates" / "cases_check"
+LAST_RULES = {1: 0, 2: 1}      # of each version that there is
 
 
 class Refused(Exception):
@@ -64,14 +65,14 @@ def contact_lists(data):
     place and whether what it names is missing."""
     r = Reader(data)
     _, first = r.take(1)
-    if first >> 4 != 1:
+    if first >> 4 not in LAST_RULES:
         raise Refused(2, 0)
     if first & 15 > 8:
         raise Refused(3, 0)
     _, second = r.take(1)
     if second >> 4 > 8:
         raise Refused(3, 1)
-    if second & 15:
+    if second & 15 > LAST_RULES[first >> 4]:
         raise Refused(2, 1)
     r.take(1)
     r.take(1)
@@ -175,6 +176,34 @@ def changed(data, *bytes_at):
     return bytes(data)
 
 
+def forms(whole):
+    """Byte 0 with each version, and byte 1 with each rule, alone and with other faults of these two
+    bytes."""
+    fluids, boundaries = whole[0] & 15, whole[1] >> 4
+    for version in range(16):
+        yield changed(whole, (0, version << 4 | fluids))
+        yield bytes([version << 4 | 9])
+        yield bytes([version << 4 | 8])
+    for version in LAST_RULES:
+        for rule in range(16):
+            head = version << 4 | fluids
+            yield changed(whole, (0, head), (1, boundaries << 4 | rule))
+            for b in 8, 9, 15:
+                yield bytes([head, b << 4 | rule])
+
+
+def of_version_2():
+    """Under both rules: cut, with bytes that follow, and with each other refusal of the check."""
+    for rule in 0, 1:
+        whole, lost = (changed(data, (0, 0x22), (1, 0x30 | rule)) for data in (rich(), rich(own_name=(0, 1))))
+        yield changed(header(0, 0), (0, 0x20), (1, rule))
+        yield from (whole[:n] for n in range(0, len(whole), 7))
+        yield from (whole + b"\0", lost, lost + b"\0")
+        for at in 4, 44, 54, 52, 62:
+            yield changed(whole, (at, 0x7F), (at + 1, 0xF0))
+            yield changed(lost, (at, 0x7F), (at + 1, 0xF0))
+
+
 def cases():
     whole = rich()
     yield whole
@@ -211,6 +240,8 @@ def cases():
     yield changed(whole, (4, 0x7F), (5, 0xF0), (52, 0xFF))
     yield changed(whole, (4, 0xFF), (5, 0xF8))[:12]
     yield changed(whole, (4, 0xFF), (5, 0xF8))[:11]
+    yield from forms(whole)
+    yield from of_version_2()
     yield from list_scenes.scenes()
 
 

@@ -20,11 +20,12 @@ data/longest. The step itself is parts/step_rules.py.
 import pathlib
 import sys
 
+from parts.rule_cases import rules
 from parts.step_cases import readings, starred, swept
 from parts.step_drawn import drawn
 from parts.step_faults import faults, most_particles, sizes
 from parts.step_rules import LONGEST, lines, step, walk
-from parts.step_scenes import pair, rich, scene, scene_a
+from parts.step_scenes import pair, rich, scene, scene_a, under
 from reference import batch
 
 ROOT = pathlib.Path(__file__).resolve().parent.parent
@@ -32,14 +33,15 @@ ROOT = pathlib.Path(__file__).resolve().parent.parent
 LENT = ((scene_a(), 6, 14, "refused 8 0\n"), (scene_a(), 7, 13, "refused 8 0\n"),
         (scene_a(), 7, 14, swept("settled", 2)), (scene_a([]), 6, 14, "refused 8 0\n"),
         (rich(own=(3, 0)), 0, 0, "refused 7 439\n"), (rich(), 18, 30, "refused 8 0\n"),
-        (rich(), 19, 29, "refused 8 0\n"), (rich(), 19, 30, "step "))
+        (rich(), 19, 29, "refused 8 0\n"), (rich(), 19, 30, "step "), (under(rich(), 2, 1), 18, 30, "refused 8 0\n"),
+        (under(rich(), 2, 1), 19, 29, "refused 8 0\n"), (under(rich(), 2, 1), 19, 30, "step "))
 
 
 # ---- the files
 
 def cases():
     """Comment, scene, and pieces of its text."""
-    return [*starred(), *readings(), *faults(), *sizes(), *drawn()]
+    return [*starred(), *readings(), *rules(), *faults(), *sizes(), *drawn()]
 
 
 def files():

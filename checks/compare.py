@@ -1,6 +1,7 @@
 #!/usr/bin/env python3
 """Holds a program that answers packed scenes against the Rust's own step (oracle/), output for
-output.
+output. The Rust has rule 0 alone: of a scene with rule 1 the first line is held against
+checks/parts/step_rules.py, and the others against the Rust's step with as many iterations.
 
   checks/compare.py [--scenes N] [--seed N] [--only CLASS] [--subject COMMAND | --reference]
                     [--stdin] [--oracle FILE] [--out FILE] [--bytes N]
@@ -13,7 +14,7 @@ output.
                     `too long` to the oracle
   --subject COMMAND the program to compare; it is run in a folder with the file `scenes` and prints
                     the lines of all its scenes (target/bin/cases_step)
-  --reference       compare checks/parts/step_rules.py instead
+  --reference       compare checks/parts/step_rules.py instead (of rule 1 then all but first lines)
   --stdin           run the command once for each scene, which it reads from standard input, as the
                     program iisph does
   --bytes N         at most so many bytes in one file `scenes` (300,000)
@@ -38,7 +39,7 @@ import time
 from cases_step import cases
 from made_scenes import CLASSES, LARGE, made
 from parts.kernel_pairs import NAN, kernel_run
-from parts.sides import Failed, Sides, files_full
+from parts.sides import SKIPPED, Failed, Sides, files_full, form_name
 from parts.smaller import shrunk
 from reference import Stop
 
@@ -67,21 +68,28 @@ def kinds(answer):
     numbers = [line.split(" ")[1:] for line in answer.splitlines()[2:]]
     pressures = [line.split(" ")[-1] for line in answer.splitlines() if line.startswith("fluid")]
     found = ["accepted", words[1]] + (["passed over"] if words[4:] == ["1"] else [])
+    found += ["error " + of for of in error_kinds(words[3])] if words[3:] else []
     found += ["not-a-number"] if any(NAN in row for row in numbers) else []
     found += ["infinity"] if any(x[1:] == "FF0000000000000" and x[0] in "7F" for row in numbers for x in row) else []
     found += ["pressure above 0"] if any(x < "7FF0000000000001" and x.strip("0") for x in pressures) else []
     return found + (["3 or more iterations"] if words[1] != "unswept" and int(words[2]) > 2 else [])
 
 
-ORDER = ["accepted", "settled", "ranout", "unswept", "passed over", "3 or more iterations", "pressure above 0",
-         "infinity", "not-a-number", "skipped", "too long"] + ["refused %d" % n for n in range(1, 11)]
+def error_kinds(error):
+    """What rule 1 alone can have."""
+    return ["not a number"] if error == NAN else ["below 0"] if error[0] in "89ABCDEF" else []
+
+
+ORDER = ["accepted", "settled", "ranout", "unswept", "passed over", "error below 0", "error not a number",
+         "3 or more iterations", "pressure above 0", "infinity", "not-a-number", "skipped", "too long"]
+ORDER += ["refused %d" % n for n in range(1, 11)]
 
 
 def summary(counts):
     for name, count in counts.items():
         seen = [(kind, count[kind]) for kind in ORDER if count[kind]]
         seen += [(kind, n) for kind, n in count.items() if kind not in ORDER and kind != "all"]
-        print("%-13s %7d: %s" % (name, count["all"], ", ".join("%s %d" % pair for pair in seen)))
+        print("%-17s %7d: %s" % (name, count["all"], ", ".join("%s %d" % pair for pair in seen)))
 
 
 def report(data, sides, options):
@@ -90,29 +98,28 @@ def report(data, sides, options):
     options.out.write_bytes(data)
     print("%s: %d bytes\n%s" % (options.out, len(data), data.hex() if len(data) < 1500 else ""))
     try:
-        rust, ours = sides.ask([data])
-        lines = ("".join(answers).splitlines() for answers in (rust, ours))
+        lines = ("".join(answers).splitlines() for answers in sides.ask([data]))
         rows = list(itertools.zip_longest(*lines, fillvalue="(nothing)"))
         different = [row for row in rows if row[0] != row[1]]
         for row in different[:10]:
-            print("the Rust:    %s\nthe subject: %s" % row)
+            print("expected:    %s\nthe subject: %s" % row)
         print("%d lines differ" % len(different))
     except Failed as e:
         print(e)
 
 
 def scenes_run(options):
-    sides, counts, done, worst, end = Sides(options), {}, 0, None, 0.0
+    sides, counts, forms, done, worst, end = Sides(options), {}, {}, 0, None, 0.0
     for full in files_full(stream(options), options.bytes):
         if worst is not None and (len(worst) < 600 or time.monotonic() > end):
             break
         scenes = [data for _, data in full]
         try:
-            rust, ours = sides.ask(scenes)
+            expected, ours = sides.ask(scenes)
             failure = "%d answers" % len(ours)
         except Failed as e:
-            rust, ours, failure = [], [], e
-        if len(ours) != len(scenes) or any(a != b and a != "skipped\n" for a, b in zip(rust, ours)):
+            expected, ours, failure = [], [], e
+        if len(ours) != len(scenes) or any(a not in (b, SKIPPED) for a, b in zip(expected, ours)):
             wrong = sides.first_wrong(sorted(scenes, key=len), options.bytes)
             if wrong is None:
                 raise Stop("%d scenes together have no answer, but each alone has: %s" % (len(scenes), failure))
@@ -121,8 +128,10 @@ def scenes_run(options):
                 end = time.monotonic() + 60.0
             worst = min(worst or wrong, wrong, key=len)
             continue
-        for (name, _), answer in zip(full, rust):
-            counts.setdefault(name, collections.Counter()).update(["all", *kinds(answer.strip("\n"))])
+        for (name, data), answer in zip(full, expected):
+            found = ["all", *kinds(answer.strip("\n"))]
+            counts.setdefault(name, collections.Counter()).update(found)
+            forms.setdefault(form_name(data), collections.Counter()).update(found)
         done += len(scenes)
         if sys.stderr.isatty():
             print("\r%d" % done, end="", file=sys.stderr, flush=True)
@@ -130,6 +139,8 @@ def scenes_run(options):
         report(worst, sides, options)
         return 1
     summary(dict(counts, total=sum(counts.values(), collections.Counter())))
+    print()
+    summary(dict(sorted(forms.items())))
     skipped = sum(c["skipped"] for c in counts.values())
     print("%d scenes, seed %d: no difference (%d skipped: an average of -0)" % (done, options.seed, skipped))
     return 0

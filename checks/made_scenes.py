@@ -1,5 +1,5 @@
 """Packed scenes for compare.py and record.py, made by a fixed generator: the same seed gives the
-same scenes everywhere.
+same scenes everywhere. Each is in one of FORMS, a version with a rule.
 
 `made(seed, name)` goes on yielding scenes of a class (CLASSES has the names and what is in each).
 parts/packing.py says what an unpacked scene looks like.
@@ -8,7 +8,9 @@ import math
 
 from parts.averages import passed_over
 from parts.drawing import LIMITS, Draw, drop, few, lattice_scene, mixed, pair, scaled
+from parts.limits import at_an_error
 from parts.packing import pack, unpack
+from parts.step_scenes import FORMS
 
 LONGEST = 32768
 
@@ -60,9 +62,11 @@ def damaged(d, data):
         elif kind == 5:
             put(d.of((52, 52, at)), d.of((b"\x10\x00", b"\x10\x01", b"\x90\x01", b"\xFF\xFF", b"\x00\x02")))
         elif kind == 6:
-            put(0, bytes([d.of((0x00, 0x10, 0x11, 0x18, 0x19, 0x1F, 0x29, 0xF1))]))
+            put(0, bytes([d.of((0x00, 0x10, 0x11, 0x18, 0x19, 0x1F, 0x20, 0x21, 0x28, 0x29, 0x2F, 0x30, 0x31, 0x39,
+                                0xF1))]))
         elif kind == 7:
-            put(1, bytes([d.of((0x00, 0x01, 0x0F, 0x10, 0x80, 0x90, 0x9F, 0xF0))]))
+            put(1, bytes([d.of((0x00, 0x01, 0x02, 0x0F, 0x10, 0x11, 0x12, 0x80, 0x81, 0x82, 0x90, 0x91, 0x92, 0x9F,
+                                0xF0))]))
         else:
             s = unpack(bytes(data))
             lists = s and [c for kind in ("fluids", "walls") for _, particles in s[kind]
@@ -122,7 +126,7 @@ def settling(d):
 
 def aimed(d):
     """Scene B of the examples and others of two particles, with numbers at a rule's edge."""
-    rest, near_one, kind = 1.0, 1.0 - d.unit() / 16.0, d.below(6)
+    rest, near_one, kind = 1.0, 1.0 - d.unit() / 16.0, d.below(7)
     if kind == 0:      # |aii| at 1e-9 and beside it
         small = d.sign(d.of((1e-9, math.nextafter(1e-9, 1.0), math.nextafter(1e-9, 0.0), 1e-8, 1e-9)))
         itself, steep = [0, 0, 2.0, 0.0, 0.0, 0.0], [0, 1, 0.0, d.sign(2.0**21), 0.0, 0.0]
@@ -136,6 +140,9 @@ def aimed(d):
         drops = pair(d.random(), 2.0**511 * (1.0 + 0.41 * d.unit()))
     elif kind == 4:    # next pressures of exactly 0
         drops = pair(0.0, d.of((1.0, 2.0, 0.5)), warm=(abs(d.nice()), abs(d.nice())))
+    elif kind == 5:    # a rest density below 0: Ihmsen's terms become -0
+        rest = -d.of((1.0, 0.5, 2.0))
+        drops = pair(d.of((1.0, 0.5, 2.0)), d.of((1.0, 2.0)), volume=1.0 / rest)
     else:              # terms, and an average, of a few subnormals
         rest = d.sign(2.0**500)
         drops = pair(0.0, 2.0**250, rest * 2.0**-250, rest * 2.0**-750,
@@ -161,7 +168,8 @@ CLASSES = {
     "aimed": (aimed, "two particles, with numbers at the edge of a rule"),
     "zero density": (empty_density, "densities and predicted densities that are zero"),
     "passed over": (passed_over, "averages that are not a number, beside infinite ones, plain ones and empty fluids"),
-    "damaged": (None, "damaged copies of all others"),
+    "limits": (None, "scenes of all above, with a limit at the error of one of their iterations"),
+    "damaged": (None, "damaged copies of all above but those"),
 }
 
 
@@ -169,6 +177,19 @@ def large(d): return lattice_scene(d, ((6, 6, 6), (8, 8, 4), (5, 10, 10)), (1, 2
 
 
 LARGE = {"large": (large, "lattices of some hundred particles, longer than the program's standard input takes")}
+SOUND = [make for make, _ in CLASSES.values() if make]
+
+
+def packed(d, make): return pack(dict(make(d), form=d.of(FORMS)))
+
+
+def one_of(d, name):
+    """A scene of a class."""
+    if name == "damaged":
+        return damaged(d, packed(d, d.of(SOUND)))
+    if name == "limits":
+        return at_an_error(d, packed(d, d.of(SOUND)))
+    return packed(d, CLASSES[name][0])
 
 
 def made(seed, name):
@@ -176,12 +197,10 @@ def made(seed, name):
     if name in LARGE:
         d = Draw(seed)
         while True:
-            yield pack(large(d))
+            yield packed(d, large)
     d = Draw(seed * 1000003 + list(CLASSES).index(name) * 7919)
-    sound = [make for make, _ in CLASSES.values() if make]
     while True:
-        make = CLASSES[name][0]
-        data = damaged(d, pack(d.of(sound)(d))) if make is None else pack(make(d))
+        data = one_of(d, name)
         if len(data) <= LONGEST or d.one_in(16):
             yield data
 

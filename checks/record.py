@@ -1,70 +1,61 @@
 #!/usr/bin/env python3
-"""Chooses the recorded scenes of crates/cases_replay and writes them with the Rust's answers.
+"""Chooses the recorded scenes of crates/cases_replay and writes them with the Rust's answers. Under
+rule 1, which the Rust does not have, first lines are those of checks/parts/step_rules.py.
 
   checks/record.py [--oracle FILE]           writes crates/cases_replay/data/scenes and
                                              crates/cases_replay/stdout
-  checks/record.py --check [--oracle FILE]   asks the Rust again about the recorded scenes (status 1
-                                             if an answer differs)
+  checks/record.py --check [--oracle FILE]   asks both again about the recorded scenes (status 1 if
+                                             an answer differs)
 
-The scenes come from checks/made_scenes.py and checks/cases_step.py, small ones only, the answers
-from the oracle. Scenes are taken, short ones first, until each branch of the rules and each refusal
-(BRANCHES, in parts/branches.py) has been met some times, each class has its share, and each wrong
-version of checks/wrong_versions.py is noticed by several. Which branches a scene meets is seen by
-notes put into checks/parts/step_rules.py's text. Status 2 if a file is missing, the use is wrong,
-or a branch or a wrong version is met by no scene.
+The scenes come from checks/made_scenes.py and checks/cases_step.py, small ones only. They are
+taken, short ones first, until each branch of the rules and each refusal (BRANCHES, in
+parts/branches.py) has been met some times, each class has its share in each version and rule, and
+each wrong version of checks/wrong_versions.py is noticed by several. Which branches a scene meets
+is seen by notes put into checks/parts/step_rules.py's text. Status 2 if a file is missing, the use
+is wrong, or a branch or a wrong version is met by no scene.
 """
 import argparse
 import collections
 import itertools
 import pathlib
 import sys
-import tempfile
 
 from cases_step import cases
 from made_scenes import CLASSES, made
 from parts.branches import BRANCHES, Branches
-from parts.sides import Failed, ran
-from reference import Stop, batch, load, text, texts, unbatch
+from parts.sides import SKIPPED, Expected, Failed, form_name
+from reference import Stop, batch, load, text, unbatch
 from wrong_versions import LINES, NOTICED, ROOT, SCENES, answer, edited
 
-SEED, POOL, TIMES, SHARE, LARGEST_FILE = 7, 700, 4, 18, 150_000
+SEED, POOL, TIMES, SHARE, LARGEST_FILE = 7, 1000, 4, 8, 225_000
 LONGEST_SCENE = collections.defaultdict(
     lambda: 520, {"lattice": 900, "crowd": 1300, "passed over": 720, "cases_step": 720})
 
 
-def asked(oracle, scenes):
-    with tempfile.TemporaryDirectory() as folder:
-        (pathlib.Path(folder) / "scenes").write_bytes(batch(scenes))
-        found = texts(ran([str(oracle), "scenes", "scenes"], folder))
-    if len(found) != len(scenes):
-        raise Stop("the oracle gave %d answers to %d scenes" % (len(found), len(scenes)))
-    return found
-
-
 def pool(oracle):
-    """Class, scene and the Rust's answer; short scenes of all classes, each once, without those
-    that runs skip."""
+    """Class, scene and answer: short scenes of all classes, each once, but none that runs skip."""
     found = [("cases_step", case[1]) for case in cases()]
     found = [(name, data) for name, data in found if len(data) <= LONGEST_SCENE[name]]
     for name in CLASSES:
         found += itertools.islice(((name, data) for data in made(SEED, name) if len(data) <= LONGEST_SCENE[name]), POOL)
     found = list({data: (name, data) for name, data in reversed(found)}.values())[::-1]
-    answers = asked(oracle, [data for _, data in found])
-    return [(name, data, answer) for (name, data), answer in zip(found, answers) if answer != "skipped\n"]
+    answers = Expected(oracle).of([data for _, data in found])
+    return [(name, data, answer) for (name, data), answer in zip(found, answers) if answer != SKIPPED]
 
 
 def chosen(candidates, source):
-    """Numbers of candidates: for the branches, then for the classes, then for the wrong versions.
-    """
+    """Numbers of candidates: for the branches, then for the classes in each form, then for the wrong
+    versions."""
     seen, taken, met, share = Branches(source), set(), collections.Counter(), collections.Counter()
     branches = [seen.of(data) for _, data, _ in candidates]
+    shares = [(name, form_name(data)) for name, data, _ in candidates]
     order = sorted(range(len(candidates)), key=lambda k: (len(candidates[k][1]) / (1 + len(branches[k])), k))
 
     def take(k):
         if k not in taken:
             taken.add(k)
             met.update(branches[k])
-            share[candidates[k][0]] += 1
+            share[shares[k]] += 1
 
     for branch in sorted(BRANCHES, key=lambda b: sum(b in found for found in branches)):
         for k in order:
@@ -72,12 +63,9 @@ def chosen(candidates, source):
                 break
             if branch in branches[k]:
                 take(k)
-    for name in ["cases_step", *CLASSES]:
-        for k in range(len(candidates)):
-            if share[name] >= SHARE:
-                break
-            if candidates[k][0] == name:
-                take(k)
+    for k in range(len(candidates)):
+        if share[shares[k]] < SHARE:
+            take(k)
     for name, old, new in NOTICED:
         lines, found = load(edited(source, old, new))["lines"], 0
         for k in itertools.chain(sorted(taken), (k for k in order if k not in taken)):
@@ -95,13 +83,18 @@ def chosen(candidates, source):
 
 
 def told(met, share):
-    """Prints how often each branch is met, which must be once at least, and each class's share."""
+    """Prints how often each branch is met, which must be once at least, and the shares of classes
+    and forms."""
     lacking = [branch for branch in BRANCHES if not met[branch]]
     if lacking:
         raise Stop("no candidate meets: " + ", ".join(lacking))
     for branch in BRANCHES:
         print("%5d  %s" % (met[branch], branch))
-    print(", ".join("%s %d" % pair for pair in share.items()))
+    for place in 0, 1:
+        of = collections.Counter()
+        for names, n in share.items():
+            of[names[place]] += n
+        print(", ".join("%s %d" % pair for pair in of.items()))
 
 
 def write(oracle):
@@ -122,8 +115,8 @@ def write(oracle):
 
 def check(oracle):
     scenes = unbatch(SCENES)
-    same = "".join(asked(oracle, scenes)).encode() == LINES.read_bytes()
-    said = "the Rust gives the recorded answers" if same else "the Rust's answers differ from the recorded ones"
+    same = "".join(Expected(oracle).of(scenes)).encode() == LINES.read_bytes()
+    said = "the answers are the recorded ones" if same else "an answer differs from the recorded one"
     print("%d scenes: %s" % (len(scenes), said))
     return 0 if same else 1
 

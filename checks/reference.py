@@ -32,6 +32,13 @@ def load(source):
     return names
 
 
+def answering(any_length=False):
+    """What gives the lines of a packed scene; with any_length none is `too long`."""
+    names = load(text())
+    names["LONGEST"] = float("inf") if any_length else names["LONGEST"]
+    return names["lines"]
+
+
 def batch(scenes):
     """A file of these scenes: of each its length in four bytes, most significant first, and its
     bytes."""
@@ -74,9 +81,7 @@ def main(arguments):
         print(__doc__, file=sys.stderr)
         return 2
     try:
-        names = load(text())
-        names["LONGEST"] = float("inf") if arguments else names["LONGEST"]
-        lines = names["lines"]
+        lines = answering(any_length=arguments != [])
         for data in unbatch("scenes"):
             sys.stdout.write(lines(data))
     except Stop as e:

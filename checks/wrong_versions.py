@@ -12,15 +12,16 @@ can't be. Ends with 1 if one of NOTICED is not noticed, or one of SAME is.
 import pathlib
 import sys
 
-from parts.wrong_endings import ENDINGS, PASSED_OVER
+from parts.wrong_criteria import CRITERIA, IHMSEN_TERM, LARGEST
+from parts.wrong_endings import ENDINGS, ERROR, told
 from parts.wrong_reads import READS
-from parts.wrong_rules import DELTA, DOT, RULES, SUM, TERM
+from parts.wrong_rules import DELTA, DOT, RULES, TERM
 from reference import Stop, load, text, texts, unbatch
 
 ROOT = pathlib.Path(__file__).resolve().parent.parent
 SCENES, LINES = ROOT / "crates/cases_replay/data/scenes", ROOT / "crates/cases_replay/stdout"
 
-NOTICED = [*RULES, *ENDINGS, *READS]
+NOTICED = [*RULES, *ENDINGS, *CRITERIA, *READS]
 
 SAME = [
     ("f's sign after the product", "div((-dt) * dt, p.rho * p.rho), div((dt", "div(-(dt * dt), p.rho * p.rho), div((dt",
@@ -36,10 +37,11 @@ SAME = [
     ("a dot product from 0", DOT, "return ((0.0 + a[0] * b[0]) + a[1] * b[1]) + a[2] * b[2]",
      "only the sign of a zero can change, and each dot product goes times a mass into a sum from +0, which does not "
      "keep it"),
-    ("sums from -0", SUM, "def total(terms): return reduce(lambda x, y: x + y, terms, -0.0)",
-     "only the sign of a zero sum can change: of weights it is tested alone, of a density it is refused, delta goes "
-     "onto a density that is not 0, aii of 0 is none, "
-     "derr is never -0, and a term's sign is lost in the average, where -0 is not above +0"),
+    ("the other order of a sum in Ihmsen's term", IHMSEN_TERM,
+     "div(((found + p.aii * pressure) + p.predicted) - rest, rest)", "a sum's two numbers may change places"),
+    ("of equal averages the later", LARGEST, "max(reversed(averages), default=0.0), False",
+     "equal doubles have the same bits, but for zeros, and no average of Ihmsen's is -0: a term is a zero or at least "
+     "2^-53 in size, so that no average underflows, and a sum from +0 is never -0"),
     ("vector sums from -0", "return reduce(add, terms, ZERO)", "return reduce(add, terms, (-0.0,) * 3)",
      "only the sign of a zero axis of dii or dij can change, and both go by sums, products and dot products into sums "
      "from +0"),
@@ -51,8 +53,8 @@ SAME = [
      "(total(p.term for p in f.particles) * 0.5 if len(f.particles) == 2 else total(p.term for p in f.particles) / "
      "len(f.particles)) for f",
      "half of a double rounds as its product with 0.5"),
-    ("a sum that is not a number", PASSED_OVER,
-     "any(math.isnan(total(p.term for p in f.particles)) for f in s.fluids)",
+    ("a sum that is not a number", ERROR,
+     told("any(math.isnan(total(p.term for p in f.particles)) for f in s.fluids)"),
      "a sum divided by a count is not a number where the sum is not, and an empty fluid's sum is +0"),
 ]
 

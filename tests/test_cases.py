@@ -1,9 +1,12 @@
 """The case programs' files are what checks/ works out, to the byte; what the cases say of averages
-that are passed over; and the looks of cases_check at contact lists."""
+that are passed over, of versions and of rules; and the looks of cases_check at contact lists."""
+import collections
 import contextlib
 import io
 import itertools
+import math
 import pathlib
+import struct
 import sys
 import unittest
 
@@ -13,13 +16,16 @@ import cases_check    # noqa: E402
 import cases_clock    # noqa: E402
 import cases_kernel   # noqa: E402
 import cases_step     # noqa: E402
+import made_scenes    # noqa: E402
 import reference      # noqa: E402
 import wrong_versions    # noqa: E402
-from parts import list_scenes, packing, step_cases    # noqa: E402
-from parts.branches import BRANCHES, Branches         # noqa: E402
-from parts.step_rules import LONGEST, lines           # noqa: E402
-from parts.step_scenes import EMPTY, changed, rich, scene_a, to    # noqa: E402
-from parts.wrong_endings import ENDINGS    # noqa: E402
+from parts import limits, list_scenes, packing, rule_cases, sides, step_cases    # noqa: E402
+from parts.branches import BRANCHES, IHMSEN, Branches    # noqa: E402
+from parts.step_rules import LONGEST, lines              # noqa: E402
+from parts.step_scenes import EMPTY, FORMS, changed, rich, scene_a, to, under    # noqa: E402
+from parts.wrong_criteria import CRITERIA    # noqa: E402
+from parts.wrong_endings import ENDINGS      # noqa: E402
+from parts.wrong_reads import READS          # noqa: E402
 
 
 class Files(unittest.TestCase):
@@ -81,6 +87,77 @@ class PassedOver(unittest.TestCase):
         self.assertLessEqual({branch for branch in BRANCHES if "passed over" in branch}, met)
 
 
+class Rules(unittest.TestCase):
+    """Versions and rules: what is refused, what is the same, and rule 1."""
+
+    def test_bytes_0_and_1(self):
+        for first, second, line in (
+                (0x00, 0x00, "2 0"), (0x10, 0x00, "accepted"), (0x10, 0x01, "2 1"), (0x10, 0x0F, "2 1"),
+                (0x10, 0x91, "3 1"), (0x19, 0x01, "3 0"), (0x20, 0x00, "accepted"), (0x20, 0x01, "accepted"),
+                (0x20, 0x02, "2 1"), (0x20, 0x0F, "2 1"), (0x20, 0x91, "3 1"), (0x20, 0x92, "3 1"), (0x29, 0x02, "3 0"),
+                (0x30, 0x00, "2 0"), (0x39, 0x90, "2 0"), (0xF0, 0x01, "2 0")):
+            data = bytes([first, second]) + EMPTY[2:]
+            self.assertEqual(cases_check.line(data), line + "\n", data[:2].hex())
+            text = "step settled 2 0000000000000000 0\n" if line == "accepted" else "refused %s\n" % line
+            self.assertIn(text, lines(data), data[:2].hex())
+
+    def test_rule_0_is_that_of_version_1(self):
+        for data, text in PassedOver.LINES:
+            if sides.form(data) == (1, 0):
+                self.assertEqual(lines(under(data, 2, 0)), text)
+
+    def test_named_cases(self):
+        named = [(comment, lines(data).splitlines()[0]) for comment, data, *_ in rule_cases.of_ihmsen()]
+        self.assertEqual(len(dict(named)), len(named))
+        for case in (
+                ("its first error", "step ranout 1 3FF0000000000000 0"),
+                ("scene B by Ihmsen", "step settled 2 0000000000000000 0"),
+                ("the empty scene by Ihmsen", "step settled 2 0000000000000000 0"),
+                ("an error below 0 meets its own bits", "step settled 1 BFE0000000000000 0"),
+                ("error -infinity meets the least limit", "step settled 2 FFF0000000000000 0"),
+                ("average -0.5 between empty fluids", "step ranout 1 BFE0000000000000 0"),
+                ("terms of -0, by a rest density below 0, make error +0", "step settled 2 0000000000000000 0"),
+                ("the second of two averages not a number", "step ranout 1 7FF8000000000000 0"),
+                ("not a number, then 0", "step settled 2 0000000000000000 0")):
+            self.assertIn(case, named)
+
+    def test_each_branch_is_met(self):
+        seen = Branches(reference.text())
+        met = set().union(*(seen.of(data) for _, data, *_ in rule_cases.of_ihmsen()))
+        self.assertLessEqual({branch for branch in BRANCHES if branch.startswith(IHMSEN)}, met)
+
+    def test_no_error_is_minus_zero(self):
+        endings = [text.split("\n")[0] for _, text in PassedOver.LINES]
+        endings += [lines(data).split("\n")[0] for name in ("aimed", "zeros")
+                    for data in itertools.islice(made_scenes.made(1, name), 300)]
+        self.assertFalse([line for line in endings if "8000000000000000" in line.split(" ")])
+
+    def test_each_class_has_all_forms(self):
+        for name in made_scenes.CLASSES:
+            found = {sides.form(data) for data in itertools.islice(made_scenes.made(1, name), 60)}
+            self.assertLessEqual(set(FORMS), found, name)
+
+    def test_limits_are_at_an_error(self):
+        beside = collections.Counter()
+        for data in itertools.islice(made_scenes.made(1, "limits"), 200):
+            errors, (limit,) = limits.errors(data), struct.unpack(">d", data[20:28])
+            if any(map(math.isfinite, errors)):
+                lower, upper = math.nextafter(limit, -math.inf), math.nextafter(limit, math.inf)
+                self.assertTrue({lower, limit, upper} & set(errors), data.hex())
+                beside.update(["below 0"] if limit < 0.0 else [])
+                beside.update(["at" if limit in errors else "above" if lower in errors else "below"])
+        self.assertGreater(min(beside[place] for place in ("below 0", "at", "above", "below")), 10, beside)
+
+    def test_lines_behind_the_first_are_the_rusts(self):
+        """With a stand-in for the oracle, that answers rule 0 alone."""
+        class Expected(sides.Expected):
+            def rusts(self, scenes):
+                return [sides.SKIPPED if sides.form(data) == (2, 1) and "step" in text else text
+                        for data, text in zip(scenes, map(lines, scenes))]
+        scenes, texts = zip(*PassedOver.LINES)
+        self.assertEqual(Expected("no oracle").of(scenes), list(texts))
+
+
 class Versions(unittest.TestCase):
     """Wrong versions of the step. That the recorded answers notice them takes longer:
     checks/wrong_versions.py."""
@@ -91,7 +168,7 @@ class Versions(unittest.TestCase):
             self.assertNotEqual(wrong_versions.edited(source, old, new), source, name)
 
     def test_cases_notice_those_of_the_end(self):
-        for name, old, new in ENDINGS:
+        for name, old, new in [*ENDINGS, *CRITERIA, *READS]:
             wrong = reference.load(wrong_versions.edited(reference.text(), old, new))["lines"]
             self.assertTrue(any(wrong_versions.answer(wrong, data) != text for data, text in PassedOver.LINES), name)
 

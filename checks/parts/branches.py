@@ -2,13 +2,15 @@
 into checks/parts/step_rules.py's text."""
 import math
 
+from parts import branches_ihmsen
 from reference import load
 from wrong_versions import edited
 
 # Notes in the reference's text: what is there once, and the note before it.
 NOTES = [
-    ("    return (pressure, div((-found)", "    note_pressure(pressure)\n"),
+    ("    return (pressure, criterion.term(", "    note_pressure(pressure)\n"),
     ("        if average > error:", "        note_average(average, error)\n"),
+    ("    return s.criterion.error(averages)\n", "    note_averages(averages)\n"),
     ("        settled = error <= s.limit and i >= s.least\n", "        note_end(error, passed_over, s, i)\n"),
     ("            if c.named.force is not None:\n", "            note_wall(c, p)\n"),
     ("    finish(s)\n", "    note_coefficients(s)\n"),
@@ -25,19 +27,23 @@ next pressure above 0|next pressure below 0|next pressure +0|next pressure infin
 an average greater|an average not greater|an average below 0|an average not a number|an average infinite
 settled, passed over|ran out, passed over|passed over before, not at the end|passed over at the end, not before
 passed over beside a number|passed over in several fluids|passed over though each term is a number
-an infinite average, not passed over|an empty fluid, not passed over
-error above the limit|limit met before least|limit met at least|limit met after least|limit met exactly
-limit met in the last iteration|ran out with the limit met
+an infinite average, not passed over|infinite averages of both signs, not passed over|an empty fluid, not passed over
 unswept|settled|ran out|255 iterations|a warm pressure below 0 stays|a pressure infinite at the end
 a contact with itself|a repeated contact|no fluid contacts|wall contacts alone|a link to another fluid
 a push on a kept force|a push on no force|a push of pressure 0|two pushes on one force
 refused 9 without contacts|refused 9 by terms|refused 9 at a later fluid
-refused 10|refused 10 at a later particle""".replace("\n", "|").split("|")
+refused 10|refused 10 at a later particle
+version 1|version 2, rule 0|version 2, rule 1""".replace("\n", "|").split("|")
 BRANCHES += ["refused 1 in the %s" % part for part in ("header", "count", "rest density", "records")]
-BRANCHES += ["refused 2 at 0", "refused 2 at 1", "refused 3 at 0", "refused 3 at 1", "refused 4 at 52",
-             "refused 4 later", "refused 5", "refused 6 in the header",
-             "refused 6 at the rest density", "refused 6 in the records", "refused 7 by the model",
-             "refused 7 by the number", "refused 7 at a wall contact"]
+BRANCHES += ["refused 2 at 0", "refused 2 at 1 in version 1", "refused 2 at 1 in version 2", "refused 3 at 0",
+             "refused 3 at 1", "refused 3 at 1 with a wrong rule", "refused 4 at 52", "refused 4 later", "refused 5",
+             "refused 6 in the header", "refused 6 at the rest density", "refused 6 in the records",
+             "refused 7 by the model", "refused 7 by the number", "refused 7 at a wall contact"]
+# By either criterion; Ihmsen's have this before their names.
+IHMSEN = "Ihmsen: "
+ENDS = """error above the limit|limit met before least|limit met at least|limit met after least|limit met exactly
+limit met in the last iteration|ran out with the limit met""".replace("\n", "|").split("|")
+BRANCHES += [*ENDS, *(IHMSEN + name for name in ENDS + branches_ihmsen.NAMES)]
 
 
 class Branches:
@@ -47,8 +53,8 @@ class Branches:
         for old, note in NOTES:
             source = edited(source, old, note + old)
         self.names = load(source)
-        self.names.update(note_pressure=self.pressure, note_average=self.average, note_end=self.end,
-                          note_wall=self.wall, note_coefficients=self.coefficients)
+        self.names.update(note_pressure=self.pressure, note_average=self.average, note_averages=self.averages,
+                          note_end=self.end, note_wall=self.wall, note_coefficients=self.coefficients)
 
     def of(self, data):
         self.met, self.pushed, self.iterations = set(), set(), []
@@ -58,11 +64,17 @@ class Branches:
         if line.startswith("step"):
             endings = {"unswept": "unswept", "settled": "settled", "ranout": "ran out"}
             ending = endings[line.split(" ")[1]]
+            self.add("version 1" if data[0] >> 4 == 1 else "version 2, rule %d" % (data[1] & 15), True)
             self.add(ending, True)
             self.add("255 iterations", line.split(" ")[2] == "255")
-            if self.iterations:
+            if self.by_ihmsen(self.scene):
+                found = [(averages, terms, error) for error, _, averages, terms in self.iterations]
+                self.met |= {IHMSEN + name for name in branches_ihmsen.met(ending, found, self.scene.limit)}
+            elif self.iterations:
                 self.passed_over(ending)
         return self.met
+
+    def by_ihmsen(self, s): return s.criterion is self.names["IHMSEN"]
 
     def add(self, name, holds):
         if holds:
@@ -83,20 +95,24 @@ class Branches:
         self.add("an average not greater", 0.0 < x <= error)
         self.sized("an average", x, "below 0", "not a number", "infinite")
 
+    def averages(self, averages):
+        self.last_averages = averages
+
     def end(self, error, passed_over, s, i):
-        self.iterations.append((passed_over, [[p.term for p in f.particles] for f in s.fluids]))
-        met = error <= s.limit
-        self.add("error above the limit", not met and i >= s.least)
-        self.add("limit met before least", met and i < s.least)
-        self.add("limit met at least", met and i == s.least)
-        self.add("limit met after least", met and i > s.least)
-        self.add("limit met exactly", met and error == s.limit and error > 0.0 and i >= s.least)
-        self.add("limit met in the last iteration", met and i >= s.least and i + 1 == s.most)
-        self.add("ran out with the limit met", met and i < s.least and i + 1 == s.most)
+        self.iterations.append(
+            (error, passed_over, self.last_averages, [[p.term for p in f.particles] for f in s.fluids]))
+        met, criterion = error <= s.limit, IHMSEN if self.by_ihmsen(s) else ""
+        self.add(criterion + "error above the limit", error > s.limit and i >= s.least)
+        self.add(criterion + "limit met before least", met and i < s.least)
+        self.add(criterion + "limit met at least", met and i == s.least)
+        self.add(criterion + "limit met after least", met and i > s.least)
+        self.add(criterion + "limit met exactly", met and error == s.limit and error > 0.0 and i >= s.least)
+        self.add(criterion + "limit met in the last iteration", met and i >= s.least and i + 1 == s.most)
+        self.add(criterion + "ran out with the limit met", met and i < s.least and i + 1 == s.most)
 
     def passed_over(self, ending):
         """Of the last iteration, and of those before: was an average passed over."""
-        *before, (yes, fluids) = self.iterations
+        *before, (yes, fluids) = [(passed, terms) for _, passed, _, terms in self.iterations]
         sums = [(self.names["total"](terms), terms) for terms in fluids if terms]
         not_numbers = [terms for found, terms in sums if math.isnan(found)]
         self.add("%s, passed over" % ending, yes)
@@ -106,7 +122,9 @@ class Branches:
         self.add("passed over in several fluids", len(not_numbers) > 1)
         self.add("passed over though each term is a number",
                  any(not any(map(math.isnan, terms)) for terms in not_numbers))
-        self.add("an infinite average, not passed over", not yes and any(math.isinf(found) for found, _ in sums))
+        infinite = {found for found, _ in sums if math.isinf(found)}
+        self.add("an infinite average, not passed over", not yes and infinite)
+        self.add("infinite averages of both signs, not passed over", not yes and len(infinite) == 2)
         self.add("an empty fluid, not passed over", not yes and [] in fluids)
 
     def wall(self, c, p):
@@ -119,7 +137,7 @@ class Branches:
 
     def coefficients(self, s):
         """Seen when the iterations are over."""
-        dt = s.dt
+        self.scene, dt = s, s.dt
         self.add("no fluids", not s.fluids)
         self.add("no walls", not s.walls)
         self.add("an empty fluid", any(not f.particles for f in s.fluids))
@@ -165,7 +183,7 @@ class Branches:
         if number == 1:
             self.add("refused 1 in the " + part, True)
         elif number in (2, 3):
-            self.add("refused %d at %d" % (number, place), True)
+            self.form(data, number, place)
         elif number == 4:
             self.add("refused 4 at 52" if place == 52 else "refused 4 later", True)
         elif number == 5:
@@ -182,6 +200,13 @@ class Branches:
         else:
             self.add("refused 10", True)
             self.add("refused 10 at a later particle", place > 62)
+
+    def form(self, data, number, place):
+        """Refusals 2 and 3."""
+        version, what = data[0] >> 4, "refused %d at %d" % (number, place)
+        self.add(what + " in version %d" % version if what == "refused 2 at 1" else what, True)
+        self.add("refused 3 at 1 with a wrong rule",
+                 what == "refused 3 at 1" and data[1] & 15 >= len(self.names["CRITERIA"][version]))
 
     def missing(self, data, place):
         """A name at fault: is its model there at all, and is it in a wall contact's list."""

@@ -1,7 +1,7 @@
 """Packed scenes taken apart and put together, for made_scenes.py and compare.py.
 
-A scene is a dict: least, most, head (step length, remaining time, limit, gravity), fluids and
-walls. A fluid is [rest, particles], a wall [keeps, particles]; a particle is [doubles, fluid
+A scene is a dict: form (version, rule), least, most, head (step length, remaining time, limit,
+gravity), fluids and walls. A fluid is [rest, particles], a wall [keeps, particles]; a particle is [doubles, fluid
 contacts, wall contacts], a wall's particle [doubles, contacts]; a contact is [model, number,
 weight, gradient...].
 """
@@ -14,7 +14,9 @@ def contacts(cs): return b"".join(map(contact, cs))
 
 
 def pack(s):
-    parts = [bytes([16 + len(s["fluids"]), 16 * len(s["walls"]), s["least"], s["most"]]), doubles(s["head"])]
+    version, rule = s["form"]
+    counts = bytes([version << 4 | len(s["fluids"]), len(s["walls"]) << 4 | rule, s["least"], s["most"]])
+    parts = [counts, doubles(s["head"])]
     for rest, particles in s["fluids"]:
         parts += [struct.pack(">Hd", len(particles), rest)]
         parts += [doubles(numbers) + bytes([len(near), len(walls)]) + contacts(near) + contacts(walls)
@@ -48,7 +50,8 @@ def unpack(data):
 
     try:
         first, second, least, most = take("4B")
-        s = {"least": least, "most": most, "head": take("6d"), "fluids": [], "walls": []}
+        s = {"form": (first >> 4, second & 15), "least": least, "most": most, "head": take("6d"), "fluids": [],
+             "walls": []}
         for _ in range(first & 15):
             count, rest = take("Hd")
             s["fluids"].append([rest, [drop() for _ in range(count)]])

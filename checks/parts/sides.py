@@ -1,11 +1,14 @@
-"""The two sides that compare.py holds against each other: the oracle and the subject, asked for the
-texts of some scenes."""
+"""The two sides that compare.py holds against each other: what is expected, from the oracle and the
+reference, and the subject, each asked for the texts of some scenes."""
 import pathlib
 import subprocess
 import tempfile
 
 from made_scenes import LARGE
-from reference import Stop, batch, texts
+from parts.step_scenes import FORMS, changed, under
+from reference import Stop, answering, batch, texts
+
+SKIPPED, IHMSENS = "skipped\n", (2, 1)
 
 
 class Failed(Exception):
@@ -37,34 +40,76 @@ def files_full(scenes, most):
         yield full
 
 
+def texts_of(command, scenes):
+    """What a command that reads the file `scenes` prints of each."""
+    with tempfile.TemporaryDirectory() as folder:
+        (pathlib.Path(folder) / "scenes").write_bytes(batch(scenes))
+        return texts(ran(command, folder))
+
+
+class Expected:
+    """The texts that scenes must have, by the oracle, and by the reference where a rule is none of
+    the Rust's."""
+
+    def __init__(self, oracle, any_length=False):
+        self.oracle = [str(oracle), "scenes", "scenes"] + ["--any-length"] * any_length
+        self.lines = answering(any_length)
+
+    def rusts(self, scenes):
+        """The oracle's answers."""
+        try:
+            found = texts_of(self.oracle, scenes)
+        except Failed as e:
+            raise Stop(str(e))
+        if len(found) != len(scenes):
+            raise Stop("the oracle gave %d answers to %d scenes" % (len(found), len(scenes)))
+        return found
+
+    def of(self, scenes):
+        """Under rule 1 the first line is the reference's. The others do not hang on the rule but on
+        the number of iterations: they are the Rust's after as many, where it leaves no sign open.
+        """
+        found = self.rusts(scenes)
+        at = [k for k, data in enumerate(scenes) if found[k] == SKIPPED and form(data) == IHMSENS]
+        lines = [self.lines(scenes[k]) for k in at]
+        for k, line, rust in zip(at, lines, self.rusts([without_end(scenes[k], line) for k, line in zip(at, lines)])):
+            found[k] = line if rust == SKIPPED else line.split("\n", 1)[0] + "\n" + rust.split("\n", 1)[1]
+        return found
+
+
+def form(data): return (data[0] >> 4, data[1] & 15) if len(data) > 1 else None
+
+
+def form_name(data):
+    """The name of a scene's version and rule."""
+    return "version %d, rule %d" % form(data) if form(data) in FORMS else "without a form"
+
+
+def without_end(data, text):
+    """The scene under the Rust's rule, with the iterations of this text and no end before."""
+    iterations = int(text.split(maxsplit=3)[2])
+    return changed(under(data, 1, 0), 2, bytes([iterations, iterations]))
+
+
 class Sides:
-    """The oracle and the subject, each asked for the texts of some scenes."""
+    """What is expected and what the subject answers."""
 
     def __init__(self, options):
-        self.oracle = [str(options.oracle), "scenes", "scenes"] + ["--any-length"] * (options.only in LARGE)
+        self.expected = Expected(options.oracle, options.only in LARGE)
         self.subject, self.alone = options.command, options.stdin
 
     def ask(self, scenes):
-        with tempfile.TemporaryDirectory() as folder:
-            (pathlib.Path(folder) / "scenes").write_bytes(batch(scenes))
-            try:
-                rust = texts(ran(self.oracle, folder))
-            except Failed as e:
-                raise Stop(str(e))
-            if self.alone:
-                ours = [ran(self.subject, folder, data) for data in scenes]
-            else:
-                ours = texts(ran(self.subject, folder))
-        if len(rust) != len(scenes):
-            raise Stop("the oracle gave %d answers to %d scenes" % (len(rust), len(scenes)))
-        return rust, ours
+        expected = self.expected.of(scenes)
+        if self.alone:
+            return expected, [ran(self.subject, None, data) for data in scenes]
+        return expected, texts_of(self.subject, scenes)
 
     def first_wrong(self, scenes, most):
         """The first of these scenes on which the answers differ, asking for many at a time."""
         for full in files_full(((None, data) for data in scenes), most):
             some = [data for _, data in full]
             try:
-                rust, ours = self.ask(some)
+                expected, ours = self.ask(some)
             except Failed:
                 ours = None
             if ours is None or len(ours) != len(some):      # one of them has no answer: which?
@@ -72,7 +117,7 @@ class Sides:
                     return some[0]
                 found = self.first_wrong(some, len(some[0]) + 4)
             else:
-                found = next((data for data, a, b in zip(some, rust, ours) if a != b and a != "skipped\n"), None)
+                found = next((data for data, a, b in zip(some, expected, ours) if a not in (b, SKIPPED)), None)
             if found is not None:
                 return found
         return None

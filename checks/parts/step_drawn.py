@@ -1,7 +1,7 @@
 """Scenes drawn by a fixed generator, and damaged copies of them, for cases_step.py."""
 import struct
 
-from parts.step_scenes import LEAST, beside, changed, fluid, particle, scene, stone, to, wall
+from parts.step_scenes import FORMS, LEAST, beside, changed, fluid, particle, scene, stone, to, under, wall
 
 NICE = 0.0, 1.0, -1.0, 0.5, -0.5, 2.0, 0.25, 3.0
 EXTREME = 1.7976931348623157e308, 1e300, 1e154, 1e17, 1e-17, 1e-154, 1e-300
@@ -61,10 +61,10 @@ class Draw:
 
 
 def drawn():
-    """200 scenes, and here and there one cut short or with a byte changed."""
+    """300 scenes, of each form 100, and here and there one cut short or with a byte changed."""
     draw = Draw(2014)
-    for k in range(200):
-        data = draw.scene()
+    for k in range(300):
+        data = under(draw.scene(), *FORMS[k % 3])
         yield "random", data
         if k % 8 == 3:
             yield "cut short", data[:draw.below(len(data))]

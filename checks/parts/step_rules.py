@@ -1,10 +1,10 @@
-"""The whole step, read from the specification alone, for cases_step.py and cases_clock.py, and by
-reference.py for all that edit its text: checks a packed scene, runs the step and gives the
-program's lines.
+"""The whole step, read from the specification alone, for cases_step.py, cases_clock.py and other
+parts, and by reference.py for all that edit its text: checks a packed scene, runs the step and
+gives the program's lines.
 
 Python's floats are IEEE 754 doubles and each operation stands in METHOD's order; `div` adds the
-division by zero that Python refuses. wrong_rules.py, wrong_endings.py, wrong_reads.py and
-branches.py quote this text, and it needs no other file of checks/.
+division by zero that Python refuses. The files wrong_*.py and branches.py quote this text, and it
+needs no other file of checks/.
 """
 import math
 import struct
@@ -30,6 +30,33 @@ def scale(a, s): return tuple(x * s for x in a)
 def dot(a, b): return (a[0] * b[0] + a[1] * b[1]) + a[2] * b[2]
 def total(terms): return reduce(lambda x, y: x + y, terms, 0.0)
 def vector_total(terms): return reduce(add, terms, ZERO)
+
+
+# ---- the criteria by which iterations end: a particle's term, where its next pressure is above 0;
+# the error of the fluids' averages, and whether one that is not a number was passed over for it
+
+def salva_term(rest, p, found, pressure): return div((-found) - p.aii * pressure, rest)
+def ihmsen_term(rest, p, found, pressure): return div((p.predicted + (found + p.aii * pressure)) - rest, rest)
+
+
+def salva_error(averages):
+    """The largest average above 0, or +0."""
+    error = 0.0
+    for average in averages:
+        if average > error:      # false for one that is not a number
+            error = average
+    return error, any(math.isnan(average) for average in averages)
+
+
+def ihmsen_error(averages):
+    """The largest average, of equals the earlier as `max` has it; not a number if one is not."""
+    if any(map(math.isnan, averages)):
+        return math.nan, False
+    return max(averages, default=0.0), False
+
+
+SALVA, IHMSEN = Record(term=salva_term, error=salva_error), Record(term=ihmsen_term, error=ihmsen_error)
+CRITERIA = {1: [SALVA], 2: [SALVA, IHMSEN]}      # those of each version, by the rule's number
 
 
 # ---- the check of a packed scene: refusals 1 to 7
@@ -89,18 +116,18 @@ class Reader:
 def walk(data):
     """The scene of a packed one, with each contact's `named` the particle that it names."""
     r = Reader(data)
-    first = r.number(1)
-    r.must(first >> 4 == 1, 2, 1)
-    r.must(first & 15 <= 8, 3, 1)
-    second = r.number(1)
-    r.must(second >> 4 <= 8, 3, 1)
-    r.must(second & 15 == 0, 2, 1)
-    s = Record(least=r.number(1), most=r.number(1), dt=r.double(), remaining=r.double(), limit=r.double(),
-               gravity=r.vector(), fluids=[], walls=[])
-    for _ in range(first & 15):
+    version, fluids = divmod(r.number(1), 16)
+    r.must(version in CRITERIA, 2, 1)
+    r.must(fluids <= 8, 3, 1)
+    walls, rule = divmod(r.number(1), 16)
+    r.must(walls <= 8, 3, 1)
+    r.must(rule < len(CRITERIA[version]), 2, 1)
+    s = Record(criterion=CRITERIA[version][rule], least=r.number(1), most=r.number(1), dt=r.double(),
+               remaining=r.double(), limit=r.double(), gravity=r.vector(), fluids=[], walls=[])
+    for _ in range(fluids):
         n, _ = r.count(0xFFFF)
         s.fluids.append(Record(rest=r.double(), particles=[r.fluid_particle() for _ in range(n)]))
-    for _ in range(second >> 4):
+    for _ in range(walls):
         n, keeps = r.count(0x7FFF)
         s.walls.append(Record(keeps=keeps, particles=[r.wall_particle(keeps) for _ in range(n)]))
     if r.at < len(data):
@@ -151,7 +178,7 @@ def prepare(s):
         p.pressure = 0.5 * p.warm
 
 
-def relaxed(rest, p):
+def relaxed(criterion, rest, p):
     """A particle's next pressure and error term."""
     if not abs(p.aii) > 1e-9:
         return 0.0, 0.0
@@ -159,7 +186,7 @@ def relaxed(rest, p):
                    sub(c.named.dij, scale(scale(c.gradient, p.e), p.pressure))) for c in p.near]
     found = total(c.mass * dot(factor, c.gradient) for c, factor in zip(p.links, factors + [p.dij] * len(p.walls)))
     pressure = 0.5 * p.pressure + div(0.5 * ((rest - p.predicted) - found), p.aii)
-    return (pressure, div((-found) - p.aii * pressure, rest)) if pressure > 0.0 else (0.0, 0.0)
+    return (pressure, criterion.term(rest, p, found, pressure)) if pressure > 0.0 else (0.0, 0.0)
 
 
 def iteration(s):
@@ -169,15 +196,11 @@ def iteration(s):
         p.dij = scale(vector_total(scale(c.gradient, div((-c.mass) * c.named.pressure, c.named.rho * c.named.rho))
                                    for c in p.near), s.dt * s.dt)
     for fluid, p in s.all:
-        p.next, p.term = relaxed(fluid.rest, p)
+        p.next, p.term = relaxed(s.criterion, fluid.rest, p)
     for _, p in s.all:
         p.pressure = p.next
     averages = [total(p.term for p in f.particles) / len(f.particles) for f in s.fluids if f.particles]
-    error = 0.0
-    for average in averages:
-        if average > error:      # false for one that is not a number
-            error = average
-    return error, any(math.isnan(average) for average in averages)
+    return s.criterion.error(averages)
 
 
 def finish(s):

@@ -1,5 +1,5 @@
-"""Packed scenes put together from pieces, for cases_step.py, cases_clock.py, list_scenes.py and
-tests/: the specification's scenes A and B, and others. A stone is a particle of a wall."""
+"""Packed scenes put together from pieces, for cases_step.py, cases_clock.py, tests/ and other parts:
+the specification's scenes A and B, and others. A stone is a particle of a wall."""
 import struct
 
 from parts.step_rules import ZERO
@@ -12,6 +12,7 @@ def beside(model, number, weight): return struct.pack(">H", model << 12 | number
 def to(model, number, weight=1.0, gradient=ZERO): return beside(model, number, weight) + doubles(*gradient)
 def wall(*records, keeps=0): return struct.pack(">H", keeps << 15 | len(records)) + b"".join(records)
 def changed(data, at, new): return data[:at] + new + data[at + len(new):]
+def under(data, version, rule): return bytes([version << 4 | data[0] & 15, data[1] & 0xF0 | rule]) + data[2:]
 
 
 def fluid(rest, *records, count=None):
@@ -29,12 +30,14 @@ def particle(near=(), walls=(), position=ZERO, velocity=ZERO, acceleration=ZERO,
 
 
 def scene(fluids, walls=(), least=1, most=50, dt=1.0, remaining=0.0, limit=0.05, gravity=ZERO):
+    """In version 1; `under` puts a scene into another version and rule."""
     head = bytes([16 + len(fluids), 16 * len(walls), least, most])
     return head + doubles(dt, remaining, limit, *gravity) + b"".join([*fluids, *walls])
 
 
 # ---- the specification's scenes, and pieces of others
 
+FORMS = (1, 0), (2, 0), (2, 1)      # the versions and rules that are there
 X, Z, FALL, STEEP = (1.0, 0.0, 0.0), (0.0, 0.0, 1.0), (0.0, 0.0, -4.0), (2.0**21, 0.0, 0.0)
 ZEROS, LEAST = (-0.0, 0.0, -0.0), 5e-324
 EMPTY = bytes.fromhex("10000132") + bytes(48)
@@ -86,10 +89,17 @@ def torn(model):
     return fluid(1.0, particle([to(model, 0)]), particle([to(model, 0, 1e-154, (0.5, 0.5, 0.5))], warm=8.0))
 
 
+def sinking(model):
+    """A fluid of one particle whose aii × p is -infinity, and so its density after the iteration,
+    though its pressure is finite."""
+    return one([to(model, 0)], walls=[to(0, 0, 0.0, (2.0**20, 0.0, 0.0))], warm=2.0**1000)
+
+
 def weightless(*speeds):
     """Fluids with rest density 0, each with a list of its particles' speeds, and behind them one
-    whose particle, with pressure -2, is named by all. In the first iteration a term is half of
-    speed - 1, divided by 0."""
+    whose particle, with pressure -2, is named by all. In the first iteration a term of Salva's is
+    half of speed - 1, divided by 0, and one of Ihmsen's half of speed + 1; in the second Ihmsen's
+    is a quarter of speed - 1."""
     thin = [fluid(0.0, *[particle([to(len(speeds), 0, 1.0, X)], velocity=(speed, 0.0, 0.0)) for speed in of_fluid])
             for of_fluid in speeds]
     return [*thin, one([to(len(speeds), 0)], warm=-4.0)]

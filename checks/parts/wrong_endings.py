@@ -1,9 +1,16 @@
-"""Wrong versions of an iteration's error and of the step's end, for wrong_versions.py, in the form
-of wrong_rules.py."""
+"""Wrong versions of Salva's error and of the step's end, for wrong_versions.py, in the form of
+wrong_rules.py."""
 
 SETTLED = "settled = error <= s.limit and i >= s.least"
 FOUND = "error, passed_over = iteration(s)\n"
 PASSED_OVER = "any(math.isnan(average) for average in averages)"
+ERROR = "return s.criterion.error(averages)"
+
+
+def told(passed_over):
+    """An iteration's answer in which, by Salva's criterion, this is told."""
+    return "return s.criterion.error(averages)[0], s.criterion is SALVA and (%s)" % passed_over
+
 
 ENDINGS = [
     # the error
@@ -24,15 +31,15 @@ ENDINGS = [
     ("never passed over", PASSED_OVER, "False"),
     ("always passed over", PASSED_OVER, "True"),
     ("0 for passed over", PASSED_OVER, "not " + PASSED_OVER),
-    ("a term that is not a number", PASSED_OVER, "any(math.isnan(p.term) for _, p in s.all)"),
-    ("an aii that is not a number", PASSED_OVER, "any(math.isnan(p.aii) for _, p in s.all)"),
-    ("an infinite pressure", PASSED_OVER, "any(math.isinf(p.pressure) for _, p in s.all)"),
+    ("a term that is not a number", ERROR, told("any(math.isnan(p.term) for _, p in s.all)")),
+    ("an aii that is not a number", ERROR, told("any(math.isnan(p.aii) for _, p in s.all)")),
+    ("an infinite pressure", ERROR, told("any(math.isinf(p.pressure) for _, p in s.all)")),
     ("an infinite average is passed over", PASSED_OVER, "any(not math.isfinite(average) for average in averages)"),
     ("infinite averages of both signs are passed over", PASSED_OVER, "math.isnan(total(averages))"),
     ("an average below 0 is passed over", PASSED_OVER, "any(not average >= 0.0 for average in averages)"),
     ("an average of 0 is passed over", PASSED_OVER, "any(not average > 0.0 for average in averages)"),
     ("a smaller average is passed over", PASSED_OVER, "any(not average >= error for average in averages)"),
-    ("an empty fluid is passed over", PASSED_OVER, "any(not f.particles for f in s.fluids) or " + PASSED_OVER),
+    ("an empty fluid is passed over", ERROR, told("any(not f.particles for f in s.fluids) or " + PASSED_OVER)),
     ("all must be passed over", PASSED_OVER, "averages != [] and all(math.isnan(average) for average in averages)"),
     ("passed over with error 0 alone", PASSED_OVER, "error == 0.0 and " + PASSED_OVER),
     ("passed over in the first fluid alone", PASSED_OVER, PASSED_OVER.replace("averages", "averages[:1]")),

@@ -7,6 +7,7 @@ FACTOR = ("sub(sub(p.dij, scale(c.named.dii, c.named.pressure)),\n" + " " * 19 +
           "sub(c.named.dij, scale(scale(c.gradient, p.e), p.pressure)))")
 NEXT = "0.5 * p.pressure + div(0.5 * ((rest - p.predicted) - found), p.aii)"
 TERM = "div((-found) - p.aii * pressure, rest)"
+NO_PRESSURE = "if pressure > 0.0 else (0.0, 0.0)"
 DELTA = "total(c.mass * dot(sub(p.v, c.named.v), c.gradient) for c in p.links) * dt"
 AII = "total(c.mass * dot(sub(p.dii, scale(c.gradient, p.e)), c.gradient) for c in p.links)"
 BOTH = "div(p.pressure, p.rho * p.rho) + div(c.named.pressure, c.named.rho * c.named.rho)"
@@ -27,6 +28,7 @@ RULES = [
      "def total(terms): return (lambda f, z: f(f, z))(lambda f, z: f(f, z[:len(z) // 2]) + f(f, z[len(z) // 2:]) if "
      "len(z) > 1 else "
      "0.0 + z[0] if z else 0.0, list(terms))"),
+    ("sums from -0", SUM, "def total(terms): return reduce(lambda x, y: x + y, terms, -0.0)"),
     ("vector sums from the back", "return reduce(add, terms, ZERO)", "return reduce(add, reversed(list(terms)), ZERO)"),
     ("wall contacts before fluid contacts", "p.links = p.near + p.walls", "p.links = p.walls + p.near"),
     ("fluid contacts from the back", "p.links = p.near + p.walls", "p.links = p.near[::-1] + p.walls"),
@@ -172,18 +174,17 @@ RULES = [
     ("the error as two quotients", TERM, "div(-found, rest) - div(p.aii * pressure, rest)"),
     ("the error by the predicted density", TERM, "div((-found) - p.aii * pressure, p.predicted)"),
     ("the error's absolute value", TERM, "abs(div((-found) - p.aii * pressure, rest))"),
-    ("a pressure that is not a number stays", "if pressure > 0.0 else (0.0, 0.0)",
-     "if not pressure <= 0.0 else (0.0, 0.0)"),
-    ("a next pressure of 0 has a term", "if pressure > 0.0 else (0.0, 0.0)", "if pressure >= 0.0 else (0.0, 0.0)"),
-    ("a negative pressure stays", "if pressure > 0.0 else (0.0, 0.0)", "if pressure == pressure else (0.0, 0.0)"),
-    ("a negative pressure's term counts", "if pressure > 0.0 else (0.0, 0.0)",
-     "if pressure > 0.0 else (0.0, div((-found) - p.aii * 0.0, rest))"),
-    ("an infinite pressure becomes 0", "if pressure > 0.0 else (0.0, 0.0)",
-     "if math.inf > pressure > 0.0 else (0.0, 0.0)"),
-    ("next pressures written over the old", "p.next, p.term = relaxed(fluid.rest, p)",
-     "p.next, p.term = relaxed(fluid.rest, p); p.pressure = p.next"),
+    ("a pressure that is not a number stays", NO_PRESSURE, "if not pressure <= 0.0 else (0.0, 0.0)"),
+    ("a next pressure of 0 has a term", NO_PRESSURE, "if pressure >= 0.0 else (0.0, 0.0)"),
+    ("a negative pressure stays", NO_PRESSURE, "if pressure == pressure else (0.0, 0.0)"),
+    ("a negative pressure's term counts", NO_PRESSURE,
+     "if pressure > 0.0 else (0.0, criterion.term(rest, p, found, 0.0))"),
+    ("an infinite pressure becomes 0", NO_PRESSURE, "if math.inf > pressure > 0.0 else (0.0, 0.0)"),
+    ("next pressures written over the old", "p.next, p.term = relaxed(s.criterion, fluid.rest, p)",
+     "p.next, p.term = relaxed(s.criterion, fluid.rest, p); p.pressure = p.next"),
     ("next pressures never taken over", "        p.pressure = p.next\n", "        p.next = p.pressure\n"),
-    ("the first fluid's rest density", "relaxed(fluid.rest, p)", "relaxed(s.fluids[0].rest, p)"),
+    ("the first fluid's rest density", "relaxed(s.criterion, fluid.rest, p)",
+     "relaxed(s.criterion, s.fluids[0].rest, p)"),
     # velocities, positions, forces
     ("dt after the sum of quotients", "(s.dt * c.mass) * both", "s.dt * (c.mass * both)"),
     ("the gradient scaled twice", "scale(c.gradient, (s.dt * c.mass) * both)",

@@ -1,7 +1,8 @@
 //! oracle scenes FILE [--any-length]
 //!     for each packed scene of the file (its length in four bytes, most significant first, then its
-//!     bytes) FORMAT 4's lines, from the Rust's own step; `skipped` where an average was -0; with
-//!     --any-length no scene is `too long`
+//!     bytes) FORMAT 4's lines, from the Rust's own step; `skipped` where an average was -0, or where
+//!     a scene that is not refused has another rule than the Rust's; with --any-length no scene is
+//!     `too long`
 //! oracle kernel
 //!     for each line of standard input with a distance and a radius (16 hex digits each): weight and
 //!     slope, or the refusal

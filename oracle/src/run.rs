@@ -9,7 +9,7 @@ use crate::geometry::{Contact, ContactManager, HGrid, ParticlesContacts};
 use crate::math::Vector;
 use crate::object::interaction_groups::InteractionGroups;
 use crate::object::{Boundary, Fluid};
-use crate::scene::{read, BoundaryRecord, FluidRecord, Named, Refused, Scene, LONGEST};
+use crate::scene::{read, BoundaryRecord, FluidRecord, Named, Refused, Scene, LONGEST, RUSTS_RULE};
 use crate::solver::{IISPHSolver, PressureSolver};
 use crate::{TimestepManager, ZeroDensity};
 
@@ -121,8 +121,8 @@ fn row(head: &str, numbers: &[f64]) -> String {
     numbers.iter().fold(head.to_string(), |text, x| text + " " + &bits(*x)) + "\n"
 }
 
-/// The lines for one scene. Where an average was -0 the Rust leaves a sign open, and the line is
-/// `skipped`.
+/// The lines for one scene. Under another rule than the Rust's only a refusal is told, and where an
+/// average was -0 the Rust leaves a sign open: in both cases the line is `skipped`.
 pub fn lines(bytes: &[u8], any_length: bool) -> String {
     if bytes.len() > LONGEST && !any_length {
         return "too long\n".to_string();
@@ -138,7 +138,7 @@ fn stepped(scene: &Scene) -> Result<String, Refused> {
     if let Err(found) = state.try_step() {
         return Err(Refused(found.number, scene.fluids[found.fluid].particles[found.particle].place));
     }
-    if state.solver.minus_zero {
+    if scene.rule != RUSTS_RULE || state.solver.minus_zero {
         return Ok("skipped\n".to_string());
     }
     let mut text = match state.solver.last_error {

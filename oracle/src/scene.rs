@@ -6,11 +6,15 @@ use crate::math::Vector;
 pub const LONGEST: usize = 32_768;
 const MOST: usize = 4_096;
 
+/// The rule by which the Rust ends its iterations.
+pub const RUSTS_RULE: u64 = 0;
+
 /// A refusal's number and place.
 #[derive(Debug, PartialEq)]
 pub struct Refused(pub u32, pub usize);
 
 pub struct Scene {
+    pub rule: u64,
     pub least: usize,
     pub most: usize,
     pub step_length: f64,
@@ -137,12 +141,19 @@ impl Reader<'_> {
     }
 }
 
+/// The last rule of a version.
+fn last_rule(version: u64) -> Option<u64> {
+    match version {
+        1 => Some(RUSTS_RULE),
+        2 => Some(1),
+        _ => None,
+    }
+}
+
 pub fn read(bytes: &[u8]) -> Result<Scene, Refused> {
     let mut reader = Reader { bytes, at: 0 };
     let first = reader.field(1)?;
-    if first >> 4 != 1 {
-        return Err(Refused(2, 0));
-    }
+    let last_rule = last_rule(first >> 4).ok_or(Refused(2, 0))?;
     if first & 15 > 8 {
         return Err(Refused(3, 0));
     }
@@ -150,7 +161,8 @@ pub fn read(bytes: &[u8]) -> Result<Scene, Refused> {
     if second >> 4 > 8 {
         return Err(Refused(3, 1));
     }
-    if second & 15 != 0 {
+    let rule = second & 15;
+    if rule > last_rule {
         return Err(Refused(2, 1));
     }
     let (least, most) = (reader.field(1)? as usize, reader.field(1)? as usize);
@@ -161,7 +173,7 @@ pub fn read(bytes: &[u8]) -> Result<Scene, Refused> {
     if reader.at < bytes.len() {
         return Err(Refused(5, reader.at));
     }
-    let scene = Scene { least, most, step_length, remaining, limit, gravity, fluids, boundaries };
+    let scene = Scene { rule, least, most, step_length, remaining, limit, gravity, fluids, boundaries };
     names(&scene)?;
     Ok(scene)
 }

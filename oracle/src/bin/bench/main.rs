@@ -1,11 +1,12 @@
 //! Times our step and the Rust's on the same packed lattice scenes, in one process. Ours takes the
 //! packed scene, so it also checks and decodes it; the Rust's structures are filled before the clock
 //! starts. With libiisph_c.a built (`rt staticlib iisph_c`), in the folder oracle:
-//!   cargo run --release --offline --features bench,lent --bin bench -- [REPEATS [SIZES]]
+//!   cargo run --release --offline --features bench,lent --bin bench -- [REPEATS [SIZES [ihmsen]]]
 //!
 //! Times are the best of REPEATS (15). SIZES, such as 1,8,10000x8, names those of the first column
-//! that are to be timed; else all are. Without the feature `lent` an archive can be linked that has
-//! no `iisph_step_lent`.
+//! that are to be timed; `all`, or none, stands for all. With the word `ihmsen`, `iisph_step` is also
+//! timed on each scene as version 2, under the rule of Ihmsen et al. 2014. Without the feature `lent`
+//! an archive can be linked that has no `iisph_step_lent`.
 
 mod lattice;
 mod ours;
@@ -14,7 +15,7 @@ mod timing;
 
 use oracle::scene::{read, Scene};
 
-use lattice::packed_lattice;
+use lattice::{packed_lattice, under_ihmsen};
 use ours::Ours;
 use rusts::{compare, Rusts};
 use timing::{Timer, Way};
@@ -22,6 +23,9 @@ use Scenes::{Different, Same};
 
 /// The last column is that of `iisph_step`: nanoseconds for each contact in each iteration.
 const HEAD: &str = "particles contacts iterations    step ms    lent ms    rust ms  step/rust  lent/rust  ns/contact";
+
+/// What follows with the word `ihmsen`; `step` is the time under the Rust's rule.
+const IHMSEN_HEAD: &str = "  ihmsen ms ihmsen/step";
 
 struct Size {
     name: &'static str,
@@ -64,20 +68,25 @@ impl Size {
     }
 
     /// Times one row and prints it.
-    fn row(&self, iterations: u8, repeats: usize) {
+    fn row(&self, iterations: u8, repeats: usize, ihmsen: bool) {
         let packed = self.packed(iterations);
+        let twins: Option<Vec<Vec<u8>>> = ihmsen.then(|| packed.iter().map(|scene| under_ihmsen(scene)).collect());
         let scenes: Vec<Scene> = packed.iter().map(|bytes| read(bytes).ok().expect("a scene is accepted")).collect();
         let (mut step, mut lent, mut rust) = (Ours::new(&packed), Ours::lent(&packed), Rusts::new(&scenes));
+        let mut ihmsen = twins.as_deref().map(Ours::new);
         let mut ways: Vec<&mut dyn Way> = vec![&mut rust, &mut step];
-        ways.extend(lent.iter_mut().map(|way| way as &mut dyn Way));
+        ways.extend(lent.iter_mut().chain(&mut ihmsen).map(|way| way as &mut dyn Way));
         let times = Timer::new(matches!(self.scenes, Different(_))).best(&mut ways, repeats);
-        for ours in [Some(&step), lent.as_ref()].into_iter().flatten() {
+        for ours in [Some(&step), lent.as_ref(), ihmsen.as_ref()].into_iter().flatten() {
             rust.states.iter().zip(&ours.answers).for_each(|(state, answers)| compare(state, answers));
         }
         let told = if matches!(self.scenes, Same(_)) { 1 } else { scenes.len() };
         let contacts = told * contacts(&scenes[0]);
-        let ms: Vec<f64> = times.iter().map(|pass| pass * 1e3 * told as f64 / scenes.len() as f64).collect();
-        println!("{:>9} {contacts:8} {iterations:10} {}", self.name, columns(&ms, contacts * iterations as usize));
+        let mut ms = times.iter().map(|pass| pass * 1e3 * told as f64 / scenes.len() as f64);
+        let mut next = || ms.next().expect("every way has a time");
+        let (rust, step, lent, ihmsen) = (next(), next(), lent.map(|_| next()), ihmsen.map(|_| next()));
+        let columns = columns(rust, step, lent, contacts * iterations as usize) + &ihmsen_columns(ihmsen, step);
+        println!("{:>9} {contacts:8} {iterations:10} {columns}", self.name);
     }
 }
 
@@ -87,14 +96,17 @@ fn contacts(scene: &Scene) -> usize {
 }
 
 /// The columns from the times of the Rust, of ours and, if there is one, of ours with a lent index.
-fn columns(ms: &[f64], contacts: usize) -> String {
-    let (rust, step, lent) = (ms[0], ms[1], ms.get(2));
+fn columns(rust: f64, step: f64, lent: Option<f64>, contacts: usize) -> String {
     let or_dash = |text: Option<String>| text.unwrap_or("-".to_string());
-    let (lent_ms, lent_times) = (lent.map(|ms| digits(*ms)), lent.map(|ms| format!("{:.3}", ms / rust)));
+    let (lent_ms, lent_times) = (lent.map(digits), lent.map(|ms| format!("{:.3}", ms / rust)));
     let each = (contacts > 0).then(|| format!("{:.3}", step * 1e6 / contacts as f64));
     let (lent_ms, lent_times, each) = (or_dash(lent_ms), or_dash(lent_times), or_dash(each));
     let (step_ms, rust_ms, times) = (digits(step), digits(rust), step / rust);
     format!("{step_ms:>10} {lent_ms:>10} {rust_ms:>10} {times:10.3} {lent_times:>10} {each:>11}")
+}
+
+fn ihmsen_columns(ihmsen: Option<f64>, step: f64) -> String {
+    ihmsen.map_or(String::new(), |ms| format!(" {:>10} {:11.3}", digits(ms), ms / step))
 }
 
 /// Four digits that count.
@@ -104,21 +116,24 @@ fn digits(x: f64) -> String {
 
 fn wrong_use() -> ! {
     let names = SIZES.map(|size| size.name).join(",");
-    eprintln!("use: bench [REPEATS [SIZES]], a number and some of {names}");
+    eprintln!("use: bench [REPEATS [SIZES [ihmsen]]], a number, and all or some of {names}");
     std::process::exit(2)
 }
 
 fn main() {
     let mut arguments = std::env::args().skip(1);
     let repeats: usize = arguments.next().map_or(15, |text| text.parse().unwrap_or_else(|_| wrong_use()));
-    let listed = arguments.next();
+    let listed = arguments.next().filter(|text| text != "all");
     let wanted: Option<Vec<&str>> = listed.as_ref().map(|text| text.split(',').collect());
     let known = |name: &&str| SIZES.iter().any(|size| size.name == *name);
-    if arguments.next().is_some() || repeats == 0 || !wanted.iter().flatten().all(known) {
+    let word = arguments.next();
+    let ihmsen = word.as_deref() == Some("ihmsen");
+    let misspelt = word.is_some() && !ihmsen;
+    if arguments.next().is_some() || misspelt || repeats == 0 || !wanted.iter().flatten().all(known) {
         wrong_use();
     }
-    println!("{HEAD}");
+    println!("{HEAD}{}", if ihmsen { IHMSEN_HEAD } else { "" });
     for size in SIZES.iter().filter(|size| wanted.as_ref().is_none_or(|names| names.contains(&size.name))) {
-        size.iterations.iter().for_each(|iterations| size.row(*iterations, repeats));
+        size.iterations.iter().for_each(|iterations| size.row(*iterations, repeats, ihmsen));
     }
 }
