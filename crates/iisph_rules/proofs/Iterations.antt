@@ -1,6 +1,7 @@
 -- The loop of iterations: it ends with the pressures after as many iterations as it says, and where the least number
--- plus one is at least the most, it carries out the most; its ending has the error of the last, or is unswept. By
--- induction on the iterations left, for both answers of the stopping test. Assumes nothing.
+-- plus one is at least the most, it carries out the most; its ending has the error of the last, or is unswept, and
+-- where it is settled that error meets the limit. By induction on the iterations left, for both answers of the stopping
+-- test. Assumes nothing.
 use Prim.Native.Nat.{ℕ, zero, suc, _+_, _≤_}
 use mathlib.Core.Path.{_≡_, refl, sym, ap, subst, _∙_}
 use mathlib.Core.Bool.{Bool, true, false, _&&_}
@@ -127,3 +128,33 @@ none-unswept s (suc n) ps =
 pub solution-unswept : (s : Scene) → solution s .iterations ≡ 0 → solution s .ending ≡ Ending.Unswept
 unfolding solution
 solution-unswept s = none-unswept s (s .header .maxPressureIter) (firstPressures s)
+
+-- ---- the limit
+
+and-left : (a b : Bool) → (a && b) ≡ true → a ≡ true
+and-left true b q = refl
+and-left false b q = q
+
+-- iteration number i is the last only where its error meets the limit
+last-meets : (h : Header) (i : ℕ) (error : Float) → isLast h i error ≡ true
+    → Ieee.le error (h .maxDensityError) ≡ true
+last-meets h i error q = and-left (Ieee.le error (h .maxDensityError)) _ q
+
+-- if an ending is settled, its error meets the limit
+abbrev Meets : Scene → Ending → Type 0
+Meets s e =
+    (error : Float) (passedOver : Bool) → e ≡ Ending.Settled error passedOver
+    → Ieee.le error (s .header .maxDensityError) ≡ true
+
+iterateFrom-meets : (s : Scene) (n i : ℕ) (ps : List Float) (e : Ending) → Meets s e
+    → Meets s (iterateFrom n s (coefficients s) i ps e .ending)
+unfolding iterateFrom
+iterateFrom-meets s zero i ps e h = h
+iterateFrom-meets s (suc n) i ps e h =
+    chosen (λ (w : Solution). Meets s (w .ending)) _ _ _
+    (λ t error passedOver q. let met = last-meets (s .header) i _ t in cc)
+    (λ _. iterateFrom-meets s n (suc i) _ _ (λ error passedOver q. cc))
+
+pub solution-meets : (s : Scene) → Meets s (solution s .ending)
+unfolding solution
+solution-meets s = iterateFrom-meets s (s .header .maxPressureIter) 0 _ Ending.Unswept (λ error passedOver q. cc)

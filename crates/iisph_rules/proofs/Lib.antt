@@ -6,4 +6,5 @@ pub mod Links
 pub mod Sizes
 pub mod Locality
 pub mod PassedOver
+pub mod Largest
 pub mod Cases

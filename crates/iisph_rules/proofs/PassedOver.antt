@@ -3,14 +3,16 @@
 -- induction on the lists. An ending has both from the last iteration. Assumes nothing.
 use Prim.Native.Nat.{ℕ, zero, suc}
 use mathlib.Core.Path.{_≡_, refl, sym, ap, _∙_}
-use mathlib.Core.Bool.{Bool, true, false, cond, _||_, true≢false}
+use mathlib.Core.Bool.{Bool, true, false, cond, true≢false, or-true}
 use mathlib.Core.List.{List, [], _∷_}
 use native.Mathlib.Omega.{arith}
 use lib.Ieee
-use lib.Ieee.{Float, nan, inf, fin}
+use lib.Ieee.{Float}
 use lib.ListN.{length, getD, take, drop}
 use lib.Seq.{drop-drop}
 use Rattle.math.specs.Real.{larger}
+use Rattle.math.proofs.Doubles.{number-or-nan}
+use Rattle.math.proofs.Order.{nothing-below-nan}
 use Rattle.lists.specs.Lists.{fold, sum}
 use Rattle.scene_format.specs.Scene.{Scene}
 use Rattle.scene_format.specs.SceneOf.{sceneOf}
@@ -18,6 +20,7 @@ use Rattle.scene_format.specs.declared.Criterion.{Criterion}
 use Rattle.scene_format.specs.declared.Criterion.the-variants.{Salva}
 use Rattle.iisph_rules.specs.Iteration.{averages, noError, firstError, withAverage, errorOf, iteration}
 use Rattle.iisph_rules.specs.Step.{reportOf}
+use Rattle.iisph_rules.specs.Answer.{Accepted}
 use Rattle.iisph_rules.specs.Endings.{endingValues, endingError}
 use Rattle.iisph_rules.specs.PassedOver.{SomeNan, YesExactly, NanFluid, AveragesOfFluids, iterationAt}
 use Rattle.iisph_rules.specs.PassedOver.{EndingOfLast, PassedOverTold}
@@ -28,23 +31,11 @@ use Rattle.iisph_rules.proofs.Locality.{accepted-report}
 
 -- ---- the value is a number
 
-number-or-nan : (x : Float) {A : Type 0} → (x ≡ nan → A) → (Ieee.isNan x ≡ false → A) → A
-unfolding Ieee.isNan
-number-or-nan nan f g = f refl
-number-or-nan (inf s) f g = g refl
-number-or-nan (fin s m e) f g = g refl
-
-nothing-below-nan : (x : Float) → Ieee.lt x nan ≡ false
-unfolding Ieee.lt
-nothing-below-nan nan = refl
-nothing-below-nan (inf s) = refl
-nothing-below-nan (fin s m e) = refl
-
 either-number : (t : Bool) (x y : Float) → Ieee.isNan x ≡ false → Ieee.isNan y ≡ false → Ieee.isNan (cond t y x) ≡ false
 either-number true x y h k = k
 either-number false x y h k = h
 
-larger-number : (x y : Float) → Ieee.isNan x ≡ false → Ieee.isNan (larger x y) ≡ false
+pub larger-number : (x y : Float) → Ieee.isNan x ≡ false → Ieee.isNan (larger x y) ≡ false
 larger-number x y h =
     number-or-nan y (λ q. rw (q, nothing-below-nan x) h) (λ n. either-number (Ieee.lt x y) x y h n)
 
@@ -62,10 +53,6 @@ error-number (x ∷ xs) = fold-number _ (x ∷ xs) refl
 
 -- ---- the yes or no
 
-or-right : (a : Bool) → a || true ≡ true
-or-right true = refl
-or-right false = refl
-
 stays-yes : (e : IterationError) (xs : List Float) → e .«passed_over» ≡ true
     → fold (withAverage Salva) e xs .«passed_over» ≡ true
 unfolding fold withAverage
@@ -75,7 +62,7 @@ stays-yes e (x ∷ xs) h = stays-yes (withAverage Salva e x) xs (rw h)
 some-yes : (e : IterationError) (xs : List Float) → SomeNan xs → fold (withAverage Salva) e xs .«passed_over» ≡ true
 unfolding fold withAverage Ieee.isNan
 some-yes e [] (k, l, q) = absurd (omega (arith, l))
-some-yes e (x ∷ xs) (zero, l, q) = stays-yes (withAverage Salva e x) xs (rw q (or-right (e .«passed_over»)))
+some-yes e (x ∷ xs) (zero, l, q) = stays-yes (withAverage Salva e x) xs (rw q (or-true (e .«passed_over»)))
 some-yes e (x ∷ xs) (suc k, l, q) = some-yes (withAverage Salva e x) xs (k, omega (arith, l), q)
 
 yes-some : (e : IterationError) (xs : List Float) → e .«passed_over» ≡ false
@@ -140,18 +127,23 @@ ending-of-last b a =
       λ e. ap (λ (r : Report). r .ending) (sym same) ∙ solution-unswept (sceneOf b) (number ∙ e),
     )
 
-pub error-found : (s : Scene) (k : ℕ)
-    → iterationAt s k .error ≡ errorOf (s .header .criterion) (iterationAt s k .averages)
+error-found : (s : Scene) (k : ℕ) → iterationAt s k .error ≡ errorOf (s .header .criterion) (iterationAt s k .averages)
 unfolding iterationAt iteration
 error-found s zero = refl
 error-found s (suc k) = refl
 
-pub passed-over-told : PassedOverTold
+-- the error that is told is that of the last iteration's averages
+pub told-error : (b : List ℕ) (a : Accepted b) (k : ℕ) {c : Criterion} → sceneOf b .header .criterion ≡ c
+    → a .report .iterations ≡ suc k → endingError (a .report .ending) ≡ errorOf c (iterationAt (sceneOf b) k .averages)
 unfolding endingError
+told-error b a k c e =
+    let s = sceneOf b in
+    ap (λ (xs : List IterationError). getD xs 0 noError) (ending-of-last b a .0 k e)
+    ∙ error-found s k
+    ∙ ap (λ (c : Criterion). errorOf c (iterationAt s k .averages)) c
+
+pub passed-over-told : PassedOverTold
 passed-over-told b a k c e =
-    let last = ap (λ (xs : List IterationError). getD xs 0 noError) (ending-of-last b a .0 k e) in
-    let averages = iterationAt (sceneOf b) k .averages in
-    let found = error-found (sceneOf b) k ∙ ap (λ (c : Criterion). errorOf c averages) c in
-    let q = ap (λ (x : IterationError). x .«passed_over») (last ∙ found) in
-    let told = yes-exactly averages in
+    let q = ap (λ (x : IterationError). x .«passed_over») (told-error b a k c e) in
+    let told = yes-exactly (iterationAt (sceneOf b) k .averages) in
     (λ y. told .0 (sym q ∙ y), λ h. q ∙ told .1 h)

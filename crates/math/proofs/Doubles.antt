@@ -83,6 +83,12 @@ magnitude-above (fin true m e) h k =
 
 -- ---- not-a-numbers
 
+pub number-or-nan : (x : Float) {A : Type 0} → (x ≡ nan → A) → (isNan x ≡ false → A) → A
+unfolding isNan
+number-or-nan nan f g = f refl
+number-or-nan (inf s) f g = g refl
+number-or-nan (fin s m e) f g = g refl
+
 pub equal-number : (x : Float) → eq x x ≡ true → T (not (isNan x))
 unfolding eq isNan
 equal-number nan h = true≢false (sym h)
