@@ -1,11 +1,14 @@
 -- The error of an iteration, fluid by fluid: taking in one fluid more leaves the same for the fluids that remain, so a
--- loop that ends with none has the whole. By cases on the fluid's count. Assumes nothing.
+-- loop that ends with none has the whole. By cases on the fluid's count and on whether particles come before. Assumes
+-- nothing.
 use Prim.Native.Nat.{ℕ, zero, suc, _+_, _<_, _≤_}
 use mathlib.Core.Path.{_≡_, refl, sym, ap, _∙_}
+use mathlib.Core.Bool.{Bool, true, false}
 use mathlib.Core.List.{List, [], _∷_}
-use native.Mathlib.Nat.{not-suc-le-zero, le-of-suc-le-suc}
+use native.Mathlib.Nat.{not-suc-le-zero, le-of-suc-le-suc, add-zero, zero-add}
 use native.Mathlib.Numerals.{add-one}
 use native.Mathlib.Omega.{arith}
+use lib.Dec.{eqb, eqb·suc-zero}
 use lib.IntN.{pos}
 use lib.Ieee
 use lib.Ieee.{Float, binary64}
@@ -16,45 +19,83 @@ use Rattle.lists.specs.Lists.{fold, sum}
 use Rattle.lists.proofs.Lists.{part-table}
 use Rattle.iisph_rules.specs.Iteration.{average, averages, noError, firstError, withAverage, errorOf}
 use Rattle.iisph_rules.specs.declared.IterationError.{IterationError}
+use Rattle.iisph_rules.proofs.Largest.{first-average}
 use Rattle.scene_format.specs.declared.Criterion.{Criterion}
-use Rattle.iisph_iterations.specs.Errors.{termsFrom, termsIn, withFluid, errorFrom}
+use Rattle.scene_format.specs.declared.Criterion.the-variants.{Salva, Ihmsen}
+use Rattle.iisph_iterations.specs.Errors.{termsFrom, termsIn, joined, withFluid, errorOn}
 
 -- ---- one fluid more
 
-average-next : (criterion : Criterion) (count : ℕ) (counts : List ℕ) (terms : List Float) (error : IterationError)
-    → fold (withAverage criterion) error (averages (count ∷ counts) terms)
-    ≡ fold (withAverage criterion) (withFluid criterion error count (take count terms))
+-- the first average is the error
+joined-first : (criterion : Criterion) (x : Float)
+    → withAverage criterion (firstError criterion) x ≡ joined criterion true noError x
+unfolding firstError joined
+joined-first Salva x = refl
+joined-first Ihmsen x = first-average x
+
+joined-later : (criterion : Criterion) (error : IterationError) (x : Float)
+    → withAverage criterion error x ≡ joined criterion false error x
+unfolding joined
+joined-later Salva error x = refl
+joined-later Ihmsen error x = refl
+
+on-later : (criterion : Criterion) (from : ℕ) (error : IterationError) (xs : List Float) → 0 < from
+    → errorOn criterion from error xs ≡ fold (withAverage criterion) error xs
+unfolding errorOn
+on-later criterion zero error xs h = absurd (not-suc-le-zero h)
+on-later criterion (suc from) error xs h = refl
+
+-- `error` is what the particles before came to, and none come to none
+average-next : (criterion : Criterion) (from count : ℕ) (counts : List ℕ) (terms : List Float) (error : IterationError)
+    → (from ≡ 0 → error ≡ noError)
+    → errorOn criterion from error (averages (count ∷ counts) terms)
+    ≡ errorOn criterion (from + count) (withFluid criterion from error count (take count terms))
     (averages counts (drop count terms))
-unfolding averages withFluid fold
-average-next criterion zero counts terms error = refl
-average-next criterion (suc n) counts terms error = refl
+unfolding averages withFluid errorOn errorOf fold
+average-next criterion from zero counts terms error h = rw (add-zero from)
+average-next criterion zero (suc n) counts terms error h =
+    rw (zero-add (suc n), h refl, joined-first criterion (average (suc n) (take (suc n) terms)))
+average-next criterion (suc from) (suc n) counts terms error h =
+    let x = average (suc n) (take (suc n) terms) in
+    ap (λ (e : IterationError). fold (withAverage criterion) e (averages counts (drop (suc n) terms)))
+    (joined-later criterion error x ∙ ap (λ (t : Bool). joined criterion t error x) (sym (eqb·suc-zero from)))
+    ∙ sym (on-later criterion (suc from + suc n) _ _ (omega arith))
+
+-- no averages are left
+error-done : (criterion : Criterion) (from : ℕ) (error : IterationError) → (from ≡ 0 → error ≡ noError)
+    → error ≡ errorOn criterion from error []
+unfolding errorOn errorOf fold
+error-done criterion zero error h = h refl
+error-done criterion (suc from) error h = refl
 
 -- a fluid with no particles, and one with some
-pub with-none : (criterion : Criterion) (count : ℕ) (error : IterationError) (terms : List Float) → count ≡ 0
-    → error ≡ withFluid criterion error count terms
+pub with-none : (criterion : Criterion) (from count : ℕ) (error : IterationError) (terms : List Float) → count ≡ 0
+    → error ≡ withFluid criterion from error count terms
 unfolding withFluid
-with-none criterion zero error terms e = refl
-with-none criterion (suc n) error terms e = absurd (omega arith)
+with-none criterion from zero error terms e = refl
+with-none criterion from (suc n) error terms e = absurd (omega arith)
 
-pub with-some : (criterion : Criterion) (count : ℕ) (error : IterationError) (terms : List Float) → 0 < count
-    → {sum size : Float} {x : IterationError} → sum ≡ total +0 terms → size ≡ Ieee.ofInt binary64 (pos count)
-    → x ≡ withAverage criterion error (sum ⊘ size) → x ≡ withFluid criterion error count terms
+pub with-some : (criterion : Criterion) (from count : ℕ) (error : IterationError) (terms : List Float) → 0 < count
+    → {sum size : Float} {first : Bool} {x : IterationError} → sum ≡ total +0 terms
+    → size ≡ Ieee.ofInt binary64 (pos count) → first ≡ eqb from 0
+    → x ≡ joined criterion first error (sum ⊘ size) → x ≡ withFluid criterion from error count terms
 unfolding withFluid average
-with-some criterion zero error terms h e q r = absurd (not-suc-le-zero h)
-with-some criterion (suc n) error terms h e q r = rw (r, e, q)
+with-some criterion from zero error terms h e q f r = absurd (not-suc-le-zero h)
+with-some criterion from (suc n) error terms h e q f r = rw (r, e, q, f)
 
 -- after m fluids, whose particles end at `from`; `error` is what they came to
 pub record Averaged (criterion : Criterion) (counts : List ℕ) (n : ℕ) (work : List Float) (m from : ℕ)
     (error : IterationError) : Type 0 where
   pub within : m ≤ length counts
   pub rows : from + sum (drop m counts) ≡ n
-  pub rest : fold (withAverage criterion) error (averages (drop m counts) (drop from (termsIn n work)))
-      ≡ errorFrom criterion (averages counts (termsIn n work))
+  pub none : from ≡ 0 → error ≡ noError
+  pub rest : errorOn criterion from error (averages (drop m counts) (drop from (termsIn n work)))
+      ≡ errorOf criterion (averages counts (termsIn n work))
 
 module _ (criterion : Criterion) (counts : List ℕ) (n : ℕ) (work : List Float) where
-  pub none-averaged : sum counts ≡ n → {error : IterationError} → error ≡ firstError criterion
-      → Averaged criterion counts n work 0 0 error
-  none-averaged e q = record { within = omega arith; rows = omega (arith, e); rest = rw q refl }
+  pub none-averaged : sum counts ≡ n → Averaged criterion counts n work 0 0 noError
+  unfolding errorOn
+  none-averaged e = record { within = omega arith; rows = omega (arith, e); none = λ q. refl; rest = refl }
 
   module _ {m from : ℕ} {error : IterationError} (here : Averaged criterion counts n work m from error) where
     -- the particles of the next fluid
@@ -63,7 +104,7 @@ module _ (criterion : Criterion) (counts : List ℕ) (n : ℕ) (work : List Floa
     next-rows h = omega (arith, rw (drop-cons counts m 0 h) at (here .rows))
 
     pub next-averaged : m < length counts → {count : ℕ} {x : IterationError} → count ≡ getD counts m 0
-        → x ≡ withFluid criterion error count (termsFrom work n from count)
+        → x ≡ withFluid criterion from error count (termsFrom work n from count)
         → Averaged criterion counts n work (m + 1) (from + count) x
     next-averaged h {count} {x} e q =
         let rows = next-rows h in
@@ -72,43 +113,24 @@ module _ (criterion : Criterion) (counts : List ℕ) (n : ℕ) (work : List Floa
         record {
           within = omega arith;
           rows = rw add-one (omega arith);
+          none =
+              λ z. q ∙ sym (with-none criterion from count error _ (omega (arith, z))) ∙ here .none (omega (arith, z));
           rest =
               rw (add-one m, q, ← part, ← drop-drop count from col)
-              (sym (average-next criterion count (drop (suc m) counts) (drop from col) error)
-              ∙ ap (λ (cs : List ℕ). fold (withAverage criterion) error (averages cs (drop from col)))
+              (sym (average-next criterion from count (drop (suc m) counts) (drop from col) error (here .none))
+              ∙ ap (λ (cs : List ℕ). errorOn criterion from error (averages cs (drop from col)))
               (ap (λ (k : ℕ). k ∷ drop (suc m) counts) e ∙ sym (drop-cons counts m 0 h))
               ∙ here .rest);
         }
 
-    pub all-averaged : length counts ≤ m → error ≡ errorFrom criterion (averages counts (termsIn n work))
-    unfolding averages fold
+    pub all-averaged : length counts ≤ m → error ≡ errorOf criterion (averages counts (termsIn n work))
+    unfolding averages
     all-averaged h =
-        let none : drop m counts ≡ [] = drop-all counts m h in
-        rw none at (here .rest)
+        let done : drop m counts ≡ [] = drop-all counts m h in
+        error-done criterion from error (here .none) ∙ rw done at (here .rest)
       where
         drop-all : (xs : List ℕ) (k : ℕ) → length xs ≤ k → drop k xs ≡ []
         drop-all [] zero l = refl
         drop-all [] (suc k) l = refl
         drop-all (x ∷ xs) zero l = absurd (not-suc-le-zero l)
         drop-all (x ∷ xs) (suc k) l = drop-all xs k (le-of-suc-le-suc l)
-
--- ---- the first error, and none
-
--- fluids without particles have no averages, others have some
-no-averages : (counts : List ℕ) (terms : List Float) → sum counts ≡ 0 → averages counts terms ≡ []
-unfolding averages sum
-no-averages [] terms e = refl
-no-averages (zero ∷ counts) terms e = no-averages counts terms (omega (arith, e))
-no-averages (suc n ∷ counts) terms e = absurd (omega arith)
-
-pub error-of-none : (criterion : Criterion) (counts : List ℕ) (terms : List Float) → sum counts ≡ 0
-    → noError ≡ errorOf criterion (averages counts terms)
-unfolding errorOf
-error-of-none criterion counts terms e = rw (no-averages counts terms e)
-
-pub error-of-some : (criterion : Criterion) (counts : List ℕ) (terms : List Float) → 0 < sum counts
-    → errorFrom criterion (averages counts terms) ≡ errorOf criterion (averages counts terms)
-unfolding averages sum errorOf
-error-of-some criterion [] terms h = absurd (not-suc-le-zero h)
-error-of-some criterion (zero ∷ counts) terms h = error-of-some criterion counts terms (omega (arith, h))
-error-of-some criterion (suc n ∷ counts) terms h = refl

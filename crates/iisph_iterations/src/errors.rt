@@ -15,12 +15,12 @@ ghost use mathlib.Core.Bool.{cond};
 ghost use Prim.Native.Nat.{_+_, _≤_};
 ghost use lib.ListN.{length};
 ghost use Rattle.iisph_rows.specs.Rows.{volumesAt};
-ghost use Rattle.iisph_rules.specs.Iteration.{averages, firstError, withAverage, errorOf};
+ghost use Rattle.iisph_rules.specs.Iteration.{averages, errorOf};
 ghost use Rattle.math.specs.Real.{total, isNan, larger, +0};
 ghost use Rattle.scene_check.specs.Check.{Passed};
 ghost use Rattle.scene_format.specs.Scene.{fluidSize};
 ghost use Rattle.scene_format.specs.SceneOf.{sceneOf};
-ghost use Rattle.iisph_iterations.specs.Errors.{termsFrom, termsIn, withFluid, errorFrom};
+ghost use Rattle.iisph_iterations.specs.Errors.{termsFrom, termsIn, joined, withFluid};
 
 // The sum of the error terms of `count` of n particles, from particle `from` on.
 fn term_sum(work: &[f64], n: usize, from: usize, count: usize) -> f64
@@ -36,19 +36,6 @@ fn term_sum(work: &[f64], n: usize, from: usize, count: usize) -> f64
     sum
 }
 
-// The error before the first average: +0, or -infinity, below which no average lies.
-fn first_error(criterion: Criterion) -> IterationError
-    ensures { λ r. ⌜ r ≡ firstError criterion ⌝ }
-{
-    match criterion {
-        Criterion::Salva => NO_ERROR,
-        Criterion::Ihmsen => IterationError {
-            value: f64::from_bits(0xfff0_0000_0000_0000),
-            passed_over: false,
-        },
-    }
-}
-
 // y if it is greater or not a number, else x.
 fn larger_or_nan(x: f64, y: f64) -> f64
     ensures { λ r. ⌜ r ≡ cond (isNan y) y (larger x y) ⌝ }
@@ -59,19 +46,32 @@ fn larger_or_nan(x: f64, y: f64) -> f64
     larger(x, y)
 }
 
-// The error so far, with one average more.
-fn with_average(criterion: Criterion, error: IterationError, average: f64) -> IterationError
-    ensures { λ r. ⌜ r ≡ withAverage criterion error average ⌝ }
+// The error so far, with one average more; `first` says that none was before.
+fn with_average(
+    criterion: Criterion,
+    first: bool,
+    error: IterationError,
+    average: f64,
+) -> IterationError
+    ensures { λ r. ⌜ r ≡ joined criterion first error average ⌝ }
 {
     match criterion {
         Criterion::Salva => IterationError {
             value: larger(error.value, average),
             passed_over: error.passed_over || is_nan(average),
         },
-        Criterion::Ihmsen => IterationError {
-            value: larger_or_nan(error.value, average),
-            passed_over: false,
-        },
+        Criterion::Ihmsen => {
+            if first {
+                return IterationError {
+                    value: average,
+                    passed_over: false,
+                };
+            }
+            IterationError {
+                value: larger_or_nan(error.value, average),
+                passed_over: false,
+            }
+        }
     }
 }
 
@@ -85,34 +85,30 @@ fn with_fluid(
     error: IterationError,
 ) -> IterationError
     requires { ⌜ (from + count ≤ n) × (volumesAt n ≤ length (now work)) ⌝ }
-    ensures { λ r. ⌜ r ≡ withFluid criterion error count (termsFrom (now (work .entry)) n from count) ⌝ }
+    ensures { λ r. ⌜ r ≡ withFluid criterion from error count (termsFrom (now (work .entry)) n from count) ⌝ }
 {
     if count == 0 {
         return error;
     }
     let sum = term_sum(work, n, from, count);
-    with_average(criterion, error, sum / nearest_u64_to_f64(count as u64))
+    let average = sum / nearest_u64_to_f64(count as u64);
+    with_average(criterion, from == 0, error, average)
 }
 
-// The error over the fluids of a scene, which have n particles in all; from the first error on, also if that is none.
-fn fluids_error(
-    criterion: Criterion,
-    scene: &[u8],
-    layout: Layout,
-    work: &[f64],
-    n: usize,
-) -> IterationError
+// The error over the fluids of a scene, which have n particles in all.
+pub fn max_error(scene: &[u8], layout: Layout, work: &[f64], n: usize) -> IterationError
     requires { ⌜ Passed (now scene) layout ⌝ }
     requires { ⌜ (n ≡ fluidSize (sceneOf (now scene))) × (volumesAt n ≤ length (now work)) ⌝ }
     ensures { λ r. ⌜
-        (let counts = sceneOf (now (scene .entry)) .fluidCounts in
-        r ≡ errorFrom criterion (averages counts (termsIn n (now (work .entry)))))
+        (let s = sceneOf (now (scene .entry)) in
+        r ≡ errorOf (s .header .criterion) (averages (s .fluidCounts) (termsIn n (now (work .entry)))))
         ⌝ }
 {
+    let criterion = read::criterion(scene);
     let fluids = layout.fluids;
     let heads = fluids.heads;
     let number = fluids.number;
-    let mut error = first_error(criterion);
+    let mut error = NO_ERROR;
     let mut from = 0usize;
     let mut m = 0usize;
     while m < number {
@@ -122,19 +118,4 @@ fn fluids_error(
         m += 1;
     }
     error
-}
-
-// The error of the iteration whose terms stand in the work list. Without particles there is no average.
-pub fn max_error(scene: &[u8], layout: Layout, work: &[f64], n: usize) -> IterationError
-    requires { ⌜ Passed (now scene) layout ⌝ }
-    requires { ⌜ (n ≡ fluidSize (sceneOf (now scene))) × (volumesAt n ≤ length (now work)) ⌝ }
-    ensures { λ r. ⌜
-        (let s = sceneOf (now (scene .entry)) in
-        r ≡ errorOf (s .header .criterion) (averages (s .fluidCounts) (termsIn n (now (work .entry)))))
-        ⌝ }
-{
-    if n == 0 {
-        return NO_ERROR;
-    }
-    fluids_error(read::criterion(scene), scene, layout, work, n)
 }

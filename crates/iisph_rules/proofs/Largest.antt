@@ -20,10 +20,12 @@ use Rattle.iisph_rules.specs.Step.{reportOf}
 use Rattle.iisph_rules.specs.Endings.{endingValues, endingError}
 use Rattle.iisph_rules.specs.PassedOver.{SomeNan, iterationAt}
 use Rattle.iisph_rules.specs.Largest.{NanExactly, LargestAt, EarliestLargest, NothingPassedOver, SettledWithin}
+use Rattle.iisph_rules.specs.Largest.{NothingTold}
 use Rattle.iisph_rules.specs.declared.IterationError.{IterationError}
+use Rattle.iisph_rules.specs.declared.Ending.{Ending}
 use Rattle.iisph_rules.specs.declared.Report.{Report}
 use Rattle.iisph_rules.proofs.Iterations.{solution-meets}
-use Rattle.iisph_rules.proofs.PassedOver.{larger-number, told-error}
+use Rattle.iisph_rules.proofs.PassedOver.{larger-number, ending-of-last, told-error}
 use Rattle.iisph_rules.proofs.Locality.{accepted-report}
 
 -- ---- the error from the front
@@ -58,7 +60,7 @@ fold-front x y [] = refl
 fold-front x y (z ∷ ys) = rw or-nan-assoc (fold-front x (largerOrNan y z) ys)
 
 -- the first average is the error, whatever it is: none lies below -infinity
-first-average : (x : Float) → withAverage Ihmsen (firstError Ihmsen) x ≡ record { value = x; «passed_over» = false }
+pub first-average : (x : Float) → withAverage Ihmsen (firstError Ihmsen) x ≡ record { value = x; «passed_over» = false }
 unfolding withAverage firstError Ieee.isNan Ieee.lt Ieee.ofBits
 first-average nan = refl
 first-average (inf true) = refl
@@ -187,3 +189,13 @@ settled-within b a k error passedOver c e q =
     let met = solution-meets s error passedOver (ap (λ (r : Report). r .ending) (accepted-report a) ∙ q) in
     let v = ap (λ (x : IterationError). x .value) (sym (ap endingError q) ∙ told-error b a k c e) in
     within (s .header .maxDensityError) (iterationAt s k .averages) (rw v at met)
+
+pub nothing-told : NothingTold
+unfolding endingError endingValues
+nothing-told b a c = go (a .report .iterations) refl
+  where
+    go : (n : ℕ) → a .report .iterations ≡ n → endingError (a .report .ending) .«passed_over» ≡ false
+    go zero e = ap (λ (x : Ending). endingError x .«passed_over») (ending-of-last b a .1 e)
+    go (suc k) e =
+        ap (λ (x : IterationError). x .«passed_over») (told-error b a k c e)
+        ∙ nothing-passed-over (iterationAt (sceneOf b) k .averages)

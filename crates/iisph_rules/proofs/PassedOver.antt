@@ -8,7 +8,7 @@ use mathlib.Core.List.{List, [], _∷_}
 use native.Mathlib.Omega.{arith}
 use lib.Ieee
 use lib.Ieee.{Float}
-use lib.ListN.{length, getD, take, drop}
+use lib.ListN.{getD, take, drop}
 use lib.Seq.{drop-drop}
 use Rattle.math.specs.Real.{larger}
 use Rattle.math.proofs.Doubles.{number-or-nan}

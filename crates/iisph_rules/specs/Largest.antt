@@ -15,6 +15,7 @@ use Rattle.scene_format.specs.SceneOf.{sceneOf}
 use Rattle.scene_format.specs.declared.Criterion.the-variants.{Ihmsen}
 use Rattle.iisph_rules.specs.Iteration.{errorOf}
 use Rattle.iisph_rules.specs.Answer.{Accepted}
+use Rattle.iisph_rules.specs.Endings.{endingError}
 use Rattle.iisph_rules.specs.PassedOver.{SomeNan, iterationAt}
 use Rattle.iisph_rules.specs.declared.Ending.the-variants.{Settled}
 
@@ -48,3 +49,9 @@ SettledWithin =
     → sceneOf b .header .criterion ≡ Ihmsen → a .report .iterations ≡ suc k → a .report .ending ≡ Settled error passedOver
     → (j : ℕ) → j < length (iterationAt (sceneOf b) k .averages)
     → Ieee.le (getD (iterationAt (sceneOf b) k .averages) j +0) (sceneOf b .header .maxDensityError) ≡ true
+
+-- a step by Ihmsen's criterion tells of no average that was passed over
+abbrev pub NothingTold : Type 0
+NothingTold =
+    (b : List ℕ) (a : Accepted b) → sceneOf b .header .criterion ≡ Ihmsen
+    → endingError (a .report .ending) .«passed_over» ≡ false

@@ -1,38 +1,105 @@
--- `iisph_iterations::errors::max_error` meets its contract: without particles there is no average, and with some the
--- error of the fluids is that of the averages. Assumes nothing.
-use mathlib.Core.Path.{_≡_, sym, ap, _∙_}
+-- `iisph_iterations::errors::max_error` meets its contract. The invariant: the error so far, with the averages of the
+-- fluids that remain, comes to the whole; the measure is the number of fluids left. Assumes nothing.
+use Prim.Native.Nat.{_+_, _-_, _<_, _≤_}
+use mathlib.Core.Path.{_≡_, sym, _∙_}
 use native.Mathlib.Omega.{arith}
+use lib.ListN.{length, getD}
+use borrow.Author.Needs.{needs}
 use denote.Ref.{now}
-use Rattle.lists.specs.Lists.{sum}
 use Rattle.scene_check.proofs.Accepted.{accepted-header}
-use Rattle.scene_format.specs.SceneOf.{sceneOf}
-use Rattle.scene_layout.proofs.Locations.{scene-criterion, scene-counts, fluid-size-sum}
-use Rattle.iisph_iterations.proofs.Averages.{error-of-none, error-of-some}
+use Rattle.scene_check.proofs.Checks.{fluid-turn, fluid-number}
+use Rattle.scene_format.specs.Format.{countsOf}
+use Rattle.scene_format.specs.declared.Kind.the-variants.{Fluid}
+use Rattle.scene_layout.proofs.Locations.{length-counts, scene-counts, scene-criterion, fluid-size-sum}
+use Rattle.scene_layout.proofs.Turns.{Turn}
+use Rattle.iisph_iterations.proofs.Averages.{Averaged, none-averaged, next-rows, next-averaged, all-averaged}
 use Rattle.iisph_iterations.proofs.errors.max_error.Statement.{statement}
 use Rattle.iisph_iterations.proofs.errors.max_error.Tie as tie
 
--- the fluids' particles are the n
-all : (c : tie.Start) → sum (sceneOf (now (c .args .scene)) .fluidCounts) ≡ c .args .n
-all c =
-    let b = now (c .args .scene) in
-    ap sum (scene-counts b) ∙ sym (c .pre .1 .0 ∙ fluid-size-sum b)
+abbrev Inv-loop : tie.InvT-loop
+Inv-loop scene work n criterion heads number error₀ from₀ m₀ error from m =
+    Averaged criterion (countsOf Fluid scene) n work m from error
 
-returns : tie.Need-returns
-returns c = error-of-none _ _ _ (omega (arith, all (c .before .before .before), c .if1 .taken))
+abbrev μ-loop : tie.MeasureT-loop
+μ-loop scene work n criterion heads number error₀ from₀ m₀ error from m = number - m
 
-criterion-requires : tie.Need-criterion-requires
-criterion-requires c κs = omega (arith, accepted-header _ (c .before .before .before .pre .0 .walk))
+abbrev start : tie.In-loop Inv-loop μ-loop → tie.Start Inv-loop μ-loop
+start c = c .before .before .before .before .before .before .before
 
-fluids-error-requires : tie.Need-fluids-error-requires
-fluids-error-requires c κs = c .before .before .before .before .pre
+turn : (c : tie.In-loop Inv-loop μ-loop)
+    → let a = start c .args in Turn Fluid (now (a .scene)) (a .layout .fluids .heads) (c .before .loop .m)
+turn c = fluid-turn (start c .pre .0) _ (c .loop-test .taken)
 
-returns-2 : tie.Need-returns-2
-returns-2 c =
-    let r = c .before in
-    let e = r .before in
-    let s = e .before .before .before in
-    rw (scene-criterion (now (s .args .scene)), ← r .criterion .ensures)
-    (c .fluids-error .ensures ∙ error-of-some _ _ _ (omega (arith, all s, e .if1 .left)))
+below : (c : tie.In-loop Inv-loop μ-loop) → c .before .loop .m < length (countsOf Fluid (now (start c .args .scene)))
+below c = rw (length-counts Fluid (now (start c .args .scene))) (turn c .below)
+
+count : (c : tie.After-particles Inv-loop μ-loop)
+    → let i = c .before in
+    c .particles .result ≡ getD (countsOf Fluid (now (start i .args .scene))) (i .before .loop .m) 0
+count c = c .particles .ensures .0 ∙ turn (c .before) .count
+
+-- the next fluid's particles are among the n
+room : (c : tie.After-particles Inv-loop μ-loop)
+    → let i = c .before in i .before .loop .from + c .particles .result ≤ start i .args .n
+room c =
+    let i = c .before in
+    omega (arith, next-rows _ _ _ _ (i .before .loop .inv) (below i), count c)
+
+criterion-requires : tie.Need-criterion-requires Inv-loop μ-loop
+criterion-requires c κs = omega (arith, accepted-header _ (c .before .before .pre .0 .walk))
+
+loop-holds : tie.Need-loop-holds Inv-loop μ-loop
+loop-holds c =
+    let s = c .before .before .before .before .before in
+    none-averaged _ _ _ _ (sym (s .pre .1 .0 ∙ fluid-size-sum (now (s .args .scene))))
+
+mul-particles : tie.Need-mul-particles Inv-loop μ-loop
+mul-particles c = omega (arith, turn c .small)
+
+array-read-particles : tie.Need-array-read-particles Inv-loop μ-loop
+array-read-particles c = omega (arith, turn c .small)
+
+particles-requires : tie.Need-particles-requires Inv-loop μ-loop
+particles-requires c κs = turn c .within .headRoom
+
+with-fluid-requires : tie.Need-with-fluid-requires Inv-loop μ-loop
+with-fluid-requires c κs = (room c, start (c .before) .pre .1 .1)
+
+add-from : tie.Need-add-from Inv-loop μ-loop
+add-from c = let p = c .before in omega (arith, room p, start (p .before) .pre .1 .1)
+
+add-m : tie.Need-add-m Inv-loop μ-loop
+add-m c = omega (arith, turn (c .before .before) .small)
+
+loop-again : tie.Need-loop-again Inv-loop μ-loop
+loop-again c =
+    let p = c .before in
+    let i = p .before in
+    next-averaged _ _ _ _ (i .before .loop .inv) (below i) (count p) (c .with-fluid .ensures)
+
+returns : tie.Need-returns Inv-loop μ-loop
+returns c =
+    let k = c .before .before .before .before in
+    let s = k .before .before .before in
+    let b = now (s .args .scene) in
+    rw (scene-counts b, scene-criterion b, ← k .criterion .ensures)
+    (all-averaged _ _ _ _ (c .before .loop .inv)
+    (omega (arith, length-counts Fluid b, fluid-number b (s .pre .0 .layoutIs), c .loop-test .left)))
 
 pub max-error-spec : {M : Type 1} → statement M
-max-error-spec = tie.close (tie.spec returns criterion-requires fluids-error-requires returns-2)
+max-error-spec =
+    tie.close
+    (tie.spec
+    Inv-loop
+    μ-loop
+    criterion-requires
+    loop-holds
+    mul-particles
+    array-read-particles
+    particles-requires
+    with-fluid-requires
+    add-from
+    add-m
+    (λ c. search needs)
+    loop-again
+    returns)
