@@ -19,19 +19,16 @@ use Rattle.lists.specs.Lists.{fold, sum}
 use Rattle.lists.proofs.Lists.{part-table}
 use Rattle.iisph_rules.specs.Iteration.{average, averages, noError, firstError, withAverage, errorOf}
 use Rattle.iisph_rules.specs.declared.IterationError.{IterationError}
-use Rattle.iisph_rules.proofs.Largest.{first-average}
 use Rattle.scene_format.specs.declared.Criterion.{Criterion}
 use Rattle.scene_format.specs.declared.Criterion.the-variants.{Salva, Ihmsen}
 use Rattle.iisph_iterations.specs.Errors.{termsFrom, termsIn, joined, withFluid, errorOn}
 
 -- ---- one fluid more
 
--- the first average is the error
-joined-first : (criterion : Criterion) (x : Float)
-    → withAverage criterion (firstError criterion) x ≡ joined criterion true noError x
+joined-first : (criterion : Criterion) (x : Float) → firstError criterion x ≡ joined criterion true noError x
 unfolding firstError joined
 joined-first Salva x = refl
-joined-first Ihmsen x = first-average x
+joined-first Ihmsen x = refl
 
 joined-later : (criterion : Criterion) (error : IterationError) (x : Float)
     → withAverage criterion error x ≡ joined criterion false error x

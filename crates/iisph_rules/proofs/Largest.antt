@@ -59,14 +59,6 @@ unfolding fold
 fold-front x y [] = refl
 fold-front x y (z ∷ ys) = rw or-nan-assoc (fold-front x (largerOrNan y z) ys)
 
--- the first average is the error, whatever it is: none lies below -infinity
-pub first-average : (x : Float) → withAverage Ihmsen (firstError Ihmsen) x ≡ record { value = x; «passed_over» = false }
-unfolding withAverage firstError Ieee.isNan Ieee.lt Ieee.ofBits
-first-average nan = refl
-first-average (inf true) = refl
-first-average (inf false) = refl
-first-average (fin s m e) = refl
-
 fold-is : (v : Float) (xs : List Float)
     → fold (withAverage Ihmsen) (record { value = v; «passed_over» = false }) xs
     ≡ record { value = fold largerOrNan v xs; «passed_over» = false }
@@ -76,8 +68,8 @@ fold-is v (x ∷ xs) = fold-is (largerOrNan v x) xs
 
 error-is : (x : Float) (xs : List Float)
     → errorOf Ihmsen (x ∷ xs) ≡ record { value = fold largerOrNan x xs; «passed_over» = false }
-unfolding errorOf fold
-error-is x xs = rw first-average (fold-is x xs)
+unfolding errorOf firstError
+error-is x xs = fold-is x xs
 
 pub nothing-passed-over : NothingPassedOver
 unfolding errorOf

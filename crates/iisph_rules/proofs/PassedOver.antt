@@ -47,7 +47,7 @@ fold-number e (y ∷ ys) h = fold-number (withAverage Salva e y) ys (larger-numb
 
 -- an average that is not a number leaves the error a number
 pub error-number : (averages : List Float) → Ieee.isNan (errorOf Salva averages .value) ≡ false
-unfolding errorOf firstError Ieee.isNan Ieee.ofBits
+unfolding errorOf firstError fold Ieee.isNan Ieee.ofBits
 error-number [] = refl
 error-number (x ∷ xs) = fold-number _ (x ∷ xs) refl
 
@@ -74,7 +74,7 @@ yes-some e (x ∷ xs) h y =
     (λ n. let (k, l, q) = yes-some (withAverage Salva e x) xs (rw (h, n)) y in (suc k, omega (arith, l), q))
 
 pub yes-exactly : YesExactly
-unfolding errorOf firstError
+unfolding errorOf firstError fold
 yes-exactly [] = (λ y. absurd (true≢false (sym y)), λ (k, l, q). absurd (omega (arith, l)))
 yes-exactly (x ∷ xs) = (yes-some _ (x ∷ xs) refl, some-yes _ (x ∷ xs))
 

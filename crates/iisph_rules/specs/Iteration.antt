@@ -8,7 +8,7 @@ use lib.ListN.{getD, take, drop}
 use lib.IntN.{pos}
 use lib.Ieee
 use lib.Ieee.{Float, binary64}
-use Rattle.math.specs.Real.{_⊕_, _⊖_, _⊗_, _⊘_, ⊝, bits, +0, -∞, half, isNan, magnitude, larger, total}
+use Rattle.math.specs.Real.{_⊕_, _⊖_, _⊗_, _⊘_, ⊝, bits, +0, half, isNan, magnitude, larger, total}
 use Rattle.math.specs.Vector.{Vector, _⊞_, _⊟_, _⊡_, _·_}
 use Rattle.lists.specs.Lists.{fold, table, choose}
 use Rattle.scene_format.specs.Scene.{Scene, FluidParticle, fluidSize, particle}
@@ -115,14 +115,9 @@ averages [] terms = []
 averages (zero ∷ counts) terms = averages counts terms
 averages (suc n ∷ counts) terms = average (suc n) (take (suc n) terms) ∷ averages counts (drop (suc n) terms)
 
--- where there are no averages
+-- where there are no averages, and where the Rust's error starts
 abbrev pub noError : IterationError
 noError = record { value = +0; «passed_over» = false }
-
--- before the first average: the Rust's error is +0; Ihmsen's is -infinity, below which no average lies
-unfoldable pub firstError : Criterion → IterationError
-firstError Salva = noError
-firstError Ihmsen = record { value = -∞; «passed_over» = false }
 
 -- with one average more: the average, if it is greater. One that is not a number the Rust passes over, and that is
 -- noted; under Ihmsen's criterion the error is then not a number, and stays so
@@ -130,10 +125,15 @@ unfoldable pub withAverage : Criterion → IterationError → Float → Iteratio
 withAverage Salva e x = record { value = larger (e .value) x; «passed_over» = e .«passed_over» || isNan x }
 withAverage Ihmsen e x = record { value = cond (isNan x) x (larger (e .value) x); «passed_over» = false }
 
+-- with the first: Ihmsen's error is that average, whatever it is
+unfoldable pub firstError : Criterion → Float → IterationError
+firstError Salva x = withAverage Salva noError x
+firstError Ihmsen x = record { value = x; «passed_over» = false }
+
 -- of all averages
 unfoldable pub errorOf : Criterion → List Float → IterationError
 errorOf criterion [] = noError
-errorOf criterion (x ∷ xs) = fold (withAverage criterion) (firstError criterion) (x ∷ xs)
+errorOf criterion (x ∷ xs) = fold (withAverage criterion) (firstError criterion x) xs
 
 -- ---- the iteration
 

@@ -44,9 +44,6 @@ one = bits 0x3FF0000000000000
 abbrev pub +∞ : Float
 +∞ = bits 0x7FF0000000000000
 
-abbrev pub -∞ : Float
--∞ = bits 0xFFF0000000000000
-
 -- a zero of either sign
 abbrev pub isZero : Float → Bool
 isZero x = Ieee.eq x +0
