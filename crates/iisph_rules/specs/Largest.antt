@@ -46,7 +46,8 @@ NothingPassedOver = (xs : List Float) → errorOf Ihmsen xs .«passed_over» ≡
 abbrev pub SettledWithin : Type 0
 SettledWithin =
     (b : List ℕ) (a : Accepted b) (k : ℕ) (error : Float) (passedOver : Bool)
-    → sceneOf b .header .criterion ≡ Ihmsen → a .report .iterations ≡ suc k → a .report .ending ≡ Settled error passedOver
+    → sceneOf b .header .criterion ≡ Ihmsen → a .report .iterations ≡ suc k
+    → a .report .ending ≡ Settled error passedOver
     → (j : ℕ) → j < length (iterationAt (sceneOf b) k .averages)
     → Ieee.le (getD (iterationAt (sceneOf b) k .averages) j +0) (sceneOf b .header .maxDensityError) ≡ true
 

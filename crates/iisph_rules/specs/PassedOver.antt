@@ -1,5 +1,5 @@
--- What the yes or no of an iteration's error tells (METHOD 6.4, 7.1), each claim as one type: under the Rust's criterion
--- yes exactly if some average is not a number, and an ending carries that of the last iteration.
+-- What the yes or no of an iteration's error tells (METHOD 6.4, 7.1), each claim as one type: under the Rust's
+-- criterion yes exactly if some average is not a number, and an ending carries that of the last iteration.
 -- proofs/PassedOver.antt proves the claims. Definitions only.
 use Prim.Native.Nat.{ℕ, zero, suc, _<_}
 use mathlib.Core.Path.{_≡_}

@@ -9,8 +9,8 @@ use Rattle.scene_format.specs.declared.Criterion.the-variants.{Salva, Ihmsen}
 use Rattle.iisph_rules.specs.declared.Ending.the-variants.{Settled, RanOut}
 use Rattle.worked_examples.specs.Row.{Row, done, iterated, found, report, after}
 use Rattle.worked_examples.specs.PassedOver.{overflowing, still, lost}
-use Rattle.worked_examples.specs.Scenes.{headerB, pair, bits·1, bits·-1, bits·2, bits·4, bits·½, bits·-½, bits·¼, bits·-¼}
-use Rattle.worked_examples.specs.Scenes.{bits·-0, bits·∞, bits·-∞, bits·nan}
+use Rattle.worked_examples.specs.Scenes.{headerB, pair, bits·1, bits·-1, bits·2, bits·4, bits·½, bits·-½, bits·¼}
+use Rattle.worked_examples.specs.Scenes.{bits·-¼, bits·-0, bits·∞, bits·-∞, bits·nan}
 use Rattle.worked_examples.specs.Starred.{answersB}
 
 -- ---- scenes, in version 2 and by a rule
@@ -34,8 +34,8 @@ belowZero most =
       gravity = zero3;
     }
 
--- fluid number m of one particle of mass 1 and density 1, which touches itself alone: where the rest density is above 1,
--- its warm pressure holds it apart, and both criteria's averages are below 0
+-- fluid number m of one particle of mass 1 and density 1, which touches itself alone: where the rest density is above
+-- 1, its warm pressure holds it apart, and both criteria's averages are below 0
 unfoldable pub thin : ℕ → ℕ → ℕ → List ℕ
 thin m density0 volume =
     fluid density0

@@ -1,5 +1,5 @@
--- `iisph_iterations::errors::with_average` meets its contract: by the criterion; under the Rust's, by whether an average
--- was passed over before, and under Ihmsen's, by whether the average is the first. Assumes nothing.
+-- `iisph_iterations::errors::with_average` meets its contract: by the criterion; under the Rust's, by whether an
+-- average was passed over before, and under Ihmsen's, by whether the average is the first. Assumes nothing.
 use borrow.Author.Needs.{needs}
 use Rattle.iisph_rules.specs.Iteration.{withAverage}
 use Rattle.iisph_iterations.specs.Errors.{joined}
