@@ -9,7 +9,7 @@ use native.Mathlib.Omega.{arith}
 use lib.Ieee
 use lib.Ieee.{Float}
 use lib.ListN.{length}
-use Rattle.math.specs.Real.{_⊕_, _⊖_, _⊗_, _⊘_, ⊝, +0, half, magnitude}
+use Rattle.math.specs.Real.{_⊕_, _⊖_, _⊗_, _⊘_, +0, half, magnitude}
 use Rattle.math.specs.Vector.{Vector, coordinates, origin, _⊞_, _⊟_, _⊡_, _·_}
 use Rattle.lists.specs.Lists.{fold, choose}
 use Rattle.math.specs.declared.Vec3.{Vec3}

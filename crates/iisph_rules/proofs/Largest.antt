@@ -7,7 +7,7 @@ use mathlib.Core.Bool.{Bool, true, false, cond, true≢false}
 use mathlib.Core.List.{List, [], _∷_}
 use native.Mathlib.Omega.{arith}
 use lib.Ieee
-use lib.Ieee.{Float, nan, inf, fin}
+use lib.Ieee.{Float, nan}
 use lib.ListN.{length, getD}
 use Rattle.math.specs.Real.{+0, isNan, larger}
 use Rattle.math.proofs.Doubles.{number-or-nan}

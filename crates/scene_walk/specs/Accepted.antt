@@ -1,7 +1,6 @@
 -- What a packed scene whose fields are accepted gives, field by field: the statements that contracts of a solver ask
 -- for and that proofs/ shows of every accepted scene. Scaffolding: no promise rests on it. Definitions only.
 use Prim.Native.Nat.{ℕ, _+_, _*_, _<_, _≤_}
-use mathlib.Core.Path.{_≡_}
 use mathlib.Core.List.{List}
 use lib.ListN.{length}
 use Rattle.scene_format.specs.Bytes.{FiniteAt, AllFinite}
