@@ -1,27 +1,44 @@
 -- The error of an iteration, fluid by fluid: taking in one fluid more leaves the same for the fluids that remain, so a
 -- loop that ends with none has the whole. By cases on the fluid's count and on whether particles come before. Assumes
 -- nothing.
-use Prim.Native.Nat.{ℕ, zero, suc, _+_, _<_, _≤_}
+use Prim.Native.Nat.{ℕ, zero, suc, _+_, _-_, _*_, _<_, _≤_}
 use mathlib.Core.Path.{_≡_, refl, sym, ap, _∙_}
 use mathlib.Core.Bool.{Bool, true, false}
-use mathlib.Core.List.{List, [], _∷_}
+use mathlib.Core.List.{List, [], _∷_, map-id}
 use native.Mathlib.Nat.{not-suc-le-zero, le-of-suc-le-suc, add-zero, zero-add}
 use native.Mathlib.Numerals.{add-one}
 use native.Mathlib.Omega.{arith}
 use lib.Dec.{eqb, eqb·suc-zero}
 use lib.IntN.{pos}
 use lib.Ieee
-use lib.Ieee.{Float, binary64}
+use lib.Ieee.{Float, nan, binary64}
 use lib.ListN.{length, getD, take, drop}
 use lib.Seq.{drop-drop, drop-cons}
-use Rattle.math.specs.Real.{_⊘_, +0, total}
+use Rattle.math.specs.Real.{_⊘_}
 use Rattle.lists.specs.Lists.{fold, sum}
-use Rattle.lists.proofs.Lists.{part-table}
-use Rattle.iisph_rules.specs.Iteration.{average, averages, noError, firstError, withAverage, errorOf}
+use Rattle.lists.proofs.Lists.{table-same, table-map, part-table}
+use Rattle.scene_format.specs.Format.{axes}
+use Rattle.iisph_rows.specs.Rows.{quotientSlot}
+use Rattle.iisph_rules.specs.Iteration.{termSum, average, averages, noError, firstError, withAverage, errorOf}
 use Rattle.iisph_rules.specs.declared.IterationError.{IterationError}
 use Rattle.scene_format.specs.declared.Criterion.{Criterion}
 use Rattle.scene_format.specs.declared.Criterion.the-variants.{Salva, Ihmsen}
+use Rattle.scene_format.specs.declared.Summation.{Summation}
 use Rattle.iisph_iterations.specs.Errors.{termsFrom, termsIn, joined, withFluid, errorOn}
+
+-- ---- the terms of a fluid stand one behind the other
+
+-- as a part of the list that starts and ends at these elements
+pub terms-part : (work : List Float) (n from count : ℕ) {start : ℕ} → start ≡ quotientSlot axes * n + from
+    → start + count ≤ length work → take (start + count - start) (drop start work) ≡ termsFrom work n from count
+terms-part work n from count {start} e h =
+    let long : start + count - start ≡ count = omega arith in
+    rw long
+    (ap (λ (xs : List Float). take count (drop start xs)) (sym (table-map (λ (x : Float). x) work nan ∙ map-id work))
+    ∙ part-table start count (length work) (λ i. getD work i nan) h
+    ∙ table-same count _ _
+    (λ k m. let at : start + k ≡ quotientSlot axes * n + (from + k) = omega (arith, e) in
+    ap (λ (i : ℕ). getD work i nan) at))
 
 -- ---- one fluid more
 
@@ -43,18 +60,18 @@ on-later criterion zero error xs h = absurd (not-suc-le-zero h)
 on-later criterion (suc from) error xs h = refl
 
 -- `error` is what the particles before came to, and none come to none
-average-next : (criterion : Criterion) (from count : ℕ) (counts : List ℕ) (terms : List Float) (error : IterationError)
-    → (from ≡ 0 → error ≡ noError)
-    → errorOn criterion from error (averages (count ∷ counts) terms)
-    ≡ errorOn criterion (from + count) (withFluid criterion from error count (take count terms))
-    (averages counts (drop count terms))
+average-next : (criterion : Criterion) (w : Summation) (from count : ℕ) (counts : List ℕ) (terms : List Float)
+    (error : IterationError) → (from ≡ 0 → error ≡ noError)
+    → errorOn criterion from error (averages w (count ∷ counts) terms)
+    ≡ errorOn criterion (from + count) (withFluid criterion w from error count (take count terms))
+    (averages w counts (drop count terms))
 unfolding averages withFluid errorOn errorOf fold
-average-next criterion from zero counts terms error h = rw (add-zero from)
-average-next criterion zero (suc n) counts terms error h =
-    rw (zero-add (suc n), h refl, joined-first criterion (average (suc n) (take (suc n) terms)))
-average-next criterion (suc from) (suc n) counts terms error h =
-    let x = average (suc n) (take (suc n) terms) in
-    ap (λ (e : IterationError). fold (withAverage criterion) e (averages counts (drop (suc n) terms)))
+average-next criterion w from zero counts terms error h = rw (add-zero from)
+average-next criterion w zero (suc n) counts terms error h =
+    rw (zero-add (suc n), h refl, joined-first criterion (average w (suc n) (take (suc n) terms)))
+average-next criterion w (suc from) (suc n) counts terms error h =
+    let x = average w (suc n) (take (suc n) terms) in
+    ap (λ (e : IterationError). fold (withAverage criterion) e (averages w counts (drop (suc n) terms)))
     (joined-later criterion error x ∙ ap (λ (t : Bool). joined criterion t error x) (sym (eqb·suc-zero from)))
     ∙ sym (on-later criterion (suc from + suc n) _ _ (omega arith))
 
@@ -66,43 +83,43 @@ error-done criterion zero error h = h refl
 error-done criterion (suc from) error h = refl
 
 -- a fluid with no particles, and one with some
-pub with-none : (criterion : Criterion) (from count : ℕ) (error : IterationError) (terms : List Float) → count ≡ 0
-    → error ≡ withFluid criterion from error count terms
+pub with-none : (criterion : Criterion) (w : Summation) (from count : ℕ) (error : IterationError) (terms : List Float)
+    → count ≡ 0 → error ≡ withFluid criterion w from error count terms
 unfolding withFluid
-with-none criterion from zero error terms e = refl
-with-none criterion from (suc n) error terms e = absurd (omega arith)
+with-none criterion w from zero error terms e = refl
+with-none criterion w from (suc n) error terms e = absurd (omega arith)
 
-pub with-some : (criterion : Criterion) (from count : ℕ) (error : IterationError) (terms : List Float) → 0 < count
-    → {sum size : Float} {first : Bool} {x : IterationError} → sum ≡ total +0 terms
+pub with-some : (criterion : Criterion) (w : Summation) (from count : ℕ) (error : IterationError) (terms : List Float)
+    → 0 < count → {sum size : Float} {first : Bool} {x : IterationError} → sum ≡ termSum w terms
     → size ≡ Ieee.ofInt binary64 (pos count) → first ≡ eqb from 0
-    → x ≡ joined criterion first error (sum ⊘ size) → x ≡ withFluid criterion from error count terms
+    → x ≡ joined criterion first error (sum ⊘ size) → x ≡ withFluid criterion w from error count terms
 unfolding withFluid average
-with-some criterion from zero error terms h e q f r = absurd (not-suc-le-zero h)
-with-some criterion from (suc n) error terms h e q f r = rw (r, e, q, f)
+with-some criterion w from zero error terms h e q f r = absurd (not-suc-le-zero h)
+with-some criterion w from (suc n) error terms h e q f r = rw (r, e, q, f)
 
 -- after m fluids, whose particles end at `from`; `error` is what they came to
-pub record Averaged (criterion : Criterion) (counts : List ℕ) (n : ℕ) (work : List Float) (m from : ℕ)
+pub record Averaged (criterion : Criterion) (w : Summation) (counts : List ℕ) (n : ℕ) (work : List Float) (m from : ℕ)
     (error : IterationError) : Type 0 where
   pub within : m ≤ length counts
   pub rows : from + sum (drop m counts) ≡ n
   pub none : from ≡ 0 → error ≡ noError
-  pub rest : errorOn criterion from error (averages (drop m counts) (drop from (termsIn n work)))
-      ≡ errorOf criterion (averages counts (termsIn n work))
+  pub rest : errorOn criterion from error (averages w (drop m counts) (drop from (termsIn n work)))
+      ≡ errorOf criterion (averages w counts (termsIn n work))
 
-module _ (criterion : Criterion) (counts : List ℕ) (n : ℕ) (work : List Float) where
-  pub none-averaged : sum counts ≡ n → Averaged criterion counts n work 0 0 noError
+module _ (criterion : Criterion) (w : Summation) (counts : List ℕ) (n : ℕ) (work : List Float) where
+  pub none-averaged : sum counts ≡ n → Averaged criterion w counts n work 0 0 noError
   unfolding errorOn
   none-averaged e = record { within = omega arith; rows = omega (arith, e); none = λ q. refl; rest = refl }
 
-  module _ {m from : ℕ} {error : IterationError} (here : Averaged criterion counts n work m from error) where
+  module _ {m from : ℕ} {error : IterationError} (here : Averaged criterion w counts n work m from error) where
     -- the particles of the next fluid
     pub next-rows : m < length counts → from + getD counts m 0 + sum (drop (suc m) counts) ≡ n
     unfolding sum
     next-rows h = omega (arith, rw (drop-cons counts m 0 h) at (here .rows))
 
     pub next-averaged : m < length counts → {count : ℕ} {x : IterationError} → count ≡ getD counts m 0
-        → x ≡ withFluid criterion from error count (termsFrom work n from count)
-        → Averaged criterion counts n work (m + 1) (from + count) x
+        → x ≡ withFluid criterion w from error count (termsFrom work n from count)
+        → Averaged criterion w counts n work (m + 1) (from + count) x
     next-averaged h {count} {x} e q =
         let rows = next-rows h in
         let col = termsIn n work in
@@ -111,16 +128,16 @@ module _ (criterion : Criterion) (counts : List ℕ) (n : ℕ) (work : List Floa
           within = omega arith;
           rows = rw add-one (omega arith);
           none =
-              λ z. q ∙ sym (with-none criterion from count error _ (omega (arith, z))) ∙ here .none (omega (arith, z));
+              λ z. q ∙ sym (with-none criterion w from count error _ (omega (arith, z))) ∙ here .none (omega (arith, z));
           rest =
               rw (add-one m, q, ← part, ← drop-drop count from col)
-              (sym (average-next criterion from count (drop (suc m) counts) (drop from col) error (here .none))
-              ∙ ap (λ (cs : List ℕ). errorOn criterion from error (averages cs (drop from col)))
+              (sym (average-next criterion w from count (drop (suc m) counts) (drop from col) error (here .none))
+              ∙ ap (λ (cs : List ℕ). errorOn criterion from error (averages w cs (drop from col)))
               (ap (λ (k : ℕ). k ∷ drop (suc m) counts) e ∙ sym (drop-cons counts m 0 h))
               ∙ here .rest);
         }
 
-    pub all-averaged : length counts ≤ m → error ≡ errorOf criterion (averages counts (termsIn n work))
+    pub all-averaged : length counts ≤ m → error ≡ errorOf criterion (averages w counts (termsIn n work))
     unfolding averages
     all-averaged h =
         let done : drop m counts ≡ [] = drop-all counts m h in

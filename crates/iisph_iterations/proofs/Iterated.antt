@@ -228,14 +228,16 @@ pub iterates-made : (b : List ℕ) {n : ℕ} (size : n ≡ fluidSize (sceneOf b)
     → IterationReady (sceneOf b) (pressuresIn n l) n l
     → {x y z w : List Float} {r : IterationError} → x ≡ After b n Quotients l → y ≡ After b n DijPjl x
     → z ≡ After b n NextPressures y → w ≡ After b n Exchange z
-    → r ≡ errorOf (sceneOf b .header .criterion) (averages (sceneOf b .fluidCounts) (termsIn n w))
+    → r ≡ errorOf (sceneOf b .header .criterion)
+    (averages (sceneOf b .header .summation) (sceneOf b .fluidCounts) (termsIn n w))
     → Iterates (sceneOf b) l r w
 unfolding iteration
 iterates-made b {n} size l ready {w = w} e f g k q =
+    let s = sceneOf b in
     record {
       error =
           q
-          ∙ ap (λ (ts : List Float). errorOf (sceneOf b .header .criterion) (averages (sceneOf b .fluidCounts) ts))
+          ∙ ap (λ (ts : List Float). errorOf (s .header .criterion) (averages (s .header .summation) (s .fluidCounts) ts))
           (iterated-terms b size l ready e f g k)
           ∙ ap (λ (j : ℕ). iteration (sceneOf b) (coefficients (sceneOf b)) (pressuresIn j l) .error) size;
       list = iterated-made b size l ready e f g k;

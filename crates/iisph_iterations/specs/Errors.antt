@@ -12,6 +12,7 @@ use Rattle.lists.specs.Lists.{fold, table}
 use Rattle.scene_format.specs.Format.{axes}
 use Rattle.scene_format.specs.declared.Criterion.{Criterion}
 use Rattle.scene_format.specs.declared.Criterion.the-variants.{Salva, Ihmsen}
+use Rattle.scene_format.specs.declared.Summation.{Summation}
 
 -- of n particles the error terms of `count` from particle `from` on, and of all
 abbrev pub termsFrom : List Float → ℕ → ℕ → ℕ → List Float
@@ -27,9 +28,10 @@ joined Ihmsen true error x = record { value = x; «passed_over» = false }
 joined Ihmsen false error x = withAverage Ihmsen error x
 
 -- with the average of a fluid of n particles, which are the first if `from` is 0; an empty fluid has none
-unfoldable pub withFluid : Criterion → ℕ → IterationError → ℕ → List Float → IterationError
-withFluid criterion from error zero terms = error
-withFluid criterion from error (suc n) terms = joined criterion (eqb from 0) error (average (suc n) terms)
+unfoldable pub withFluid : Criterion → Summation → ℕ → IterationError → ℕ → List Float → IterationError
+withFluid criterion summation from error zero terms = error
+withFluid criterion summation from error (suc n) terms =
+    joined criterion (eqb from 0) error (average summation (suc n) terms)
 
 -- what the averages xs make of the error so far, where the particles before are `from` in number
 unfoldable pub errorOn : Criterion → ℕ → IterationError → List Float → IterationError

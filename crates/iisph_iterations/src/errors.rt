@@ -1,5 +1,5 @@
-// The error of an iteration, from the column of error terms: the greatest of the fluids' averages, by the criterion,
-// and whether an average was not a number and was passed over (METHOD 6.4).
+// The error of an iteration, from the column of error terms: the greatest of the fluids' averages, whose terms are summed
+// by the summation, by the criterion, and whether an average was not a number and was passed over (METHOD 6.4).
 use iisph_rows::rows::ERROR_TERM;
 use iisph_rules::IterationError;
 use iisph_rules::NO_ERROR;
@@ -7,23 +7,25 @@ use math::is_nan;
 use math::larger;
 use scene_format::Criterion;
 use scene_format::Kind;
+use scene_format::Summation;
 use scene_format::read;
 use scene_layout::Layout;
 use std::num::nearest_u64_to_f64;
+use sums::sum_by_halves;
 ghost use mathlib.Core.Path.{_≡_};
 ghost use mathlib.Core.Bool.{cond};
 ghost use Prim.Native.Nat.{_+_, _≤_};
 ghost use lib.ListN.{length};
 ghost use Rattle.iisph_rows.specs.Rows.{volumesAt};
-ghost use Rattle.iisph_rules.specs.Iteration.{averages, errorOf};
+ghost use Rattle.iisph_rules.specs.Iteration.{termSum, averages, errorOf};
 ghost use Rattle.math.specs.Real.{total, isNan, larger, +0};
 ghost use Rattle.scene_check.specs.Check.{Passed};
 ghost use Rattle.scene_format.specs.Scene.{fluidSize};
 ghost use Rattle.scene_format.specs.SceneOf.{sceneOf};
 ghost use Rattle.iisph_iterations.specs.Errors.{termsFrom, termsIn, joined, withFluid};
 
-// The sum of the error terms of `count` of n particles, from particle `from` on.
-fn term_sum(work: &[f64], n: usize, from: usize, count: usize) -> f64
+// The error terms of `count` of n particles, from particle `from` on, added one after the other.
+fn running_sum(work: &[f64], n: usize, from: usize, count: usize) -> f64
     requires { ⌜ (from + count ≤ n) × (volumesAt n ≤ length (now work)) ⌝ }
     ensures { λ r. ⌜ r ≡ total +0 (termsFrom (now (work .entry)) n from count) ⌝ }
 {
@@ -34,6 +36,21 @@ fn term_sum(work: &[f64], n: usize, from: usize, count: usize) -> f64
         k += 1;
     }
     sum
+}
+
+// The sum of those terms. They stand one behind the other, so that by halves a part of the list is handed on.
+fn term_sum(summation: Summation, work: &[f64], n: usize, from: usize, count: usize) -> f64
+    requires { ⌜ (from + count ≤ n) × (volumesAt n ≤ length (now work)) ⌝ }
+    ensures { λ r. ⌜ r ≡ termSum summation (termsFrom (now (work .entry)) n from count) ⌝ }
+{
+    match summation {
+        Summation::InOrder => running_sum(work, n, from, count),
+        Summation::ByHalves => {
+            let start = ERROR_TERM * n + from;
+            let end = start + count;
+            sum_by_halves(&work[start..end])
+        }
+    }
 }
 
 // y if it is greater or not a number, else x.
@@ -78,6 +95,7 @@ fn with_average(
 // The error so far, with the average of a fluid whose first particle is `from`. An empty fluid has none.
 fn with_fluid(
     criterion: Criterion,
+    summation: Summation,
     work: &[f64],
     n: usize,
     from: usize,
@@ -85,12 +103,14 @@ fn with_fluid(
     error: IterationError,
 ) -> IterationError
     requires { ⌜ (from + count ≤ n) × (volumesAt n ≤ length (now work)) ⌝ }
-    ensures { λ r. ⌜ r ≡ withFluid criterion from error count (termsFrom (now (work .entry)) n from count) ⌝ }
+    ensures { λ r. ⌜
+        r ≡ withFluid criterion summation from error count (termsFrom (now (work .entry)) n from count)
+        ⌝ }
 {
     if count == 0 {
         return error;
     }
-    let sum = term_sum(work, n, from, count);
+    let sum = term_sum(summation, work, n, from, count);
     let average = sum / nearest_u64_to_f64(count as u64);
     with_average(criterion, from == 0, error, average)
 }
@@ -101,10 +121,12 @@ pub fn max_error(scene: &[u8], layout: Layout, work: &[f64], n: usize) -> Iterat
     requires { ⌜ (n ≡ fluidSize (sceneOf (now scene))) × (volumesAt n ≤ length (now work)) ⌝ }
     ensures { λ r. ⌜
         (let s = sceneOf (now (scene .entry)) in
-        r ≡ errorOf (s .header .criterion) (averages (s .fluidCounts) (termsIn n (now (work .entry)))))
+        let found = averages (s .header .summation) (s .fluidCounts) (termsIn n (now (work .entry))) in
+        r ≡ errorOf (s .header .criterion) found)
         ⌝ }
 {
     let criterion = read::criterion(scene);
+    let summation = read::summation(scene);
     let fluids = layout.fluids;
     let heads = fluids.heads;
     let number = fluids.number;
@@ -113,7 +135,7 @@ pub fn max_error(scene: &[u8], layout: Layout, work: &[f64], n: usize) -> Iterat
     let mut m = 0usize;
     while m < number {
         let count = read::particles(scene, Kind::Fluid, heads[m]);
-        error = with_fluid(criterion, work, n, from, count, error);
+        error = with_fluid(criterion, summation, work, n, from, count, error);
         from += count;
         m += 1;
     }

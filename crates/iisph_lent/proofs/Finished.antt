@@ -44,11 +44,11 @@ use Rattle.iisph_lent.specs.Step.{Finishes}
 use Rattle.iisph_passes.specs.Traverse.{slotOf, rowOf}
 use Rattle.iisph_iterations.specs.declared.«pressure_solve».Solved.{Solved}
 use Rattle.iisph_passes.specs.declared.traverse.Pass.the-variants.{Shares}
-use Rattle.iisph_iterations.proofs.Iterated.{again-ready, again-pressures, drop-times}
-use Rattle.scene_lengths.proofs.Needed.{work-needed, answers-needed}
+use Rattle.iisph_iterations.proofs.Iterated.{again-ready, again-pressures, drop-times, length-times}
+use Rattle.scene_lengths.proofs.Needed.{work-least, answers-needed}
 use Rattle.iisph_passes.proofs.Passes.{pass-rows, pass-drop}
 use Rattle.lists.proofs.RowParts.{rows-same}
-use Rattle.iisph_passes.proofs.Traversal.{pressures-kept, iteration-same}
+use Rattle.iisph_passes.proofs.Traversal.{length-kept, pressures-kept, iteration-same}
 
 -- ---- after k iterations
 
@@ -179,7 +179,7 @@ module _ {b : List ℕ} {layout : Layout} (passed : Passed b layout) {n : ℕ} (
           ∙ solved-pressures b size work first-ready first-pressures (solves .list)
 
       beyond-rows : volumesAt (fluidSize (sceneOf b)) ≤ workNeeded (sceneOf b)
-      beyond-rows = omega (arith, work-needed b)
+      beyond-rows = omega (arith, work-least b)
 
       drop-shared : drop (workNeeded (sceneOf b)) z ≡ drop (workNeeded (sceneOf b)) work
       drop-shared =
@@ -187,6 +187,10 @@ module _ {b : List ℕ} {layout : Layout} (passed : Passed b layout) {n : ℕ} (
           ∙ pass-drop b size Shares x (workNeeded (sceneOf b)) (omega (arith, beyond-rows, size))
           ∙ ap (drop (workNeeded (sceneOf b))) (solves .list)
           ∙ drop-times b (solution (sceneOf b) .iterations) work (workNeeded (sceneOf b)) beyond-rows
+
+      pub length-shared : length z ≡ length work
+      length-shared = ap length e ∙ length-kept b size Shares n (omega arith) x
+          ∙ ap length (solves .list) ∙ length-times b (solution (sceneOf b) .iterations) work
 
       pub finished : {answers a c w : List Float} {k : ℕ} {report : Report} → answersNeeded (sceneOf b) ≤ length answers
           → a ≡ stored (fluidAnswerWidth axes) n 0

@@ -30,7 +30,6 @@ ghost use Rattle.iisph_rules.specs.Step.{firstPressures};
 ghost use Rattle.scene_check.specs.Check.{Passed};
 ghost use Rattle.scene_format.specs.SceneOf.{sceneOf};
 ghost use Rattle.scene_index.specs.Index.{indexNeeded};
-ghost use Rattle.scene_lengths.specs.Lengths.{answersNeeded};
 ghost use Rattle.iisph_lent.specs.Lent.{StepsLent, IndexAfter};
 ghost use Rattle.iisph_lent.specs.Step.{Steps, Finishes};
 
@@ -53,7 +52,7 @@ fn finish(
     work: &mut [f64],
 ) -> Report
     requires { ⌜ PassOver (now scene) (now index) n × StepHeaderIs (sceneOf (now scene)) header ⌝ }
-    requires { ⌜ Passed (now scene) layout × (answersNeeded (sceneOf (now scene)) ≤ length (now answers)) ⌝ }
+    requires { ⌜ Passed (now scene) layout × LongEnough (now scene) (length (now answers)) (length (now work)) ⌝ }
     requires { ⌜ IterationReady (sceneOf (now scene)) (firstPressures (sceneOf (now scene))) n (now work) ⌝ }
     ensures { λ r. ⌜
         Finishes (now (scene .entry)) (now (answers .entry)) (now (work .entry)) r (now (answers .exit))

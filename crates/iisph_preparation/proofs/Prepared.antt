@@ -16,7 +16,7 @@ use Rattle.scene_index.specs.Index.{indexNeeded, indexOf}
 use Rattle.scene_index.proofs.Indexes.{indexed}
 use Rattle.scene_lengths.specs.Lengths.{workNeeded}
 use Rattle.scene_check.proofs.Checks.{fluid-total}
-use Rattle.scene_lengths.proofs.Needed.{work-needed}
+use Rattle.scene_lengths.proofs.Needed.{work-least}
 use Rattle.iisph_rules.specs.Step.{firstPressures}
 use Rattle.iisph_header.specs.Header.{StepHeaderIs}
 use Rattle.iisph_header.specs.declared.StepHeader.{StepHeader}
@@ -26,7 +26,7 @@ use Rattle.iisph_preparation.specs.Prepare.{workPrepared}
 use Rattle.iisph_preparation.specs.declared.Readiness.{Readiness}
 use Rattle.iisph_preparation.specs.declared.Readiness.the-variants.{Ready, Refused}
 use Rattle.iisph_preparation.proofs.IterationStart.{iteration-ready}
-use Rattle.iisph_preparation.proofs.RowsFilled.{drop-prepared}
+use Rattle.iisph_preparation.proofs.RowsFilled.{length-prepared, drop-prepared}
 
 -- the filled index and the layout's number of fluid particles are what a pass goes over
 pub indexed-over : {b : List ℕ} {layout : Layout} → Passed b layout → (l : List ℕ) {index : List ℕ}
@@ -42,7 +42,7 @@ driven over h = record { timed = record { over = over; dtIs = ap (λ c. c .dt) (
 pub beyond : (b : List ℕ) (work : List Float) (r : Readiness) → drop (workNeeded (sceneOf b)) (workPrepared b r work)
     ≡ drop (workNeeded (sceneOf b)) work
 unfolding workPrepared
-beyond b work Ready = drop-prepared b work (workNeeded (sceneOf b)) (omega (arith, work-needed b))
+beyond b work Ready = drop-prepared b work (workNeeded (sceneOf b)) (omega (arith, work-least b))
 beyond b work (Refused r) = drop-at (replicate (workNeeded (sceneOf b)) +0) (drop (workNeeded (sceneOf b)) work)
     (workNeeded (sceneOf b)) (length-replicate (workNeeded (sceneOf b)) +0)
 
@@ -52,7 +52,12 @@ pub prepared-ready : (b : List ℕ) {n : ℕ} → n ≡ fluidSize (sceneOf b) �
     → {r : Readiness} {x : List Float} → r ≡ Ready → x ≡ workPrepared b r work
     → IterationReady (sceneOf b) (firstPressures (sceneOf b)) n x
 unfolding workPrepared
-prepared-ready b size work h e q = rw (q, e, size) (iteration-ready b work (omega (arith, work-needed b)))
+prepared-ready b size work h e q = rw (q, e, size) (iteration-ready b work (omega (arith, work-least b)))
+
+pub prepared-long : (b : List ℕ) (work : List Float) {r : Readiness} {x : List Float} → r ≡ Ready
+    → x ≡ workPrepared b r work → length x ≡ length work
+unfolding workPrepared
+prepared-long b work e q = rw (q, e) (length-prepared b work)
 
 -- a local list of n zeros has room for n
 pub long : (n : ℕ) → n ≤ length (replicate {A = ℕ} n 0)

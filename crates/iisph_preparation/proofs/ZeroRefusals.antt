@@ -28,7 +28,7 @@ use Rattle.iisph_rules.specs.declared.StepAnswer.{StepAnswer}
 use Rattle.iisph_rules.specs.declared.StepAnswer.the-variants as answer
 use Rattle.iisph_preparation.specs.declared.Readiness.{Readiness}
 use Rattle.iisph_preparation.specs.declared.Readiness.the-variants.{Ready, Refused}
-use Rattle.scene_lengths.proofs.Needed.{work-needed}
+use Rattle.scene_lengths.proofs.Needed.{work-least}
 use Rattle.iisph_rows.proofs.RowReads.{column-values}
 use Rattle.iisph_preparation.proofs.RowsFilled.{part-stored, drop-prepared}
 use Rattle.iisph_preparation.proofs.IterationStart.{iteration-ready}
@@ -59,7 +59,7 @@ module _ (b : List ℕ) {n : ℕ} (size : n ≡ fluidSize (sceneOf b)) (l : List
       → y ≡ replicate k +0 ++ drop k z → y ≡ workPrepared b (Refused r) l
   unfolding workPrepared
   work-cleared r needed e q =
-      q ∙ rw (e, needed, drop-prepared b l (workNeeded (sceneOf b)) (omega (arith, work-needed b)))
+      q ∙ rw (e, needed, drop-prepared b l (workNeeded (sceneOf b)) (omega (arith, work-least b)))
 
 -- ---- columns
 

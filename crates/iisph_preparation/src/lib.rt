@@ -94,7 +94,7 @@ fn prepare_rows(
     work: &mut [f64],
 ) -> Readiness
     requires { ⌜ DrivenPass (now scene) (now index) n dt gravity ⌝ }
-    requires { ⌜ Passed (now scene) layout × Room (sceneOf (now scene)) n (now work) ⌝ }
+    requires { ⌜ Passed (now scene) layout × (workNeeded (sceneOf (now scene)) ≤ length (now work)) ⌝ }
     ensures { λ r. ⌜
         (let b = now (scene .entry) in
         (r ≡ readiness (sceneAnswer (λ i. locationOf Fluid b i .at) (sceneOf b)))

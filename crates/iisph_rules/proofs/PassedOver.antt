@@ -18,6 +18,7 @@ use Rattle.scene_format.specs.Scene.{Scene}
 use Rattle.scene_format.specs.SceneOf.{sceneOf}
 use Rattle.scene_format.specs.declared.Criterion.{Criterion}
 use Rattle.scene_format.specs.declared.Criterion.the-variants.{Salva}
+use Rattle.scene_format.specs.declared.Summation.{Summation}
 use Rattle.iisph_rules.specs.Iteration.{averages, noError, firstError, withAverage, errorOf, iteration}
 use Rattle.iisph_rules.specs.Step.{reportOf}
 use Rattle.iisph_rules.specs.Answer.{Accepted}
@@ -80,41 +81,44 @@ yes-exactly (x ∷ xs) = (yes-some _ (x ∷ xs) refl, some-yes _ (x ∷ xs))
 
 -- ---- an average for each fluid that has particles
 
--- a fluid of `count` particles more stands in front
-module _ (count : ℕ) (counts : List ℕ) (terms : List Float) (m : ℕ) where
-  behind : drop (sum (take m counts)) (drop count terms) ≡ drop (sum (take (suc m) (count ∷ counts))) terms
-  unfolding sum
-  behind = drop-drop (sum (take m counts)) count terms
+module _ (summation : Summation) where
+  -- a fluid of `count` particles more stands in front
+  module _ (count : ℕ) (counts : List ℕ) (terms : List Float) (m : ℕ) where
+    behind : drop (sum (take m counts)) (drop count terms) ≡ drop (sum (take (suc m) (count ∷ counts))) terms
+    unfolding sum
+    behind = drop-drop (sum (take m counts)) count terms
 
-  one-on : NanFluid counts (drop count terms) m → NanFluid (count ∷ counts) terms (suc m)
-  one-on f = record { there = omega (arith, f .there); some = f .some; noNumber = rw (← behind) (f .noNumber) }
+    one-on : NanFluid summation counts (drop count terms) m → NanFluid summation (count ∷ counts) terms (suc m)
+    one-on f = record { there = omega (arith, f .there); some = f .some; noNumber = rw (← behind) (f .noNumber) }
 
-  one-back : NanFluid (count ∷ counts) terms (suc m) → NanFluid counts (drop count terms) m
-  one-back f = record { there = omega (arith, f .there); some = f .some; noNumber = rw behind (f .noNumber) }
+    one-back : NanFluid summation (count ∷ counts) terms (suc m) → NanFluid summation counts (drop count terms) m
+    one-back f = record { there = omega (arith, f .there); some = f .some; noNumber = rw behind (f .noNumber) }
 
-fluid-of : (counts : List ℕ) (terms : List Float) → SomeNan (averages counts terms)
-    → (m : ℕ) × NanFluid counts terms m
-unfolding averages sum
-fluid-of [] terms (k, l, q) = absurd (omega (arith, l))
-fluid-of (zero ∷ counts) terms h = let (m, f) = fluid-of counts terms h in (suc m, one-on zero counts terms m f)
-fluid-of (suc n ∷ counts) terms (zero, l, q) =
-    (0, record { there = omega arith; some = omega arith; noNumber = q })
-fluid-of (suc n ∷ counts) terms (suc k, l, q) =
-    let (m, f) = fluid-of counts (drop (suc n) terms) (k, omega (arith, l), q) in
-    (suc m, one-on (suc n) counts terms m f)
+  fluid-of : (counts : List ℕ) (terms : List Float) → SomeNan (averages summation counts terms)
+      → (m : ℕ) × NanFluid summation counts terms m
+  unfolding averages sum
+  fluid-of [] terms (k, l, q) = absurd (omega (arith, l))
+  fluid-of (zero ∷ counts) terms h = let (m, f) = fluid-of counts terms h in (suc m, one-on zero counts terms m f)
+  fluid-of (suc n ∷ counts) terms (zero, l, q) =
+      (0, record { there = omega arith; some = omega arith; noNumber = q })
+  fluid-of (suc n ∷ counts) terms (suc k, l, q) =
+      let (m, f) = fluid-of counts (drop (suc n) terms) (k, omega (arith, l), q) in
+      (suc m, one-on (suc n) counts terms m f)
 
-average-of : (counts : List ℕ) (terms : List Float) (m : ℕ) → NanFluid counts terms m → SomeNan (averages counts terms)
-unfolding averages sum
-average-of [] terms m f = absurd (omega (arith, f .there))
-average-of (zero ∷ counts) terms zero f = absurd (omega (arith, f .some))
-average-of (zero ∷ counts) terms (suc m) f = average-of counts terms m (one-back zero counts terms m f)
-average-of (suc n ∷ counts) terms zero f = (0, omega arith, f .noNumber)
-average-of (suc n ∷ counts) terms (suc m) f =
-    let (k, l, q) = average-of counts (drop (suc n) terms) m (one-back (suc n) counts terms m f) in
-    (suc k, omega (arith, l), q)
+  average-of : (counts : List ℕ) (terms : List Float) (m : ℕ) → NanFluid summation counts terms m
+      → SomeNan (averages summation counts terms)
+  unfolding averages sum
+  average-of [] terms m f = absurd (omega (arith, f .there))
+  average-of (zero ∷ counts) terms zero f = absurd (omega (arith, f .some))
+  average-of (zero ∷ counts) terms (suc m) f = average-of counts terms m (one-back zero counts terms m f)
+  average-of (suc n ∷ counts) terms zero f = (0, omega arith, f .noNumber)
+  average-of (suc n ∷ counts) terms (suc m) f =
+      let (k, l, q) = average-of counts (drop (suc n) terms) m (one-back (suc n) counts terms m f) in
+      (suc k, omega (arith, l), q)
 
 pub averages-of-fluids : AveragesOfFluids
-averages-of-fluids counts terms = (fluid-of counts terms, λ f. average-of counts terms (f .0) (f .1))
+averages-of-fluids summation counts terms =
+    (fluid-of summation counts terms, λ f. average-of summation counts terms (f .0) (f .1))
 
 -- ---- a step's ending
 

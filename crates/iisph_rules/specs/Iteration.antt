@@ -1,6 +1,6 @@
 -- One iteration over the pressures (METHOD 6), from the coefficients `co` and the old pressures `ps` of all fluid
 -- particles, by their numbers. Its error is made in three steps: a term for each particle, by the criterion; an average
--- for each fluid; a fold over the averages, by the criterion. Definitions only.
+-- for each fluid, by the summation; a fold over the averages, by the criterion. Definitions only.
 use Prim.Native.Nat.{ℕ, zero, suc}
 use mathlib.Core.Bool.{false, cond, _||_}
 use mathlib.Core.List.{List, [], _∷_, map}
@@ -10,10 +10,13 @@ use lib.Ieee
 use lib.Ieee.{Float, binary64}
 use Rattle.math.specs.Real.{_⊕_, _⊖_, _⊗_, _⊘_, ⊝, bits, +0, half, isNan, magnitude, larger, total}
 use Rattle.math.specs.Vector.{Vector, _⊞_, _⊟_, _⊡_, _·_}
+use Rattle.sums.specs.Halves.{sumByHalves}
 use Rattle.lists.specs.Lists.{fold, table, choose}
 use Rattle.scene_format.specs.Scene.{Scene, FluidParticle, fluidSize, particle}
 use Rattle.scene_format.specs.declared.Criterion.{Criterion}
 use Rattle.scene_format.specs.declared.Criterion.the-variants.{Salva, Ihmsen}
+use Rattle.scene_format.specs.declared.Summation.{Summation}
+use Rattle.scene_format.specs.declared.Summation.the-variants.{InOrder, ByHalves}
 use Rattle.iisph_rules.specs.Coefficients.{dt, zeroVector, overContacts, fluidMass, boundaryMass, djiFactor}
 use Rattle.iisph_rules.specs.Coefficients.{Coefficients, coefficient}
 use Rattle.iisph_rules.specs.declared.IterationError.{IterationError}
@@ -105,15 +108,21 @@ nextPressures s co ps = let ds = dijPjls s co ps in table (fluidSize s) (nextPre
 
 -- ---- the error
 
--- of the terms of a fluid of n particles: sum of terms / count
-unfoldable pub average : ℕ → List Float → Float
-average n terms = total +0 terms ⊘ Ieee.ofInt binary64 (pos n)
+-- of the terms of a fluid: one after the other from +0 on, as the Rust does, or by halves
+unfoldable pub termSum : Summation → List Float → Float
+termSum InOrder terms = total +0 terms
+termSum ByHalves terms = sumByHalves terms
+
+-- of a fluid of n particles: sum of terms / count
+unfoldable pub average : Summation → ℕ → List Float → Float
+average summation n terms = termSum summation terms ⊘ Ieee.ofInt binary64 (pos n)
 
 -- fluid by fluid, where `counts` says how many of the terms each has; an empty fluid has no average
-unfoldable pub averages : List ℕ → List Float → List Float
-averages [] terms = []
-averages (zero ∷ counts) terms = averages counts terms
-averages (suc n ∷ counts) terms = average (suc n) (take (suc n) terms) ∷ averages counts (drop (suc n) terms)
+unfoldable pub averages : Summation → List ℕ → List Float → List Float
+averages summation [] terms = []
+averages summation (zero ∷ counts) terms = averages summation counts terms
+averages summation (suc n ∷ counts) terms =
+    average summation (suc n) (take (suc n) terms) ∷ averages summation counts (drop (suc n) terms)
 
 -- where there are no averages, and where the Rust's error starts
 abbrev pub noError : IterationError
@@ -146,5 +155,5 @@ pub record Iteration : Type 0 where
 unfoldable pub iteration : Scene → List Coefficients → List Float → Iteration
 iteration s co ps =
     let next = nextPressures s co ps in
-    let found = averages (s .fluidCounts) (map (λ n. n .term) next) in
+    let found = averages (s .header .summation) (s .fluidCounts) (map (λ n. n .term) next) in
     record { pressures = map (λ n. n .pressure) next; averages = found; error = errorOf (s .header .criterion) found }

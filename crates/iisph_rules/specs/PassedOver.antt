@@ -13,6 +13,7 @@ use Rattle.lists.specs.Lists.{sum}
 use Rattle.scene_format.specs.Scene.{Scene}
 use Rattle.scene_format.specs.SceneOf.{sceneOf}
 use Rattle.scene_format.specs.declared.Criterion.the-variants.{Salva}
+use Rattle.scene_format.specs.declared.Summation.{Summation}
 use Rattle.iisph_rules.specs.Coefficients.{coefficients}
 use Rattle.iisph_rules.specs.Iteration.{average, averages, errorOf, Iteration, iteration}
 use Rattle.iisph_rules.specs.Step.{firstPressures}
@@ -32,15 +33,16 @@ YesExactly = (xs : List Float) → errorOf Salva xs .«passed_over» ≡ true �
 
 -- fluid m is there and has particles, and the average of its terms, which stand behind those of the fluids before it,
 -- is not a number
-pub record NanFluid (counts : List ℕ) (terms : List Float) (m : ℕ) : Type 0 where
+pub record NanFluid (summation : Summation) (counts : List ℕ) (terms : List Float) (m : ℕ) : Type 0 where
   pub there : m < length counts
   pub some : 0 < getD counts m 0
-  pub noNumber : average (getD counts m 0) (take (getD counts m 0) (drop (sum (take m counts)) terms)) ≡ nan
+  pub noNumber : average summation (getD counts m 0) (take (getD counts m 0) (drop (sum (take m counts)) terms)) ≡ nan
 
 -- some average is not a number exactly if that of some fluid with particles is not
 abbrev pub AveragesOfFluids : Type 0
 AveragesOfFluids =
-    (counts : List ℕ) (terms : List Float) → SomeNan (averages counts terms) ↔ ((m : ℕ) × NanFluid counts terms m)
+    (summation : Summation) (counts : List ℕ) (terms : List Float)
+    → SomeNan (averages summation counts terms) ↔ ((m : ℕ) × NanFluid summation counts terms m)
 
 -- ---- the iterations of a step
 

@@ -14,7 +14,7 @@ pub const TEXT_ROOM: usize = 2 * MOST_BYTES;
 // Long enough for the answers and the work of every scene that is read.
 const ENOUGH_ANSWERS: usize = 4096;
 
-const ENOUGH_WORK: usize = 2 * ENOUGH_ANSWERS;
+const ENOUGH_WORK: usize = 3 * ENOUGH_ANSWERS;
 
 // Writes a scene's text in front of `out`, with `answers` and `work` for the step, and answers its length.
 pub fn run(scene: &[u8], answers: &mut [f64], work: &mut [f64], out: &mut [u8]) -> usize

@@ -23,7 +23,7 @@ use Rattle.scene_index.proofs.Indexes.{number-few}
 use Rattle.scene_check.specs.Check.{Passed}
 use Rattle.scene_check.specs.Walk.{checked}
 use Rattle.scene_lengths.specs.Lengths.{answerWidth, boundaryAnswerWidth, answersNeeded, workNeeded}
-use Rattle.scene_lengths.proofs.Needed.{work-needed}
+use Rattle.scene_lengths.proofs.Needed.{work-most}
 use Rattle.iisph_rules.specs.Answer.{afterCheck, stepAnswer}
 use Rattle.iisph_rules.specs.Coefficients.{Coefficients}
 use Rattle.iisph_rules.specs.Iteration.{iteration}
@@ -96,10 +96,10 @@ boundary-answers-least d [] = omega arith
 boundary-answers-least d (q ∷ qs) =
     omega (arith, widths-least d (choose (q .keepsForces) 1 0), boundary-answers-least d qs)
 
--- of work never more than twice as many doubles as of answers
-needed-work : (b : List ℕ) → workNeeded (sceneOf b) ≤ 2 * answersNeeded (sceneOf b)
+-- of work never more than three times as many doubles as of answers
+needed-work : (b : List ℕ) → workNeeded (sceneOf b) ≤ 3 * answersNeeded (sceneOf b)
 unfolding answersNeeded sceneOf headerOf boundarySize
-needed-work b = omega (arith, work-needed b, boundary-answers-least axes (sceneOf b .boundaryParticles))
+needed-work b = omega (arith, work-most b, boundary-answers-least axes (sceneOf b .boundaryParticles))
 
 -- of the index no more numbers than answers, beside the bases
 index-answers : (b : List ℕ) → 2 * fluidSize (sceneOf b) + boundarySize (sceneOf b) ≤ answersNeeded (sceneOf b)

@@ -30,7 +30,7 @@ abbrev pub enoughAnswers : ℕ
 enoughAnswers = 4096
 
 abbrev pub enoughWork : ℕ
-enoughWork = 2 * enoughAnswers
+enoughWork = 3 * enoughAnswers
 
 -- and its index in one of this length: a particle takes no more numbers of it than it has answers
 abbrev pub enoughIndex : ℕ

@@ -12,6 +12,8 @@ use Rattle.scene_format.specs.declared.Criterion.{Criterion}
 use Rattle.scene_format.specs.declared.Criterion.the-variants.{Salva, Ihmsen}
 use Rattle.scene_format.specs.declared.Kind.{Kind}
 use Rattle.scene_format.specs.declared.Kind.the-variants.{Fluid, Boundary}
+use Rattle.scene_format.specs.declared.Summation.{Summation}
+use Rattle.scene_format.specs.declared.Summation.the-variants.{InOrder, ByHalves}
 
 -- the number of axes
 abbrev pub axes : ℕ
@@ -69,12 +71,22 @@ modelNumber Boundary b = upperHalf (byteAt b 1)
 abbrev pub ruleOf : List ℕ → ℕ
 ruleOf b = lowerHalf (byteAt b 1)
 
-abbrev pub mostRule : ℕ → ℕ
-mostRule version = cond (eqb version firstVersion) 0 1
+abbrev pub lastRule : ℕ
+lastRule = 3
 
--- what a rule's number stands for
+abbrev pub mostRule : ℕ → ℕ
+mostRule version = cond (eqb version firstVersion) 0 lastRule
+
+-- what a rule's number stands for, two choices: a criterion, by its lowest bit, and how the terms of a fluid are summed,
+-- by the bit above that
+abbrev pub criteria : ℕ
+criteria = 2
+
 unfoldable pub criterionOf : ℕ → Criterion
-criterionOf rule = cond (eqb rule 0) Salva Ihmsen
+criterionOf rule = cond (eqb (rule % criteria) 0) Salva Ihmsen
+
+unfoldable pub summationOf : ℕ → Summation
+summationOf rule = cond (eqb (rule / criteria) 0) InOrder ByHalves
 
 abbrev pub minPressureIterOffset : ℕ
 minPressureIterOffset = 2

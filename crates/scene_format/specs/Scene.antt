@@ -10,6 +10,7 @@ use Rattle.math.specs.Vector.{Vector}
 use Rattle.scene_format.specs.declared.Criterion.{Criterion}
 use Rattle.scene_format.specs.declared.Kind.{Kind}
 use Rattle.scene_format.specs.declared.Kind.the-variants.{Fluid, Boundary}
+use Rattle.scene_format.specs.declared.Summation.{Summation}
 
 -- `target` is the named particle's number in the flat list of its kind
 pub record Contact : Type 0 where
@@ -36,11 +37,12 @@ pub record BoundaryParticle : Type 0 where
   pub force : Vector
   pub weights : List Float
 
--- the number of axes, the criterion by which the iterations stop, the least and the most iterations, the step length,
--- the remaining time, the error limit, gravity
+-- the number of axes, the criterion by which the iterations stop, how the terms of its error are summed, the least and
+-- the most iterations, the step length, the remaining time, the error limit, gravity
 pub record Header : Type 0 where
   pub axes : ℕ
   pub criterion : Criterion
+  pub summation : Summation
   pub minPressureIter : ℕ
   pub maxPressureIter : ℕ
   pub totalStepSize : Float

@@ -7,8 +7,8 @@ use lib.ListN.{getD}
 use Rattle.lists.specs.Lists.{table}
 use Rattle.math.specs.Vector.{Vector}
 use Rattle.scene_format.specs.Bytes.{byteAt, doubleAt, vectorAt}
-use Rattle.scene_format.specs.Format.{axes, ruleOf, criterionOf, minPressureIterOffset, maxPressureIterOffset}
-use Rattle.scene_format.specs.Format.{totalStepSizeOffset}
+use Rattle.scene_format.specs.Format.{axes, ruleOf, criterionOf, summationOf, minPressureIterOffset}
+use Rattle.scene_format.specs.Format.{maxPressureIterOffset, totalStepSizeOffset}
 use Rattle.scene_format.specs.Format.{remainingTimeOffset, maxDensityErrorOffset, gravityOffset, density0Offset}
 use Rattle.scene_format.specs.Format.{keepsAt, modelAt, numberAt, weightOffset, gradientOffset, contactWidth}
 use Rattle.scene_format.specs.Format.{boundaryContactWidth, velocityOffset, accelerationOffset, volumeOffset}
@@ -79,6 +79,7 @@ headerOf b =
     record {
       axes = axes;
       criterion = criterionOf (ruleOf b);
+      summation = summationOf (ruleOf b);
       minPressureIter = byteAt b minPressureIterOffset;
       maxPressureIter = byteAt b maxPressureIterOffset;
       totalStepSize = doubleAt b totalStepSizeOffset;

@@ -28,6 +28,11 @@ pub const FIRST_VERSION: usize = 1;
 
 pub const LAST_VERSION: usize = 2;
 
+// The greatest rule; a rule is a criterion and a summation, the criterion in its lowest bit.
+pub const LAST_RULE: usize = 3;
+
+pub const CRITERIA: usize = 2;
+
 pub const MIN_PRESSURE_ITER: usize = 2;
 
 pub const MAX_PRESSURE_ITER: usize = 3;

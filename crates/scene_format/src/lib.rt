@@ -77,10 +77,16 @@ pub enum Kind {
     Boundary,
 }
 
-// By which error the iterations stop (METHOD 6.3 and 6.4): the Rust's, or that of Ihmsen et al. 2014.
+// By which error the iterations stop (METHOD 6.4): the Rust's, or that of Ihmsen et al. 2014.
 pub enum Criterion {
     Salva,
     Ihmsen,
+}
+
+// How the error terms of a fluid are summed (METHOD 6.4): one after the other, as the Rust does, or by halves.
+pub enum Summation {
+    InOrder,
+    ByHalves,
 }
 
 // The model that a contact names (the Rust's `j_model`).

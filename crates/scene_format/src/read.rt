@@ -4,15 +4,18 @@ use crate::Criterion;
 use crate::Kind;
 use crate::ModelNumber;
 use crate::ParticleNumber;
+use crate::Summation;
 use crate::format::BOUNDARY_CONTACT_WIDTH;
 use crate::format::BOUNDARY_CONTACTS;
 use crate::format::BOUNDARY_COUNT_MODULUS;
 use crate::format::CONTACT_WIDTH;
 use crate::format::COUNT_WIDTH;
+use crate::format::CRITERIA;
 use crate::format::FIRST_VERSION;
 use crate::format::FLUID_CONTACTS;
 use crate::format::FLUID_HEAD_WIDTH;
 use crate::format::HALF_MODULUS;
+use crate::format::LAST_RULE;
 use crate::format::NAMEABLE_PARTICLES;
 use crate::format::RECORD_WIDTH;
 use crate::format::VECTOR_WIDTH;
@@ -29,7 +32,7 @@ ghost use Rattle.scene_format.specs.Bytes.{nonFiniteExponent, plainlyFin
 ghost use Rattle.scene_format.specs.Bytes.{vectorAt, FiniteAt, AllFinite};
 ghost use Rattle.scene_format.specs.Format.{axes, countWidth, keepsAt, nameWidth, particlesAt, firstRecord};
 ghost use Rattle.scene_format.specs.Format.{nextRecord, countModulus, minPressureIterOffset, modelNumber};
-ghost use Rattle.scene_format.specs.Format.{versionOf, ruleOf, mostRule, criterionOf};
+ghost use Rattle.scene_format.specs.Format.{versionOf, ruleOf, mostRule, criterionOf, summationOf};
 ghost use Rattle.scene_format.specs.Within.{NameIs, RecordWithin};
 
 // A byte as a wider number.
@@ -158,15 +161,35 @@ pub fn model_number(s: &[u8], kind: Kind) -> usize
     }
 }
 
+// Of the header: the number of its rule.
+fn rule(s: &[u8]) -> usize
+    requires { ⌜ minPressureIterOffset ≤ length (now s) ⌝ }
+    ensures { λ r. ⌜ r ≡ ruleOf (now (s .entry)) ⌝ }
+{
+    byte(s, 1) % HALF_MODULUS
+}
+
 // Of the header: the criterion that its rule stands for.
 pub fn criterion(s: &[u8]) -> Criterion
     requires { ⌜ minPressureIterOffset ≤ length (now s) ⌝ }
     ensures { λ r. ⌜ r ≡ criterionOf (ruleOf (now (s .entry))) ⌝ }
 {
-    if byte(s, 1) % HALF_MODULUS == 0 {
+    if rule(s) % CRITERIA == 0 {
         Criterion::Salva
     } else {
         Criterion::Ihmsen
+    }
+}
+
+// Of the header: the summation that its rule stands for.
+pub fn summation(s: &[u8]) -> Summation
+    requires { ⌜ minPressureIterOffset ≤ length (now s) ⌝ }
+    ensures { λ r. ⌜ r ≡ summationOf (ruleOf (now (s .entry))) ⌝ }
+{
+    if rule(s) / CRITERIA == 0 {
+        Summation::InOrder
+    } else {
+        Summation::ByHalves
     }
 }
 
@@ -178,7 +201,7 @@ pub fn most_rule(s: &[u8]) -> usize
     if byte(s, 0) / HALF_MODULUS == FIRST_VERSION {
         0
     } else {
-        1
+        LAST_RULE
     }
 }
 

@@ -8,8 +8,8 @@ use lib.ListN.{length, getD, length-map, List·getD-eq-default}
 use Rattle.lists.specs.Lists.{sum, trail}
 use Rattle.lists.proofs.Numbering.{length-trail, trail-at, getD-map, sum-few, Numbered, numbered, length-flatten}
 use Rattle.lists.proofs.Numbering.{flatten-at}
-use Rattle.scene_format.specs.Format.{mostModels, mostParticles, mostOfAKind, ruleOf, criterionOf, modelNumber}
-use Rattle.scene_format.specs.Format.{particlesAt, keepsAt}
+use Rattle.scene_format.specs.Format.{mostModels, mostParticles, mostOfAKind, ruleOf, criterionOf, summationOf}
+use Rattle.scene_format.specs.Format.{modelNumber, particlesAt, keepsAt}
 use Rattle.scene_format.specs.Format.{firstRecord, nextRecord, modelEnd, firstHead, headAt, headsOf, countsOf, keepsOf}
 use Rattle.scene_format.specs.Format.{startsOf, Location, recordAt, modelLocations, locationsOf, nowhere, locationOf}
 use Rattle.scene_format.specs.Scene as Scene
@@ -111,6 +111,10 @@ module _ (b : List ℕ) where
   pub scene-criterion : sceneOf b .header .criterion ≡ criterionOf (ruleOf b)
   unfolding sceneOf headerOf
   scene-criterion = refl
+
+  pub scene-summation : sceneOf b .header .summation ≡ summationOf (ruleOf b)
+  unfolding sceneOf headerOf
+  scene-summation = refl
 
   pub scene-counts : sceneOf b .fluidCounts ≡ countsOf Fluid b
   unfolding sceneOf

@@ -14,17 +14,19 @@ use Rattle.lists.proofs.Numbering.{length-trail, trail-table, sum-next, sum-app
 use Rattle.scene_format.specs.Bytes.{Bytes}
 use Rattle.scene_format.specs.Format.{axes, mostParticles, mostOfAKind, modelNumber, particlesAt, keepsAt, firstRecord}
 use Rattle.scene_format.specs.Format.{nextRecord, modelEnd, firstHead, headsOf, countsOf, Location, modelLocations}
-use Rattle.scene_format.specs.Format.{locationsOf}
+use Rattle.scene_format.specs.Format.{locationsOf, ruleOf, summationOf}
 use Rattle.scene_format.specs.Scene.{fluidSize, boundarySize}
 use Rattle.scene_format.specs.SceneOf.{boundaryParticleAt, headerOf, sceneOf}
 use Rattle.scene_format.specs.declared.Kind.{Kind}
 use Rattle.scene_format.specs.declared.Kind.the-variants.{Fluid, Boundary}
 use Rattle.scene_format.specs.declared.Refusal.{Refusal}
+use Rattle.scene_format.specs.declared.Summation.{Summation}
+use Rattle.scene_format.specs.declared.Summation.the-variants.{InOrder, ByHalves}
 use Rattle.scene_format.specs.declared.Walk.the-variants as walk
 use Rattle.scene_check.specs.Check.{Passed}
 use Rattle.scene_lengths.specs.Lengths.{fluidAnswerWidth, keptAnswerWidth, answerWidth, boundaryAnswerWidth}
-use Rattle.scene_lengths.specs.Lengths.{workWidth, answersNeeded, workNeeded, lengthsNeeded, needsAfter, needsOf}
-use Rattle.scene_lengths.specs.Lengths.{widthIn, answersBefore, answersIn}
+use Rattle.scene_lengths.specs.Lengths.{workWidth, addedWidth, answersNeeded, workNeeded, lengthsNeeded}
+use Rattle.scene_lengths.specs.Lengths.{needsAfter, needsOf, widthIn, answersBefore, answersIn}
 use Rattle.scene_check.specs.Walk.{checked}
 use Rattle.scene_layout.specs.declared.Layout.{Layout}
 use Rattle.scene_lengths.specs.declared.Lengths.{Lengths}
@@ -101,6 +103,19 @@ kept-or-not zero h = refl
 kept-or-not (suc zero) h = refl
 kept-or-not (suc (suc k)) h = absurd (omega arith)
 
+-- a fluid particle needs at most one double more than the passes keep of it
+by-width : (w : Summation) (n m : ℕ) → (workWidth axes * n + m ≤ (workWidth axes + addedWidth w) * n + m)
+    × ((workWidth axes + addedWidth w) * n + m ≤ (workWidth axes + 1) * n + m)
+by-width InOrder n m = (omega arith, omega arith)
+by-width ByHalves n m = (omega arith, omega arith)
+
+-- so the rows of all take few
+pub width-few : (w n : ℕ) → w ≤ 1 → n ≤ mostOfAKind
+    → (workWidth axes + w) * n ≤ (workWidth axes + 1) * mostOfAKind
+width-few zero n h l = omega arith
+width-few (suc zero) n h l = omega arith
+width-few (suc (suc w)) n h l = absurd (omega arith)
+
 module _ (b : List ℕ) where
   -- by whether its boundary keeps forces
   pub boundary-width : Bytes b → (p : Location)
@@ -131,9 +146,17 @@ module _ (b : List ℕ) where
   unfolding answersNeeded headerOf sceneOf
   answers-needed y = rw (boundary-answers y)
 
-  pub work-needed : workNeeded (sceneOf b) ≡ workWidth axes * fluidSize (sceneOf b) + boundarySize (sceneOf b)
+  work-needed : workNeeded (sceneOf b)
+      ≡ (workWidth axes + addedWidth (summationOf (ruleOf b))) * fluidSize (sceneOf b) + boundarySize (sceneOf b)
   unfolding workNeeded headerOf sceneOf
   work-needed = refl
+
+  -- whatever the summation is
+  pub work-least : workWidth axes * fluidSize (sceneOf b) + boundarySize (sceneOf b) ≤ workNeeded (sceneOf b)
+  work-least = rw work-needed (by-width (summationOf (ruleOf b)) (fluidSize (sceneOf b)) (boundarySize (sceneOf b)) .0)
+
+  pub work-most : workNeeded (sceneOf b) ≤ (workWidth axes + 1) * fluidSize (sceneOf b) + boundarySize (sceneOf b)
+  work-most = rw work-needed (by-width (summationOf (ruleOf b)) (fluidSize (sceneOf b)) (boundarySize (sceneOf b)) .1)
 
 -- ---- a scene that passed the check, with its layout
 
@@ -148,14 +171,16 @@ module _ {b : List ℕ} {layout : Layout} (passed : Passed b layout) where
   pub boundary-few : (m : ℕ) → m < modelNumber Boundary b → getD (countsOf Boundary b) m 0 ≤ mostParticles
   boundary-few m h = rw (counts-at Boundary b m h) (accepted b (passed .walk) .fields .models Boundary m h .few)
 
-  pub lengths-are : {behind : ℕ} → behind ≡ answersIn Boundary b
+  pub lengths-are : {behind width : ℕ} → behind ≡ answersIn Boundary b
+      → width ≡ addedWidth (summationOf (ruleOf b))
       → _≡_ {A = Lengths}
       (record {
         answers = fluidAnswerWidth axes * layout .fluids .total + behind;
-        work = workWidth axes * layout .fluids .total + layout .boundaries .total;
+        work = (workWidth axes + width) * layout .fluids .total + layout .boundaries .total;
       })
       (lengthsNeeded (sceneOf b))
-  lengths-are e = rw (e, fluid-total passed, boundary-total passed, ← work-needed b, ← answers-needed b (passed .bytes))
+  lengths-are e q =
+      rw (e, q, fluid-total passed, boundary-total passed, ← work-needed b, ← answers-needed b (passed .bytes))
 
   pub accepted-needs : {l : Lengths} → l ≡ lengthsNeeded (sceneOf b) → Lists l ≡ needsOf b
   unfolding needsOf needsAfter

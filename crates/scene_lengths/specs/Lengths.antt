@@ -10,6 +10,8 @@ use Rattle.scene_format.specs.Scene.{Scene, BoundaryParticle, fluidSize, bounda
 use Rattle.scene_format.specs.SceneOf.{sceneOf}
 use Rattle.scene_format.specs.declared.Kind.{Kind}
 use Rattle.scene_format.specs.declared.Kind.the-variants.{Fluid, Boundary}
+use Rattle.scene_format.specs.declared.Summation.{Summation}
+use Rattle.scene_format.specs.declared.Summation.the-variants.{InOrder, ByHalves}
 use Rattle.scene_format.specs.declared.Walk.{Walk}
 use Rattle.scene_format.specs.declared.Walk.the-variants as walk
 use Rattle.scene_check.specs.Walk.{checked}
@@ -40,6 +42,11 @@ boundaryAnswerWidth d q = answerWidth d Boundary (choose (q .keepsForces) 1 0)
 abbrev pub workWidth : ℕ → ℕ
 workWidth d = 5 + 3 * d
 
+-- what a fluid particle needs there besides, where its error term is summed by halves
+abbrev pub addedWidth : Summation → ℕ
+addedWidth InOrder = 0
+addedWidth ByHalves = 1
+
 -- ---- a scene
 
 unfoldable pub answersNeeded : Scene → ℕ
@@ -48,7 +55,7 @@ answersNeeded s =
     fluidAnswerWidth d * fluidSize s + sum (map (boundaryAnswerWidth d) (s .boundaryParticles))
 
 unfoldable pub workNeeded : Scene → ℕ
-workNeeded s = workWidth (s .header .axes) * fluidSize s + boundarySize s
+workNeeded s = (workWidth (s .header .axes) + addedWidth (s .header .summation)) * fluidSize s + boundarySize s
 
 abbrev pub lengthsNeeded : Scene → Lengths
 lengthsNeeded s = record { answers = answersNeeded s; work = workNeeded s }

@@ -4,7 +4,9 @@ use scene_check::Verdict;
 use scene_check::check;
 use scene_format::Kind;
 use scene_format::Refusal;
+use scene_format::Summation;
 use scene_format::format::AXES;
+use scene_format::read;
 use scene_format::read::keeps;
 use scene_format::read::particles;
 use scene_layout::Layout;
@@ -13,7 +15,8 @@ ghost use Prim.Native.Nat.{_*_, _≤_};
 ghost use Rattle.scene_format.specs.Format.{axes, mostOfAKind};
 ghost use Rattle.scene_format.specs.SceneOf.{sceneOf};
 ghost use Rattle.scene_check.specs.Check.{Passed};
-ghost use Rattle.scene_lengths.specs.Lengths.{answerWidth, keptAnswerWidth, lengthsNeeded, needsOf, answersIn};
+ghost use Rattle.scene_lengths.specs.Lengths.{answerWidth, keptAnswerWidth, addedWidth, lengthsNeeded};
+ghost use Rattle.scene_lengths.specs.Lengths.{needsOf, answersIn};
 
 // In doubles of the answer list: of a fluid particle the position, velocity and pressure; of a boundary particle whose
 // force is kept the volume and the force.
@@ -25,7 +28,7 @@ pub const ANSWER_PRESSURE: usize = 2 * AXES;
 
 pub const KEPT_ANSWER_WIDTH: usize = 1 + AXES;
 
-// In doubles of the work list, for each fluid particle.
+// In doubles of the work list, for each fluid particle: what the passes keep of it.
 pub const WORK_WIDTH: usize = 5 + 3 * AXES;
 
 // The length of each list.
@@ -71,6 +74,16 @@ fn boundary_answers(scene: &[u8], layout: Layout) -> usize
     needed
 }
 
+// What a fluid particle needs in the work list besides what the passes keep.
+fn added_width(summation: Summation) -> usize
+    ensures { λ r. ⌜ (r ≡ addedWidth summation) × (r ≤ 1) ⌝ }
+{
+    match summation {
+        Summation::InOrder => 0,
+        Summation::ByHalves => 1,
+    }
+}
+
 // The lengths that both lists must have at least, for a scene with its layout.
 pub fn lengths_of(scene: &[u8], layout: Layout) -> Lengths
     requires { ⌜ Passed (now scene) layout ⌝ }
@@ -79,9 +92,10 @@ pub fn lengths_of(scene: &[u8], layout: Layout) -> Lengths
     let fluids = layout.fluids.total;
     let boundaries = layout.boundaries.total;
     let behind = boundary_answers(scene, layout);
+    let width = WORK_WIDTH + added_width(read::summation(scene));
     Lengths {
         answers: ANSWER_WIDTH * fluids + behind,
-        work: WORK_WIDTH * fluids + boundaries,
+        work: width * fluids + boundaries,
     }
 }
 

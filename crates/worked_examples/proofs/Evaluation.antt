@@ -6,6 +6,7 @@ use lib.Ieee
 use Rattle.lists.specs.Lists
 use Rattle.math.specs.Real
 use Rattle.math.specs.Vector
+use Rattle.sums.specs.Halves
 use Rattle.timestep_manager.specs.Clock
 use Rattle.scene_format.specs.Bytes
 use Rattle.scene_format.specs.Format
@@ -51,9 +52,10 @@ unfolding zipWith
     Lists.fold Lists.sum Lists.table Lists.startsFrom
     Real.magnitude
     Vector._⊞_ Vector._⊟_ Vector._⊡_ Vector.added Vector._·_
+    Halves.halvedAtMost Halves.byHalves
     Clock.inverse Clock.advanced
     Bytes.doubleAt Bytes.vectorAt
-    Format.criterionOf Format.modelLocations Format.locationsOf
+    Format.criterionOf Format.summationOf Format.modelLocations Format.locationsOf
     Scene.fluidSize Scene.boundarySize Scene.particle Scene.boundary
     SceneOf.targetAt SceneOf.contactAt SceneOf.contactList SceneOf.fluidParticleAt SceneOf.forceAt
     SceneOf.boundaryParticleAt SceneOf.headerOf SceneOf.sceneOf
@@ -65,8 +67,8 @@ unfolding zipWith
     Coefficients.predictedDensity Coefficients.diiFactor Coefficients.dii Coefficients.djiFactor Coefficients.aii
     Coefficients.coefficientsOf Coefficients.coefficients
     Iteration.dijSum Iteration.dijPjl Iteration.dijPjls Iteration.pressureSum Iteration.relaxed Iteration.errorTerm
-    Iteration.clamped Iteration.nextPressure Iteration.nextPressures Iteration.average Iteration.averages
-    Iteration.firstError Iteration.withAverage Iteration.errorOf Iteration.iteration
+    Iteration.clamped Iteration.nextPressure Iteration.nextPressures Iteration.termSum Iteration.average
+    Iteration.averages Iteration.firstError Iteration.withAverage Iteration.errorOf Iteration.iteration
     Step.firstPressures Step.iterateFrom Step.solution Step.pressureShare Step.boundaryAcceleration
     Step.finalVelocityChange Step.newVelocity Step.newPosition Step.fluidAnswer Step.forceFrom Step.boundaryForce
     Step.boundaryAnswer Step.answersFrom Step.answersOf Step.reportOf Step.firstZero Step.unlessZero Step.sceneAnswer

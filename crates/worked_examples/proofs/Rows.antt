@@ -4,6 +4,8 @@ use mathlib.Core.Path.{refl, ap}
 use mathlib.Core.List.{List, [], _∷_, _++_, map}
 use Rattle.math.specs.Rows as math
 use Rattle.math.proofs.Rows.{rows-hold as doubles-hold}
+use Rattle.sums.specs.Rows as sums
+use Rattle.sums.proofs.Rows.{rows-hold as sums-hold}
 use Rattle.cubic_spline.specs.Rows as kernel
 use Rattle.cubic_spline.proofs.Rows.{rows-hold as kernel-holds}
 use Rattle.weight_table.specs.Rows as board
@@ -61,7 +63,8 @@ pub rows-hold : All Holds rows
 unfolding rows
 rows-hold =
     both (each math.rows doubles-hold)
+    (both (each sums.rows sums-hold)
     (both (each kernel.rows kernel-holds)
     (both (each board.rows board-holds)
     (both refusals-hold
-    (both looks-hold (both starred-hold (both refused-steps-hold (both passed-over-hold further-hold)))))))
+    (both looks-hold (both starred-hold (both refused-steps-hold (both passed-over-hold further-hold))))))))

@@ -51,9 +51,9 @@ refusalRows =
     ∷ refuses (set empty 1 0x8F) (UnknownForm 1)
     ∷ refuses (set empty 1 0x01) (UnknownForm 1)
     ∷ accepts (set empty 0 0x20) 52
-    ∷ accepts (set (set empty 0 0x20) 1 0x01) 52
-    ∷ refuses (set (set empty 0 0x20) 1 0x02) (UnknownForm 1)
-    ∷ refuses (set (set empty 0 0x20) 1 0x92) (TooManyModels 1)
+    ∷ accepts (set (set empty 0 0x20) 1 0x03) 52
+    ∷ refuses (set (set empty 0 0x20) 1 0x04) (UnknownForm 1)
+    ∷ refuses (set (set empty 0 0x20) 1 0x94) (TooManyModels 1)
     -- a field is there before its rule counts
     ∷ refuses [] (MissingField 0)
     ∷ refuses (0x00 ∷ []) (UnknownForm 0)

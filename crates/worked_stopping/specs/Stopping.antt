@@ -22,17 +22,21 @@ ruled rule header fluids = packedAs 2 rule header fluids []
 unfoldable pub sceneB2 : ℕ → ℕ → List ℕ
 sceneB2 rule most = ruled rule (headerB 1 most) (pair 0 bits·1 bits·1 bits·1 bits·-1 0 ∷ [])
 
--- scene B's header with a limit of -0.25, and any number of iterations up to the most
-unfoldable pub belowZero : ℕ → Header
-belowZero most =
+-- scene B's header with another limit, and any number of iterations up to the most
+unfoldable pub limited : ℕ → ℕ → Header
+limited limit most =
     record {
       minPressureIter = 0;
       maxPressureIter = most;
       totalStepSize = bits·1;
       remainingTime = 0;
-      maxDensityError = bits·-¼;
+      maxDensityError = limit;
       gravity = zero3;
     }
+
+-- a limit of -0.25
+unfoldable pub belowZero : ℕ → Header
+belowZero most = limited bits·-¼ most
 
 -- fluid number m of one particle of mass 1 and density 1, which touches itself alone: where the rest density is above
 -- 1, its warm pressure holds it apart, and both criteria's averages are below 0

@@ -17,7 +17,9 @@ use Rattle.worked_examples.proofs.Evaluation.{evaluation}
 use Rattle.worked_examples.proofs.Rows as worked-proofs
 use Rattle.worked_examples.proofs.Rows.{both}
 use Rattle.worked_stopping.specs.Stopping
+use Rattle.worked_stopping.specs.Summation
 use Rattle.worked_stopping.proofs.Stopping.{stopping-hold}
+use Rattle.worked_stopping.proofs.Summation.{summation-holds}
 use Rattle.worked_texts.specs.Rows.{example, Holds, ascii, texts, rows}
 
 writing : ℕ
@@ -32,8 +34,8 @@ writing = 0
 
 texts-hold : All Holds texts
 unfolding writing ascii PassedOver.light PassedOver.bothInfinities PassedOver.overflowing Stopping.ruled
-    Stopping.nanBehind texts
-texts-hold = refl and refl and refl and refl and refl and refl and refl and refl and refl and none
+    Stopping.nanBehind Stopping.limited Stopping.thin Summation.minusZero Summation.once texts
+texts-hold = refl and refl and refl and refl and refl and refl and refl and refl and refl and refl and none
 
 examples-hold : {rs : List worked.Row} → All worked.Holds rs → All Holds (map example rs)
 examples-hold none = none
@@ -42,4 +44,6 @@ examples-hold (h and p) = h and examples-hold p
 -- every worked example holds
 pub rows-hold : All Holds rows
 unfolding rows
-rows-hold = both (examples-hold worked-proofs.rows-hold) (both (examples-hold stopping-hold) texts-hold)
+rows-hold =
+    both (examples-hold worked-proofs.rows-hold)
+    (both (examples-hold stopping-hold) (both (examples-hold summation-holds) texts-hold))

@@ -1,5 +1,6 @@
--- Every worked example, as one list: those of doubles, kernel, its table, check and step (worked_examples), those of
--- versions and criteria (worked_stopping), and packed scenes with the text that the program writes for them.
+-- Every worked example, as one list: those of doubles, sums, kernel, its table, check and step (worked_examples), those
+-- of versions, criteria and summations (worked_stopping), and packed scenes with the text that the program writes for
+-- them.
 -- Definitions only.
 use Prim.Native.Nat.{ℕ}
 use Prim.Native.Char.{code}
@@ -11,7 +12,9 @@ use Rattle.worked_examples.specs.Row as worked
 use Rattle.worked_examples.specs.Rows as worked-rows
 use Rattle.worked_examples.specs.Scenes.{emptyScene, sceneA, contactA, boundaryScene}
 use Rattle.worked_examples.specs.PassedOver.{bothInfinities}
+use Rattle.worked_examples.specs.Scenes.{bits·-0}
 use Rattle.worked_stopping.specs.Stopping.{stopping, nanBehind}
+use Rattle.worked_stopping.specs.Summation.{summation, once, minusZero}
 use Rattle.iisph_text.specs.Text.{textOf}
 
 pub data Row : Type 0 where
@@ -70,6 +73,13 @@ texts =
     ∷ "fluid 1 0 FFF0000000000000 7FF8000000000000 7FF8000000000000"
     ∷ " FFF0000000000000 7FF8000000000000 7FF8000000000000 7FF0000000000000\n"
     ∷ [])
+    -- a scene summed by halves whose error is -0
+    ∷ writes (once 3 bits·-0 (minusZero 0 ∷ []))
+    ("step settled 1 8000000000000000 0\n"
+    ∷ "clock 3FF0000000000000 3FF0000000000000 BFF0000000000000\n"
+    ∷ "fluid 0 0 4020000000000000 0000000000000000 0000000000000000"
+    ∷ " 4020000000000000 0000000000000000 0000000000000000 4000000000000000\n"
+    ∷ [])
     -- no bytes; scene A without contacts; as many bytes as are read, and one more
     ∷ writes [] ("refused 1 0\n" ∷ [])
     ∷ writes (sceneA []) ("refused 9 62\n" ∷ [])
@@ -79,4 +89,4 @@ texts =
 
 -- every worked example
 unfoldable pub rows : List Row
-rows = map example worked-rows.rows ++ (map example stopping ++ texts)
+rows = map example worked-rows.rows ++ (map example stopping ++ (map example summation ++ texts))

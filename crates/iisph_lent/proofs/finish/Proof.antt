@@ -5,13 +5,12 @@ use lib.Ieee.{nan}
 use borrow.Author.Needs.{needs}
 use Rattle.iisph_passes.specs.Traverse.{Ready}
 use Rattle.lists.proofs.Stores.{length-stored}
-use Rattle.scene_lengths.proofs.Needed.{work-needed}
 use Rattle.scene_lengths.specs.Lengths.{workNeeded}
 use Rattle.scene_format.specs.SceneOf.{sceneOf}
 use mathlib.Core.Path.{_≡_, ap}
 use denote.Ref.{now}
 use Rattle.iisph_lent.proofs.Finished.{first-pressures, first-ready, solved-ready, shared, finished}
-use Rattle.iisph_lent.proofs.Finished.{answers-room, report-made}
+use Rattle.iisph_lent.proofs.Finished.{length-shared, answers-room, report-made}
 use Rattle.iisph_preparation.proofs.Prepared.{driven}
 use Rattle.iisph_lent.proofs.finish.Statement.{statement}
 use Rattle.iisph_lent.proofs.finish.Tie as tie
@@ -59,7 +58,7 @@ update-velocities-and-positions-requires c κs =
         shared (p .1 .0 .0) (p .0 .0 .size) _ (p .1 .1) (k .pressure-solve .ensures)
             (t .traverse .ensures),
       ),
-      answers-room _ (p .0 .0 .indexed .bytes) (p .0 .0 .size) (p .1 .0 .1),
+      answers-room _ (p .0 .0 .indexed .bytes) (p .0 .0 .size) (p .1 .0 .1 .enoughAnswers),
     )
 
 boundary-answers-requires : tie.Need-boundary-answers-requires
@@ -70,7 +69,7 @@ boundary-answers-requires c κs =
     let p = Begin k .pre in
     let q = shared (p .1 .0 .0) (p .0 .0 .size) _ (p .1 .1) (k .pressure-solve .ensures) (t .traverse .ensures) in (
       (p .0 .0, q .iteration),
-      (p .1 .0 .0, rw (m .update-velocities-and-positions .ensures, length-stored nan) (p .1 .0 .1)),
+      (p .1 .0 .0, rw (m .update-velocities-and-positions .ensures, length-stored nan) (p .1 .0 .1 .enoughAnswers)),
     )
 
 -- the lengths that the clearing goes by
@@ -91,8 +90,12 @@ clear-requires c κs =
     let t = Shared (Moved (Lengths l)) in
     let k = Solved t in
     let p = Begin k .pre in
-    let q = shared (p .1 .0 .0) (p .0 .0 .size) _ (p .1 .1) (k .pressure-solve .ensures) (t .traverse .ensures) in
-    omega (arith, q .iteration .room, needed l, p .0 .0 .size, work-needed (now (Begin k .args .scene)))
+    omega (
+      arith,
+      needed l,
+      p .1 .0 .1 .enoughWork,
+      length-shared (p .1 .0 .0) (p .0 .0 .size) _ (p .1 .1) (k .pressure-solve .ensures) (t .traverse .ensures),
+    )
 
 returns : tie.Need-returns
 returns c =
@@ -102,7 +105,8 @@ returns c =
     let t = Shared m in
     let k = Solved t in
     let p = Begin k .pre in
-    finished (p .1 .0 .0) (p .0 .0 .size) _ (p .1 .1) (k .pressure-solve .ensures) (t .traverse .ensures) (p .1 .0 .1)
+    finished (p .1 .0 .0) (p .0 .0 .size) _ (p .1 .1) (k .pressure-solve .ensures) (t .traverse .ensures)
+    (p .1 .0 .1 .enoughAnswers)
     (m .update-velocities-and-positions .ensures)
     (Lengths f .boundary-answers .ensures)
     (needed f)

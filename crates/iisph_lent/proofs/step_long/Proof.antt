@@ -1,11 +1,12 @@
 -- `iisph_lent::step_long` meets its contract: the passes prepare the work list and may refuse, and what follows
 -- finishes the step. Assumes nothing.
 use mathlib.Core.Path.{sym, ap, _∙_}
+use native.Mathlib.Omega.{arith}
 use denote.Ref.{now}
 use borrow.Author.Needs.{needs}
 use Rattle.iisph_preparation.specs.Prepare.{workPrepared}
 use Rattle.iisph_preparation.specs.declared.Readiness.{Readiness}
-use Rattle.iisph_preparation.proofs.Prepared.{prepared-ready}
+use Rattle.iisph_preparation.proofs.Prepared.{prepared-ready, prepared-long}
 use Rattle.scene_check.proofs.Checks.{fluid-total}
 use Rattle.iisph_lent.proofs.Stepped.{zero-steps, done-steps}
 use Rattle.iisph_lent.proofs.step_long.Statement.{statement}
@@ -33,12 +34,20 @@ finish-requires c κs =
     let p = t .before .before .before .before .before .before in
     let s = Begin (Header p) in
     let passed = s .pre .0 .0 in
-    let size = fluid-total passed in (
+    let size = fluid-total passed in
+    let ready = t .enum-told .given .1 in
+    let list = p .prepare .ensures .list in
+    let long = prepared-long (now (s .args .scene)) (now (s .args .work)) ready list in (
       (record { indexed = p .prepare .ensures .indexed; size = size }, Header p .step-header .ensures),
       (
-        (passed, s .pre .0 .1 .enoughAnswers),
-        prepared-ready (now (s .args .scene)) size (now (s .args .work)) (s .pre .0 .1 .enoughWork)
-            (t .enum-told .given .1) (p .prepare .ensures .list),
+        (
+          passed,
+          record {
+            enoughAnswers = s .pre .0 .1 .enoughAnswers;
+            enoughWork = omega (arith, long, s .pre .0 .1 .enoughWork);
+          },
+        ),
+        prepared-ready (now (s .args .scene)) size (now (s .args .work)) (s .pre .0 .1 .enoughWork) ready list,
       ),
     )
 

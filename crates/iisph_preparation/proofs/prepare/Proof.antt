@@ -5,7 +5,7 @@ use denote.Ref.{now}
 use borrow.Author.Needs.{needs}
 use Rattle.iisph_rows.specs.Passes.{PassOver}
 use Rattle.scene_check.proofs.Checks.{fluid-total}
-use Rattle.scene_lengths.proofs.Needed.{work-needed}
+use Rattle.scene_lengths.proofs.Needed.{work-least}
 use Rattle.iisph_preparation.proofs.Prepared.{indexed-over, driven}
 use Rattle.iisph_preparation.proofs.prepare.Statement.{statement}
 use Rattle.iisph_preparation.proofs.prepare.Tie as tie
@@ -28,7 +28,7 @@ prepare-rows-requires c κs =
     let s = Begin f in
     let p = s .pre in (
       driven (over f) (p .0 .1),
-      (p .0 .0, omega (arith, p .1 .1, fluid-total (p .0 .0), work-needed (now (s .args .scene)))),
+      (p .0 .0, omega (arith, p .1 .1, fluid-total (p .0 .0), work-least (now (s .args .scene)))),
     )
 
 returns : tie.Need-returns

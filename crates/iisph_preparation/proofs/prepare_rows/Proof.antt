@@ -10,8 +10,9 @@ use Rattle.scene_format.specs.SceneOf.{sceneOf}
 use Rattle.iisph_preparation.specs.Prepare.{prepared, workPrepared}
 use Rattle.iisph_preparation.proofs.RowsFilled.{length-prepared}
 use Rattle.iisph_preparation.proofs.ZeroRefusals.{volumes-there, prepared-made, work-cleared, answer-made}
+use Rattle.iisph_rows.specs.Passes.{Room}
 use Rattle.iisph_rows.specs.Rows.{volumesAt}
-use Rattle.scene_lengths.proofs.Needed.{work-needed}
+use Rattle.scene_lengths.proofs.Needed.{work-least}
 use Rattle.scene_lengths.specs.Lengths.{workNeeded}
 use borrow.Author.Needs.{needs}
 use Rattle.iisph_preparation.proofs.prepare_rows.Statement.{statement}
@@ -33,7 +34,10 @@ size b = b .pre .0 .timed .over .size
 room : (b : tie.Start)
     → volumesAt (fluidSize (sceneOf (now (b .args .scene)))) + boundarySize (sceneOf (now (b .args .scene)))
     ≤ length (now (b .args .work))
-room b = omega (arith, size b, b .pre .1 .1)
+room b = omega (arith, b .pre .1 .1, work-least (now (b .args .scene)))
+
+room-for : (b : tie.Start) → Room (sceneOf (now (b .args .scene))) (b .args .n) (now (b .args .work))
+room-for b = omega (arith, size b, room b)
 
 length-of : (b : tie.Start) → length (prepared (sceneOf (now (b .args .scene))) (now (b .args .work)))
     ≡ length (now (b .args .work))
@@ -50,14 +54,14 @@ made c =
 
 compute-boundary-volumes-requires : tie.Need-compute-boundary-volumes-requires
 compute-boundary-volumes-requires c κs = let b =
-    Begin (c .before) in ((b .pre .0 .timed .over .indexed, b .pre .1 .0), (size b, b .pre .1 .1))
+    Begin (c .before) in ((b .pre .0 .timed .over .indexed, b .pre .1 .0), (size b, room-for b))
 
 fill-rows-requires : tie.Need-fill-rows-requires
 fill-rows-requires c κs =
     let v = c .before .before .before in
     let b = Begin (v .before .before) in (
       b .pre .0,
-      volumes-there (now (b .args .scene)) (size b) (now (b .args .work)) (b .pre .1 .1)
+      volumes-there (now (b .args .scene)) (size b) (now (b .args .work)) (room-for b)
           (v .compute-boundary-volumes .ensures),
     )
 
@@ -65,7 +69,7 @@ zero-refusal-requires : tie.Need-zero-refusal-requires
 zero-refusal-requires c κs =
     let f = c .before .before .before in
     let b = Start-of f in
-    (b .pre .0 .timed .over, omega (arith, b .pre .1 .1, ap length (made f), length-of b))
+    (b .pre .0 .timed .over, omega (arith, room-for b, ap length (made f), length-of b))
 
 -- the length that the clearing goes by
 needed : (c : tie.After-lengths-of)
@@ -81,7 +85,7 @@ clear-requires c κs =
     let l = c .before in
     let f = Filled (l .before .before .before) in
     let b = Start-of f in
-    omega (arith, b .pre .1 .1, size b, needed l, work-needed (now (b .args .scene)), ap length (made f), length-of b)
+    omega (arith, b .pre .1 .1, needed l, ap length (made f), length-of b)
 
 returns : tie.Need-returns
 unfolding workPrepared

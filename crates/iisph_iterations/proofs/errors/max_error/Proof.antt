@@ -10,21 +10,22 @@ use Rattle.scene_check.proofs.Accepted.{accepted-header}
 use Rattle.scene_check.proofs.Checks.{fluid-turn, fluid-number}
 use Rattle.scene_format.specs.Format.{countsOf}
 use Rattle.scene_format.specs.declared.Kind.the-variants.{Fluid}
-use Rattle.scene_layout.proofs.Locations.{length-counts, scene-counts, scene-criterion, fluid-size-sum}
+use Rattle.scene_layout.proofs.Locations.{length-counts, scene-counts, scene-criterion, scene-summation}
+use Rattle.scene_layout.proofs.Locations.{fluid-size-sum}
 use Rattle.scene_layout.proofs.Turns.{Turn}
 use Rattle.iisph_iterations.proofs.Averages.{Averaged, none-averaged, next-rows, next-averaged, all-averaged}
 use Rattle.iisph_iterations.proofs.errors.max_error.Statement.{statement}
 use Rattle.iisph_iterations.proofs.errors.max_error.Tie as tie
 
 abbrev Inv-loop : tie.InvT-loop
-Inv-loop scene work n criterion heads number error₀ from₀ m₀ error from m =
-    Averaged criterion (countsOf Fluid scene) n work m from error
+Inv-loop scene work n criterion summation heads number error₀ from₀ m₀ error from m =
+    Averaged criterion summation (countsOf Fluid scene) n work m from error
 
 abbrev μ-loop : tie.MeasureT-loop
-μ-loop scene work n criterion heads number error₀ from₀ m₀ error from m = number - m
+μ-loop scene work n criterion summation heads number error₀ from₀ m₀ error from m = number - m
 
 abbrev start : tie.In-loop Inv-loop μ-loop → tie.Start Inv-loop μ-loop
-start c = c .before .before .before .before .before .before .before
+start c = c .before .before .before .before .before .before .before .before
 
 turn : (c : tie.In-loop Inv-loop μ-loop)
     → let a = start c .args in Turn Fluid (now (a .scene)) (a .layout .fluids .heads) (c .before .loop .m)
@@ -43,15 +44,18 @@ room : (c : tie.After-particles Inv-loop μ-loop)
     → let i = c .before in i .before .loop .from + c .particles .result ≤ start i .args .n
 room c =
     let i = c .before in
-    omega (arith, next-rows _ _ _ _ (i .before .loop .inv) (below i), count c)
+    omega (arith, next-rows _ _ _ _ _ (i .before .loop .inv) (below i), count c)
 
 criterion-requires : tie.Need-criterion-requires Inv-loop μ-loop
 criterion-requires c κs = omega (arith, accepted-header _ (c .before .before .pre .0 .walk))
 
+summation-requires : tie.Need-summation-requires Inv-loop μ-loop
+summation-requires c κs = omega (arith, accepted-header _ (c .before .before .before .pre .0 .walk))
+
 loop-holds : tie.Need-loop-holds Inv-loop μ-loop
 loop-holds c =
-    let s = c .before .before .before .before .before in
-    none-averaged _ _ _ _ (sym (s .pre .1 .0 ∙ fluid-size-sum (now (s .args .scene))))
+    let s = c .before .before .before .before .before .before in
+    none-averaged _ _ _ _ _ (sym (s .pre .1 .0 ∙ fluid-size-sum (now (s .args .scene))))
 
 mul-particles : tie.Need-mul-particles Inv-loop μ-loop
 mul-particles c = omega (arith, turn c .small)
@@ -75,15 +79,16 @@ loop-again : tie.Need-loop-again Inv-loop μ-loop
 loop-again c =
     let p = c .before in
     let i = p .before in
-    next-averaged _ _ _ _ (i .before .loop .inv) (below i) (count p) (c .with-fluid .ensures)
+    next-averaged _ _ _ _ _ (i .before .loop .inv) (below i) (count p) (c .with-fluid .ensures)
 
 returns : tie.Need-returns Inv-loop μ-loop
 returns c =
-    let k = c .before .before .before .before in
+    let w = c .before .before .before .before in
+    let k = w .before in
     let s = k .before .before .before in
     let b = now (s .args .scene) in
-    rw (scene-counts b, scene-criterion b, ← k .criterion .ensures)
-    (all-averaged _ _ _ _ (c .before .loop .inv)
+    rw (scene-counts b, scene-criterion b, scene-summation b, ← k .criterion .ensures, ← w .summation .ensures)
+    (all-averaged _ _ _ _ _ (c .before .loop .inv)
     (omega (arith, length-counts Fluid b, fluid-number b (s .pre .0 .layoutIs), c .loop-test .left)))
 
 pub max-error-spec : {M : Type 1} → statement M
@@ -93,6 +98,7 @@ max-error-spec =
     Inv-loop
     μ-loop
     criterion-requires
+    summation-requires
     loop-holds
     mul-particles
     array-read-particles

@@ -1,42 +1,34 @@
--- `iisph_iterations::errors::term_sum` meets its contract: term by term. Assumes nothing.
-use Prim.Native.Nat.{_-_, _≤_}
+-- `iisph_iterations::errors::term_sum` meets its contract: by the summation; by halves the part of the list that is
+-- handed on is the fluid's terms. Assumes nothing.
+use mathlib.Core.Path.{refl, ap, _∙_}
 use native.Mathlib.Omega.{arith}
-use mathlib.Core.Path.{_≡_, refl}
-use Rattle.math.specs.Real.{+0, total}
-use Rattle.lists.specs.Lists.{fold, table}
-use Rattle.iisph_rows.proofs.Volumes.{sum-next, sum-all}
-use Rattle.iisph_iterations.specs.Errors.{termsFrom}
 use borrow.Author.Needs.{needs}
+use denote.Ref.{now}
+use Rattle.sums.specs.Halves.{sumByHalves}
+use Rattle.iisph_rules.specs.Iteration.{termSum}
+use Rattle.iisph_iterations.proofs.Averages.{terms-part}
 use Rattle.iisph_iterations.proofs.errors.term_sum.Statement.{statement}
 use Rattle.iisph_iterations.proofs.errors.term_sum.Tie as tie
 
-abbrev Inv-loop : tie.InvT-loop
-Inv-loop work n from count sum₀ k₀ sum k = (k ≤ count) × (sum ≡ total +0 (termsFrom work n from k))
+returns : tie.Need-returns
+unfolding termSum
+returns c = rw (c .before .enum-told .given .1) (c .running-sum .ensures)
 
-abbrev μ-loop : tie.MeasureT-loop
-μ-loop work n from count sum₀ k₀ sum k = count - k
-
-loop-holds : tie.Need-loop-holds Inv-loop μ-loop
-unfolding table fold
-loop-holds c = (omega arith, refl)
-
-loop-again : tie.Need-loop-again Inv-loop μ-loop
-loop-again c =
-    let l = c .before .before .loop in
-    (omega arith, sum-next _ (l .k) (l .inv .1) refl)
-
-returns : tie.Need-returns Inv-loop μ-loop
-returns c =
-    let l = c .before .loop in
-    sum-all _ (l .inv .1) (l .inv .0) (c .loop-test .left)
+returns-2 : tie.Need-returns-2
+unfolding termSum
+returns-2 c =
+    let t = c .before .before in
+    let a = t .before .before .before .args in
+    rw (t .enum-told2 .given .1)
+    (c .sum-by-halves .ensures
+    ∙ ap sumByHalves (terms-part (now (a .work)) (a .n) (a .from) (a .count) refl (omega arith)))
 
 pub term-sum-spec : {M : Type 1} → statement M
 term-sum-spec =
     tie.close
     (tie.spec
-    Inv-loop
-    μ-loop
-    loop-holds
+    (λ c. search needs)
+    (λ c κs. search needs)
     (λ c. search needs)
     (λ c. search needs)
     (λ c. search needs)
@@ -44,5 +36,7 @@ term-sum-spec =
     (λ c. search needs)
     (λ c. search needs)
     (λ c. search needs)
-    loop-again
-    returns)
+    (λ c. search needs)
+    (λ c κs. search needs)
+    returns
+    returns-2)

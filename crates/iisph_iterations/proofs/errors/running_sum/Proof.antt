@@ -1,0 +1,48 @@
+-- `iisph_iterations::errors::running_sum` meets its contract: term by term. Assumes nothing.
+use Prim.Native.Nat.{_-_, _≤_}
+use native.Mathlib.Omega.{arith}
+use mathlib.Core.Path.{_≡_, refl}
+use Rattle.math.specs.Real.{+0, total}
+use Rattle.lists.specs.Lists.{fold, table}
+use Rattle.iisph_rows.proofs.Volumes.{sum-next, sum-all}
+use Rattle.iisph_iterations.specs.Errors.{termsFrom}
+use borrow.Author.Needs.{needs}
+use Rattle.iisph_iterations.proofs.errors.running_sum.Statement.{statement}
+use Rattle.iisph_iterations.proofs.errors.running_sum.Tie as tie
+
+abbrev Inv-loop : tie.InvT-loop
+Inv-loop work n from count sum₀ k₀ sum k = (k ≤ count) × (sum ≡ total +0 (termsFrom work n from k))
+
+abbrev μ-loop : tie.MeasureT-loop
+μ-loop work n from count sum₀ k₀ sum k = count - k
+
+loop-holds : tie.Need-loop-holds Inv-loop μ-loop
+unfolding table fold
+loop-holds c = (omega arith, refl)
+
+loop-again : tie.Need-loop-again Inv-loop μ-loop
+loop-again c =
+    let l = c .before .before .loop in
+    (omega arith, sum-next _ (l .k) (l .inv .1) refl)
+
+returns : tie.Need-returns Inv-loop μ-loop
+returns c =
+    let l = c .before .loop in
+    sum-all _ (l .inv .1) (l .inv .0) (c .loop-test .left)
+
+pub running-sum-spec : {M : Type 1} → statement M
+running-sum-spec =
+    tie.close
+    (tie.spec
+    Inv-loop
+    μ-loop
+    loop-holds
+    (λ c. search needs)
+    (λ c. search needs)
+    (λ c. search needs)
+    (λ c. search needs)
+    (λ c. search needs)
+    (λ c. search needs)
+    (λ c. search needs)
+    loop-again
+    returns)
