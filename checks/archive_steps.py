@@ -93,8 +93,8 @@ def main(arguments):
     if arguments in (["--help"], ["-h"]):
         print(__doc__, end="")
         return 0
-    archive, *more = arguments or [""]
-    if archive in ("", "--any-length") or more not in ([], ["--any-length"]):
+    archive, *more = arguments or ["-"]
+    if archive.startswith("-") or more not in ([], ["--any-length"]):
         print(__doc__, file=sys.stderr)
         return 2
     try:
