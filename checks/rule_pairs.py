@@ -89,7 +89,8 @@ def counted(options, texts):
 
 def table(found):
     yield "class              rules   steps    same       1  2 to %d    more   farthest  not finite" % NEAR
-    for (name, rules), (count, farthest) in [*found.items(), *totals(found)]:
+    several = len({name for name, _ in found}) > 1
+    for (name, rules), (count, farthest) in [*found.items(), *(totals(found) if several else ())]:
         columns = [count[kind] for kind in ("same", "1", "near", "far")]
         yield "%-17s %d and %d %7d %7d %7d %7d %7d %10s %11d" % (
             name, *rules, sum(count.values()) - count["none"], *columns, "%d" % farthest if farthest < 10**6 else

@@ -93,12 +93,17 @@ class Pairs(unittest.TestCase):
                 rule_pairs.difference(b"", text(0.0), other)
 
     def test_the_command(self):
-        with contextlib.redirect_stdout(io.StringIO()) as said, \
-                mock.patch.object(sys, "argv", ["rule_pairs.py", "--only", "sums", "--scenes", "40"]):
-            self.assertEqual(rule_pairs.main(), 0)
-        rows = [line.split() for line in said.getvalue().splitlines()[1:]]
-        self.assertEqual([row[:5] for row in rows], [[name, a, "and", b, "40"] for name in ("sums", "all")
-                                                     for a, b in (("0", "2"), ("1", "3"))])
+        def rows(*arguments):
+            with contextlib.redirect_stdout(io.StringIO()) as said, \
+                    mock.patch.object(sys, "argv", ["rule_pairs.py", *arguments]):
+                self.assertEqual(rule_pairs.main(), 0)
+            return [line.split() for line in said.getvalue().splitlines()[1:]]
+        both = ["0", "and", "2"], ["1", "and", "3"]
+        self.assertEqual([row[:5] for row in rows("--only", "sums", "--scenes", "40")],
+                         [["sums", *rules, "40"] for rules in both])
+        several = rows("--scenes", "60")
+        self.assertEqual([row[:4] for row in several[-2:]], [["all", *rules] for rules in both])
+        self.assertEqual(2 * int(several[-1][4]), sum(int(row[-7]) for row in several[:-2]))
 
 
 class StandIn:
