@@ -42,7 +42,6 @@ CRITERIA = [
     # the error of averages that are numbers
     ("Ihmsen's error is not below 0", LARGEST, "max([0.0, *averages]), False"),
     ("of equal averages the later", LARGEST, "max(reversed(averages), default=0.0), False"),
-    ("Ihmsen's error is no -0", LARGEST, "max(averages, default=0.0) + 0.0, False"),
     ("of averages of 0 that of +0", LARGEST,
      "max(averages, key=lambda x: (x, math.copysign(1.0, x)), default=0.0), False"),
     ("the least average", LARGEST, "min(averages, default=0.0), False"),

@@ -8,7 +8,6 @@ BOTH = "IN_ORDER, BY_HALVES = Record(of=total, work=14), Record(of=by_halves, wo
 LONE = "    if len(terms) == 1:\n        return terms[0]\n"
 SPLIT = "    first = len(terms) // 2\n"
 ADDED = "    return by_halves(terms[:first]) + by_halves(terms[first:])\n"
-FROM_ZERO = "lambda terms: 0.0 + by_halves(terms)"
 
 
 def halves_by(sum_of):
@@ -17,19 +16,17 @@ def halves_by(sum_of):
 
 
 SUMS = [
-    # the split
+    # the split; from the back it would be as after the larger half
     ("split after the larger half", SPLIT, "    first = (len(terms) + 1) // 2\n"),
     ("split after the first", SPLIT, "    first = 1\n"),
     ("split before the last", SPLIT, "    first = len(terms) - 1\n"),
-    ("split at a power of 2", SPLIT, "    first = 2 ** (len(terms) - 1).bit_length() // 2\n"),
-    ("split at the power of 2 below", SPLIT, "    first = 2 ** (len(terms).bit_length() - 1) % len(terms) or "
-     "len(terms) // 2\n"),
+    ("neighbours added up, then their sums: the first part is a power of 2", SPLIT,
+     "    first = 2 ** (len(terms) - 1).bit_length() // 2\n"),
+    ("the second part is a power of 2", SPLIT,
+     "    first = len(terms) - 2 ** (len(terms) - 1).bit_length() // 2\n"),
     ("split after a third", SPLIT, "    first = max(1, len(terms) // 3)\n"),
     ("terms with even numbers, then those with odd ones", ADDED,
      "    return by_halves(terms[::2]) + by_halves(terms[1::2])\n"),
-    ("neighbours added up, then their sums",
-     LONE + SPLIT + ADDED, LONE + "    return by_halves([terms[k] + terms[k + 1] if k + 1 < len(terms) else terms[k] "
-     "for k in range(0, len(terms), 2)])\n"),
     ("the first and the last added up, then those between", LONE + SPLIT + ADDED, LONE +
      "    return (terms[0] + terms[-1]) + by_halves(terms[1:-1]) if len(terms) > 2 else terms[0] + terms[1]\n"),
     ("halved once, each half in order", ADDED,
@@ -38,9 +35,8 @@ SUMS = [
     ("the first half twice", ADDED, "    return by_halves(terms[:first]) + by_halves(terms[:first])\n"),
     ("a term left out between the halves", ADDED,
      "    return by_halves(terms[:first]) + by_halves(terms[first + (len(terms) > 2):])\n"),
-    # +0 before a list
-    ("+0 before each list of one", LONE, LONE.replace("terms[0]", "0.0 + terms[0]")),
-    ("+0 before the whole list", BOTH, halves_by("(%s)" % FROM_ZERO)),
+    # +0 before a list; before each list of one, or in Ihmsen's error, it does what it does before the whole
+    ("+0 before the whole list", BOTH, halves_by("(lambda terms: 0.0 + by_halves(terms))")),
     ("+0 before a whole list of one", BOTH,
      halves_by("(lambda terms: 0.0 + terms[0] if len(terms) == 1 else by_halves(terms))")),
     ("+0 behind the terms", BOTH, halves_by("(lambda terms: by_halves([*terms, 0.0]))")),
@@ -59,7 +55,6 @@ SUMS = [
     ("by halves the terms above 0 alone", AVERAGE,
      "(%s if s.summation is IN_ORDER else by_halves([p.term for p in f.particles if p.term > 0.0] or [0.0]) "
      "/ len(f.particles))" % AVERAGE),
-    ("by halves terms from the back", BOTH, halves_by("(lambda terms: by_halves(terms[::-1]))")),
     ("by halves an empty fluid's average is 0", OF_FLUIDS,
      "[%s if f.particles else 0.0 for f in s.fluids if f.particles or s.summation is BY_HALVES]" % AVERAGE),
     ("by halves an empty fluid's average is not a number", OF_FLUIDS,
