@@ -1,5 +1,5 @@
-"""Cases of versions and rules, for cases_step.py, in the form of step_cases.py. Each comment on rule
-1 names one scene."""
+"""Cases of versions and of rules 0 and 1, for cases_step.py, in the form of step_cases.py. Each
+comment on rule 1 names one scene. Rules 2 and 3 are in sum_cases.py."""
 import math
 
 from parts.drawing import LARGEST

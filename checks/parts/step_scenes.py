@@ -37,7 +37,7 @@ def scene(fluids, walls=(), least=1, most=50, dt=1.0, remaining=0.0, limit=0.05,
 
 # ---- the specification's scenes, and pieces of others
 
-FORMS = (1, 0), (2, 0), (2, 1)      # the versions and rules that are there
+FORMS = (1, 0), (2, 0), (2, 1), (2, 2), (2, 3)      # the versions and rules that are there
 X, Z, FALL, STEEP = (1.0, 0.0, 0.0), (0.0, 0.0, 1.0), (0.0, 0.0, -4.0), (2.0**21, 0.0, 0.0)
 ZEROS, LEAST = (-0.0, 0.0, -0.0), 5e-324
 EMPTY = bytes.fromhex("10000132") + bytes(48)
@@ -110,6 +110,29 @@ def pair(model=0, rest=1.0, volume=1.0, speed=1.0, slope=1.0, weight=1.0, warm=0
     right, left = to(model, 1, weight, (slope, 0.0, 0.0)), to(model, 0, weight, (-slope, 0.0, 0.0))
     return fluid(rest, particle([right], velocity=(speed, 0.0, 0.0), volume=volume, warm=warm),
                  particle([left], velocity=(-speed, 0.0, 0.0), volume=volume))
+
+
+# Walls of a particle each, with volumes 1 and -0.5: those of `laden`, `level` and `faint`.
+BEDS = [wall(stone(beside(0, 0, 1.0))), wall(stone(beside(1, 0, -2.0)))]
+
+
+def laden(*terms):
+    """A fluid whose particles have these error terms in the first iteration, by either criterion.
+    Each has density 1 by its one contact, with the wall of volume -0.5 where its term is below 0."""
+    return fluid(1.0, *[particle([], [to(1, 0, -2.0, X)], velocity=(-4.0 * term, 0.0, 0.0)) if term < 0.0 else
+                        particle([], [to(0, 0, 1.0, X)], velocity=(2.0 * term, 0.0, 0.0)) for term in terms])
+
+
+def level(*warm):
+    """A fluid with rest density -1, of particles with these warm pressures. One of 2 is right from
+    the start: Ihmsen's term is 0 / -1 in each iteration."""
+    return fluid(-1.0, *[particle([], [to(0, 0, -1.0, X)], velocity=(3.0, 0.0, 0.0), volume=-2.0, warm=x)
+                         for x in warm])
+
+
+def faint():
+    """A fluid of one particle whose aii × p underflows, so that Salva's term is -0 - 0."""
+    return fluid(1.0, particle([], [to(1, 0, -2.0, X)], warm=4.0 * LEAST))
 
 
 def rich(near=(1, 0), walls=(2, 0), own=(0, 0), weight=1.0):
