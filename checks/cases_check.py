@@ -20,7 +20,7 @@ from parts import list_scenes
 from reference import batch
 
 CRATE = pathlib.Path(__file__).resolve().parent.parent / "crates" / "cases_check"
-LAST_RULES = {1: 0, 2: 1}      # of each version that there is
+LAST_RULES = {1: 0, 2: 3}      # of each version that there is
 
 
 class Refused(Exception):
@@ -193,8 +193,8 @@ def forms(whole):
 
 
 def of_version_2():
-    """Under both rules: cut, with bytes that follow, and with each other refusal of the check."""
-    for rule in 0, 1:
+    """Under each rule: cut, with bytes that follow, and with each other refusal of the check."""
+    for rule in range(LAST_RULES[2] + 1):
         whole, lost = (changed(data, (0, 0x22), (1, 0x30 | rule)) for data in (rich(), rich(own_name=(0, 1))))
         yield changed(header(0, 0), (0, 0x20), (1, rule))
         yield from (whole[:n] for n in range(0, len(whole), 7))

@@ -12,16 +12,17 @@ can't be. Ends with 1 if one of NOTICED is not noticed, or one of SAME is.
 import pathlib
 import sys
 
-from parts.wrong_criteria import CRITERIA, IHMSEN_TERM, LARGEST
-from parts.wrong_endings import ENDINGS, ERROR, told
+from parts.wrong_criteria import CRITERIA, IHMSEN_TERM
+from parts.wrong_endings import AVERAGE, ENDINGS, ERROR, told
 from parts.wrong_reads import READS
 from parts.wrong_rules import DELTA, DOT, RULES, TERM
+from parts.wrong_sums import ADDED, SUMS
 from reference import Stop, load, text, texts, unbatch
 
 ROOT = pathlib.Path(__file__).resolve().parent.parent
 SCENES, LINES = ROOT / "crates/cases_replay/data/scenes", ROOT / "crates/cases_replay/stdout"
 
-NOTICED = [*RULES, *ENDINGS, *CRITERIA, *READS]
+NOTICED = [*RULES, *ENDINGS, *CRITERIA, *SUMS, *READS]
 
 SAME = [
     ("f's sign after the product", "div((-dt) * dt, p.rho * p.rho), div((dt", "div(-(dt * dt), p.rho * p.rho), div((dt",
@@ -29,19 +30,14 @@ SAME = [
     ("dij's sign after the product", "div((-c.mass) * c.named.pressure,", "div(-(c.mass * c.named.pressure),",
      "rounding to the nearest is the same on both sides of 0"),
     ("the error's sign after the sum", TERM, "div(-(found + p.aii * pressure), rest)",
-     "only the sign of a zero term can change, and a sum from +0 does not keep it"),
+     "only the sign of a zero term can change, and Salva's error keeps that of no average"),
     ("aii that is not a number is taken", "not abs(p.aii) > 1e-9", "abs(p.aii) <= 1e-9",
      "the next pressure then is not a number and becomes +0 with term +0, as without aii"),
-    ("an equal average is taken", "if average > error:", "if average >= error:",
-     "equal doubles have the same bits, but for an average of -0, which runs skip"),
     ("a dot product from 0", DOT, "return ((0.0 + a[0] * b[0]) + a[1] * b[1]) + a[2] * b[2]",
      "only the sign of a zero can change, and each dot product goes times a mass into a sum from +0, which does not "
      "keep it"),
     ("the other order of a sum in Ihmsen's term", IHMSEN_TERM,
      "div(((found + p.aii * pressure) + p.predicted) - rest, rest)", "a sum's two numbers may change places"),
-    ("of equal averages the later", LARGEST, "max(reversed(averages), default=0.0), False",
-     "equal doubles have the same bits, but for zeros, and no average of Ihmsen's is -0: a term is a zero or at least "
-     "2^-53 in size, so that no average underflows, and a sum from +0 is never -0"),
     ("vector sums from -0", "return reduce(add, terms, ZERO)", "return reduce(add, terms, (-0.0,) * 3)",
      "only the sign of a zero axis of dii or dij can change, and both go by sums, products and dot products into sums "
      "from +0"),
@@ -49,13 +45,14 @@ SAME = [
     ("dt as the first factor of delta", DELTA,
      "dt * total(c.mass * dot(sub(p.v, c.named.v), c.gradient) for c in p.links)",
      "a product's factors may change places"),
-    ("average by a product for counts of 2", "total(p.term for p in f.particles) / len(f.particles) for f",
-     "(total(p.term for p in f.particles) * 0.5 if len(f.particles) == 2 else total(p.term for p in f.particles) / "
-     "len(f.particles)) for f",
+    ("average by a product for counts of 2", AVERAGE, "(%s if len(f.particles) == 2 else %s)"
+     % (AVERAGE.replace("/ len(f.particles)", "* 0.5"), AVERAGE),
      "half of a double rounds as its product with 0.5"),
     ("a sum that is not a number", ERROR,
-     told("any(math.isnan(total(p.term for p in f.particles)) for f in s.fluids)"),
-     "a sum divided by a count is not a number where the sum is not, and an empty fluid's sum is +0"),
+     told("any(math.isnan(s.summation.of([p.term for p in f.particles])) for f in s.fluids if f.particles)"),
+     "a sum divided by a count is not a number where the sum is not"),
+    ("the second half first", ADDED, "    return by_halves(terms[first:]) + by_halves(terms[:first])\n",
+     "a sum's two numbers may change places"),
 ]
 
 

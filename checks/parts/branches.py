@@ -206,7 +206,7 @@ class Branches:
         version, what = data[0] >> 4, "refused %d at %d" % (number, place)
         self.add(what + " in version %d" % version if what == "refused 2 at 1" else what, True)
         self.add("refused 3 at 1 with a wrong rule",
-                 what == "refused 3 at 1" and data[1] & 15 >= len(self.names["CRITERIA"][version]))
+                 what == "refused 3 at 1" and data[1] & 15 > self.names["LAST_RULES"][version])
 
     def missing(self, data, place):
         """A name at fault: is its model there at all, and is it in a wall contact's list."""

@@ -8,7 +8,8 @@ from made_scenes import LARGE
 from parts.step_scenes import FORMS, changed, under
 from reference import Stop, answering, batch, texts
 
-SKIPPED, IHMSENS = "skipped\n", (2, 1)
+SKIPPED = "skipped\n"
+RUSTS_RULE = 0
 
 
 class Failed(Exception):
@@ -66,11 +67,11 @@ class Expected:
         return found
 
     def of(self, scenes):
-        """Under rule 1 the first line is the reference's. The others do not hang on the rule but on
-        the number of iterations: they are the Rust's after as many, where it leaves no sign open.
-        """
+        """Under another rule than the Rust's the first line is the reference's. The others do not hang
+        on the rule but on the number of iterations: they are the Rust's after as many, where it
+        leaves no sign open."""
         found = self.rusts(scenes)
-        at = [k for k, data in enumerate(scenes) if found[k] == SKIPPED and form(data) == IHMSENS]
+        at = [k for k, data in enumerate(scenes) if found[k] == SKIPPED and form(data)[1] != RUSTS_RULE]
         lines = [self.lines(scenes[k]) for k in at]
         for k, line, rust in zip(at, lines, self.rusts([without_end(scenes[k], line) for k, line in zip(at, lines)])):
             found[k] = line if rust == SKIPPED else line.split("\n", 1)[0] + "\n" + rust.split("\n", 1)[1]

@@ -61,10 +61,10 @@ class Draw:
 
 
 def drawn():
-    """300 scenes, of each form 100, and here and there one cut short or with a byte changed."""
+    """300 scenes, of each form 60, and here and there one cut short or with a byte changed."""
     draw = Draw(2014)
     for k in range(300):
-        data = under(draw.scene(), *FORMS[k % 3])
+        data = under(draw.scene(), *FORMS[k % len(FORMS)])
         yield "random", data
         if k % 8 == 3:
             yield "cut short", data[:draw.below(len(data))]

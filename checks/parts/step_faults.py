@@ -1,7 +1,7 @@
 """Scenes that are refused, and the longest ones, for cases_step.py and list_scenes.py."""
 from parts.step_cases import swept
 from parts.step_rules import LONGEST, row
-from parts.step_scenes import (EMPTY, X, beside, changed, doubles, fluid, one, pair, particle, rich, scene, scene_a,
+from parts.step_scenes import (EMPTY, FORMS, X, beside, changed, doubles, fluid, one, pair, particle, rich, scene, scene_a,
                                stone, to, under, wall)
 
 INFINITE, NAN = bytes.fromhex("FFF0000000000000"), bytes.fromhex("7FF0000000000001")
@@ -23,7 +23,8 @@ def header_faults():
     yield 1, "a cut in a count, a double, a contact", [(whole[:n], at) for n, at in CUTS]
     yield 1, "4,096 is a count, but no record follows", [
         (scene([fluid(1.0, count=4096)]), 62), (scene([], [b"\x10\0"]), 54), (scene([], [b"\x90\0"]), 54)]
-    yield 1, "a cut header of version 2", [(under(EMPTY, 2, 1)[:n], at) for n, at in HEADER_CUTS[1:]]
+    yield 1, "a cut header of version 2", [
+        (under(EMPTY, 2, rule)[:n], at) for rule in (1, 3) for n, at in HEADER_CUTS[1:]]
     wrong_version = [(changed(EMPTY, 0, bytes([16 * x])), 0) for x in (0, *range(3, 16))]
     yield 2, "version", wrong_version + [(b"\0", 0)]
     yield 2, "version, before 3", [(changed(EMPTY, 0, bytes([x])), 0) for x in (0x09, 0x39, 0xFF)]
@@ -32,11 +33,11 @@ def header_faults():
 
 def rule_faults():
     """In the lower bits of byte 1; the number of walls in its upper ones is looked at first."""
-    for version, rules in (1, range(1, 16)), (2, range(2, 16)):
+    for version, rules in (1, range(1, 16)), (2, range(4, 16)):
         yield 2, "rule in version %d" % version, [(under(EMPTY, version, rule), 1) for rule in rules]
         for number, comment, walls in (2, "rule, before a later 1", 8), (3, "walls, before 2", 9):
             yield number, comment, [(bytes([version << 4, walls << 4 | rule]), 1) for rule in (rules[0], 15)]
-    heads = b"\x10\x90", b"\x10\xF0", b"\x20\x90", b"\x20\x91", b"\x20\xF1"
+    heads = b"\x10\x90", b"\x10\xF0", b"\x20\x90", b"\x20\x91", b"\x20\xF1", b"\x20\x92", b"\x20\xF3"
     yield 3, "walls", [(changed(EMPTY, 0, head), 1) for head in heads]
 
 
@@ -63,7 +64,7 @@ def name_faults():
     yield 7, "fluid contacts", [(scene_a([to(0, 1, 2.0)]), 152)] + [(rich(near=name), 162) for name in no_fluid]
     yield 7, "wall contacts", [(rich(walls=name), 230) for name in no_wall]
     yield 7, "contacts of walls", [(rich(own=name), 439) for name in no_wall]
-    yield 7, "under both rules of version 2", [(under(rich(own=(3, 0)), 2, rule), 439) for rule in (0, 1)]
+    yield 7, "under each form", [(under(rich(own=(3, 0)), *form), 439) for form in FORMS]
     yield 7, "the earliest; also before 9", [
         (rich(near=(2, 0), walls=(3, 0)), 162), (rich(walls=(3, 0), own=(3, 0)), 230),
         (rich(own=(3, 0), weight=-0.75), 439)]
@@ -76,8 +77,9 @@ def density_faults():
         (idle, 72), (changed(whole, 64, doubles(-0.0)), 72), (changed(whole, 356, doubles(-0.0)), 264),
         (scene([one([to(0, 0, 1e-200)], volume=1e-200)]), 62)]
     yield 9, "before 10", [(scene([pair(speed=-0.5), one([])]), 320)]
-    yield 9, "under rule 1", [(under(data, 2, 1), at) for data, at in ((scene_a([]), 62), (idle, 72))]
-    yield 10, "under rule 1", [(under(scene([pair(speed=-0.5)]), 2, 1), 62)]
+    yield 9, "under rules 1 to 3", [
+        (under(data, 2, rule), at) for rule in (1, 2, 3) for data, at in ((scene_a([]), 62), (idle, 72))]
+    yield 10, "under rules 1 to 3", [(under(scene([pair(speed=-0.5)]), 2, rule), 62) for rule in (1, 2, 3)]
     yield 10, "scene B with -0.5 and 0.5, also with most 0, and as the second fluid", [
         (scene([pair(speed=-0.5)]), 62), (scene([pair(speed=-0.5)], most=0), 62),
         (scene([pair(), pair(1, speed=-0.5)]), 320)]

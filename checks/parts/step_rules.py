@@ -56,7 +56,26 @@ def ihmsen_error(averages):
 
 
 SALVA, IHMSEN = Record(term=salva_term, error=salva_error), Record(term=ihmsen_term, error=ihmsen_error)
-CRITERIA = {1: [SALVA], 2: [SALVA, IHMSEN]}      # those of each version, by the rule's number
+
+
+# ---- the summations of a fluid's terms, and how many doubles of the work list a fluid particle
+# needs under each
+
+def by_halves(terms):
+    """A list of one is its number; a longer one is split after its first half, rounded down."""
+    if len(terms) == 1:
+        return terms[0]
+    first = len(terms) // 2
+    return by_halves(terms[:first]) + by_halves(terms[first:])
+
+
+IN_ORDER, BY_HALVES = Record(of=total, work=14), Record(of=by_halves, work=15)
+
+
+# ---- a rule is a criterion and a summation
+
+CRITERIA, SUMMATIONS = (SALVA, IHMSEN), (IN_ORDER, BY_HALVES)      # of rule % 2, of rule / 2
+LAST_RULES = {1: 0, 2: 3}                                          # of each version that there is
 
 
 # ---- the check of a packed scene: refusals 1 to 7
@@ -117,13 +136,13 @@ def walk(data):
     """The scene of a packed one, with each contact's `named` the particle that it names."""
     r = Reader(data)
     version, fluids = divmod(r.number(1), 16)
-    r.must(version in CRITERIA, 2, 1)
+    r.must(version in LAST_RULES, 2, 1)
     r.must(fluids <= 8, 3, 1)
     walls, rule = divmod(r.number(1), 16)
     r.must(walls <= 8, 3, 1)
-    r.must(rule < len(CRITERIA[version]), 2, 1)
-    s = Record(criterion=CRITERIA[version][rule], least=r.number(1), most=r.number(1), dt=r.double(),
-               remaining=r.double(), limit=r.double(), gravity=r.vector(), fluids=[], walls=[])
+    r.must(rule <= LAST_RULES[version], 2, 1)
+    s = Record(criterion=CRITERIA[rule % 2], summation=SUMMATIONS[rule // 2], least=r.number(1), most=r.number(1),
+               dt=r.double(), remaining=r.double(), limit=r.double(), gravity=r.vector(), fluids=[], walls=[])
     for _ in range(fluids):
         n, _ = r.count(0xFFFF)
         s.fluids.append(Record(rest=r.double(), particles=[r.fluid_particle() for _ in range(n)]))
@@ -199,7 +218,7 @@ def iteration(s):
         p.next, p.term = relaxed(s.criterion, fluid.rest, p)
     for _, p in s.all:
         p.pressure = p.next
-    averages = [total(p.term for p in f.particles) / len(f.particles) for f in s.fluids if f.particles]
+    averages = [s.summation.of([p.term for p in f.particles]) / len(f.particles) for f in s.fluids if f.particles]
     return s.criterion.error(averages)
 
 
@@ -221,7 +240,7 @@ def finish(s):
 def step(s, answers=math.inf, work=math.inf):
     """Runs the step, with lists of these lengths lent, and gives line 1 from its second word on."""
     of_walls = sum(1 if w.force is None else 4 for w in s.stones)
-    if answers < 7 * len(s.all) + of_walls or work < 14 * len(s.all) + len(s.stones):
+    if answers < 7 * len(s.all) + of_walls or work < s.summation.work * len(s.all) + len(s.stones):
         raise Refused(8, 0)
     prepare(s)
     s.inv_dt = 0.0 if s.dt == 0.0 else 1.0 / s.dt

@@ -37,7 +37,7 @@ def scene(fluids, walls=(), least=1, most=50, dt=1.0, remaining=0.0, limit=0.05,
 
 # ---- the specification's scenes, and pieces of others
 
-FORMS = (1, 0), (2, 0), (2, 1)      # the versions and rules that are there
+FORMS = (1, 0), (2, 0), (2, 1), (2, 2), (2, 3)      # the versions and rules that are there
 X, Z, FALL, STEEP = (1.0, 0.0, 0.0), (0.0, 0.0, 1.0), (0.0, 0.0, -4.0), (2.0**21, 0.0, 0.0)
 ZEROS, LEAST = (-0.0, 0.0, -0.0), 5e-324
 EMPTY = bytes.fromhex("10000132") + bytes(48)

@@ -5,6 +5,7 @@ SETTLED = "settled = error <= s.limit and i >= s.least"
 FOUND = "error, passed_over = iteration(s)\n"
 PASSED_OVER = "any(math.isnan(average) for average in averages)"
 ERROR = "return s.criterion.error(averages)"
+AVERAGE = "s.summation.of([p.term for p in f.particles]) / len(f.particles)"
 
 
 def told(passed_over):
@@ -16,17 +17,12 @@ ENDINGS = [
     # the error
     ("not-a-number wins the maximum", "if average > error:", "if not average <= error:"),
     ("negative averages count", "    error = 0.0\n    for average in", "    error = -math.inf\n    for average in"),
+    ("an average of -0 is taken", "if average > error:", "if average >= error:"),
     ("averages are added up", "            error = average", "            error += average"),
     ("the last average counts", "if average > error:", "if average > 0.0:"),
-    ("each term divided by the count", "total(p.term for p in f.particles) / len(f.particles)",
-     "total(p.term / len(f.particles) for p in f.particles)"),
-    ("terms of all fluids together",
-     "[total(p.term for p in f.particles) / len(f.particles) for f in s.fluids if f.particles]",
-     "[total(p.term for _, p in s.all) / max(1, len(s.all))]"),
-    ("the greatest term", "total(p.term for p in f.particles) / len(f.particles) for f",
-     "max(p.term for p in f.particles) for f"),
-    ("a sum for an average", "total(p.term for p in f.particles) / len(f.particles) for f",
-     "total(p.term for p in f.particles) for f"),
+    ("each term divided by the count", AVERAGE, "s.summation.of([p.term / len(f.particles) for p in f.particles])"),
+    ("the greatest term", AVERAGE, "max(p.term for p in f.particles)"),
+    ("a sum for an average", AVERAGE, "s.summation.of([p.term for p in f.particles])"),
     # whether an average was passed over
     ("never passed over", PASSED_OVER, "False"),
     ("always passed over", PASSED_OVER, "True"),

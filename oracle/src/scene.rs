@@ -145,7 +145,7 @@ impl Reader<'_> {
 fn last_rule(version: u64) -> Option<u64> {
     match version {
         1 => Some(RUSTS_RULE),
-        2 => Some(1),
+        2 => Some(3),
         _ => None,
     }
 }
