@@ -156,7 +156,8 @@ class Reading(unittest.TestCase):
         for text, piece in (("refused 7 152\n", "tools/scene.py at 152 SCENE.bin"),
                             ("too long\n", "at most 32,768 bytes"),
                             ("", "`step ..`"), ("refused 77 1\n", "line 1"), ("refused 7 15", "cut off"),
-                            ("refused 8 0\n", "a work list of 14")):
+                            ("refused 8 0\n", "a work list of 14 for each fluid particle, or 15 where errors are "
+                                               "summed by halves, and 1 for each wall particle")):
             self.refused(text, piece)
         with self.assertRaises(commands.Wrong) as raised:
             answers.parse("refused 8 0\n")
