@@ -26,6 +26,7 @@ from parts.step_drawn import drawn
 from parts.step_faults import faults, most_particles, sizes
 from parts.step_rules import LONGEST, lines, step, walk
 from parts.step_scenes import pair, rich, scene, scene_a, under
+from parts.sum_cases import sums
 from reference import batch
 
 ROOT = pathlib.Path(__file__).resolve().parent.parent
@@ -34,14 +35,19 @@ LENT = ((scene_a(), 6, 14, "refused 8 0\n"), (scene_a(), 7, 13, "refused 8 0\n")
         (scene_a(), 7, 14, swept("settled", 2)), (scene_a([]), 6, 14, "refused 8 0\n"),
         (rich(own=(3, 0)), 0, 0, "refused 7 439\n"), (rich(), 18, 30, "refused 8 0\n"),
         (rich(), 19, 29, "refused 8 0\n"), (rich(), 19, 30, "step "), (under(rich(), 2, 1), 18, 30, "refused 8 0\n"),
-        (under(rich(), 2, 1), 19, 29, "refused 8 0\n"), (under(rich(), 2, 1), 19, 30, "step "))
+        (under(rich(), 2, 1), 19, 29, "refused 8 0\n"), (under(rich(), 2, 1), 19, 30, "step "),
+        *[(under(data, 2, rule), answers, work, line) for rule in (2, 3)
+          for data, answers, work, line in (
+              (scene_a(), 7, 14, "refused 8 0\n"), (scene_a(), 6, 15, "refused 8 0\n"),
+              (scene_a(), 7, 15, swept("settled", 2)), (rich(), 18, 32, "refused 8 0\n"),
+              (rich(), 19, 31, "refused 8 0\n"), (rich(), 19, 32, "step "))])
 
 
 # ---- the files
 
 def cases():
     """Comment, scene, and pieces of its text."""
-    return [*starred(), *readings(), *rules(), *faults(), *sizes(), *drawn()]
+    return [*starred(), *readings(), *rules(), *sums(), *faults(), *sizes(), *drawn()]
 
 
 def files():

@@ -9,6 +9,7 @@ import math
 from parts.averages import passed_over
 from parts.drawing import LIMITS, Draw, drop, few, lattice_scene, mixed, pair, scaled
 from parts.limits import at_an_error
+from parts.many_terms import many, sums
 from parts.packing import pack, unpack
 from parts.step_scenes import FORMS
 
@@ -65,8 +66,8 @@ def damaged(d, data):
             put(0, bytes([d.of((0x00, 0x10, 0x11, 0x18, 0x19, 0x1F, 0x20, 0x21, 0x28, 0x29, 0x2F, 0x30, 0x31, 0x39,
                                 0xF1))]))
         elif kind == 7:
-            put(1, bytes([d.of((0x00, 0x01, 0x02, 0x0F, 0x10, 0x11, 0x12, 0x80, 0x81, 0x82, 0x90, 0x91, 0x92, 0x9F,
-                                0xF0))]))
+            put(1, bytes([d.of((0x00, 0x01, 0x02, 0x03, 0x04, 0x0F, 0x10, 0x11, 0x13, 0x14, 0x80, 0x81, 0x83, 0x84,
+                                0x90, 0x91, 0x93, 0x94, 0x9F, 0xF0))]))
         else:
             s = unpack(bytes(data))
             lists = s and [c for kind in ("fluids", "walls") for _, particles in s[kind]
@@ -168,6 +169,7 @@ CLASSES = {
     "aimed": (aimed, "two particles, with numbers at the edge of a rule"),
     "zero density": (empty_density, "densities and predicted densities that are zero"),
     "passed over": (passed_over, "averages that are not a number, beside infinite ones, plain ones and empty fluids"),
+    "sums": (sums, "fluids of one to some hundred particles, whose terms add up to a sum that hangs on the summation"),
     "limits": (None, "scenes of all above, with a limit at the error of one of their iterations"),
     "damaged": (None, "damaged copies of all above but those"),
 }
@@ -176,7 +178,9 @@ CLASSES = {
 def large(d): return lattice_scene(d, ((6, 6, 6), (8, 8, 4), (5, 10, 10)), (1, 2, 5))
 
 
-LARGE = {"large": (large, "lattices of some hundred particles, longer than the program's standard input takes")}
+# Classes that are longer than the program's standard input takes.
+LARGE = {"large": (large, "lattices of some hundred particles"),
+         "many": (many, "fluids of up to 4,096 particles with one to three contacts each")}
 SOUND = [make for make, _ in CLASSES.values() if make]
 
 
@@ -197,7 +201,7 @@ def made(seed, name):
     if name in LARGE:
         d = Draw(seed)
         while True:
-            yield packed(d, large)
+            yield packed(d, LARGE[name][0])
     d = Draw(seed * 1000003 + list(CLASSES).index(name) * 7919)
     while True:
         data = one_of(d, name)

@@ -1,8 +1,8 @@
 """Scenes that are refused, and the longest ones, for cases_step.py and list_scenes.py."""
 from parts.step_cases import swept
 from parts.step_rules import LONGEST, row
-from parts.step_scenes import (EMPTY, FORMS, X, beside, changed, doubles, fluid, one, pair, particle, rich, scene, scene_a,
-                               stone, to, under, wall)
+from parts.step_scenes import (EMPTY, FORMS, X, beside, changed, doubles, fluid, one, pair, particle, rich, scene,
+                               scene_a, stone, to, under, wall)
 
 INFINITE, NAN = bytes.fromhex("FFF0000000000000"), bytes.fromhex("7FF0000000000001")
 # Where a header, and the scene `rich`, is cut, and the place of the field that then is not there.

@@ -112,6 +112,29 @@ def pair(model=0, rest=1.0, volume=1.0, speed=1.0, slope=1.0, weight=1.0, warm=0
                  particle([left], velocity=(-speed, 0.0, 0.0), volume=volume))
 
 
+# Walls of a particle each, with volumes 1 and -0.5: those of `laden`, `level` and `faint`.
+BEDS = [wall(stone(beside(0, 0, 1.0))), wall(stone(beside(1, 0, -2.0)))]
+
+
+def laden(*terms):
+    """A fluid whose particles have these error terms in the first iteration, by either criterion.
+    Each has density 1 by its one contact, with the wall of volume -0.5 where its term is below 0."""
+    return fluid(1.0, *[particle([], [to(1, 0, -2.0, X)], velocity=(-4.0 * term, 0.0, 0.0)) if term < 0.0 else
+                        particle([], [to(0, 0, 1.0, X)], velocity=(2.0 * term, 0.0, 0.0)) for term in terms])
+
+
+def level(*warm):
+    """A fluid with rest density -1, of particles with these warm pressures. One of 2 is right from
+    the start: Ihmsen's term is 0 / -1 in each iteration."""
+    return fluid(-1.0, *[particle([], [to(0, 0, -1.0, X)], velocity=(3.0, 0.0, 0.0), volume=-2.0, warm=x)
+                         for x in warm])
+
+
+def faint():
+    """A fluid of one particle whose aii × p underflows, so that Salva's term is -0 - 0."""
+    return fluid(1.0, particle([], [to(1, 0, -2.0, X)], warm=4.0 * LEAST))
+
+
 def rich(near=(1, 0), walls=(2, 0), own=(0, 0), weight=1.0):
     """Fluids at 52 (empty) and 62, with records at 72 (contacts 162, 196, 230) and 264 (354); walls
     at 388 (record 390, contacts 439, 449), 459 (empty) and 461 (record 463, contact 488); 498
