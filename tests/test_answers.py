@@ -171,6 +171,15 @@ class Pictures(unittest.TestCase):
         self.assertTrue(all(a > b for a, b in zip(light, light[1:])))
         self.assertGreater(light[0] - light[-1], 200)
 
+    def test_colours_span_any_pressures(self):
+        pale, dark = answer_picture.colour(0), answer_picture.colour(1)
+        for least, most in (0.0, 5e-324), (-5e-324, 0.0), (-1.7e308, 1.7e308), (-1.0, 2.0):
+            answer = in_chamber()
+            for k, p in enumerate(answer.fluid):
+                p.pressure = most if k % 2 else least
+            drawn = ElementTree.fromstring(answers.picture(answer)[0]).findall("{*}g/{*}circle")
+            self.assertEqual([node.get("fill") for node in drawn], [pale] * 30 + [dark] * 30)
+
     def test_the_chamber(self):
         answer = in_chamber()
         answers.hold(answer, CHAMBER_SCENE, "its scene")
