@@ -101,8 +101,9 @@ pub enum Stopping {
 }
 
 /// How the terms of an error are summed, of which a fluid has one for each particle. An iteration's
-/// pressures are the same under both; the errors differ in their last bits, and the more the larger a
-/// fluid is.
+/// pressures are the same under both. The errors may differ in their last bits, in more of them the
+/// larger a fluid is, and with them how many iterations there are. Choose [`ByHalves`](Summation::ByHalves)
+/// for large fluids, unless steps have to equal the Rust's.
 ///
 /// Two particles run into each other, and far from them two others do, slower by 2^52. The terms are
 /// 2, 2, 2^-51 and 2^-51. In order each small one is lost beside the 4, and by halves they make 2^-50
