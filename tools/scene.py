@@ -32,11 +32,11 @@ list that is left out is empty.
      {"velocity": [0, 0, 0], "force": [0, 0, 0],
       "contacts": [{"wall": .., "particle": .., "weight": ..}]}]}]}
 
-Iterations stop by the error of the Rust, "salva", or by that of the 2014 paper, "ihmsen2014". Its
-terms over the particles of a fluid are added up "in order" or "by halves", which loses less of the
-small ones in a large fluid. "ihmsen2014" and "by halves" need version 2. With "stopping" alone the
-version is 2; version 2 or "summation" without "stopping" is refused. A "summation" that is left out
-is "in order" in version 2 too: that is what its scenes meant before they could name one.
+Iterations stop by the error of the Rust, "salva", or by that of the 2014 paper, "ihmsen2014". Of an
+error the terms, one for each particle of a fluid, are added "in order" or "by halves", which loses
+less of small ones in a large fluid. "ihmsen2014" and "by halves" need version 2, which is the
+version where "stopping" or "summation" is there and "version" is not; it is refused without
+"stopping". Without "summation" it is "in order", as its scenes were before they could name one.
 A double is a decimal or, in quotes, its 16 hex digits: 0.5 or "3FE0000000000000". `show --json`
 writes decimals that read back as the same double, and hex digits for what is infinite or not a
 number. A force may stand only where keeps_forces is true. The comment is not packed.
