@@ -26,7 +26,7 @@ from parts.step_drawn import drawn
 from parts.step_faults import faults, most_particles, sizes
 from parts.step_rules import LONGEST, lines, step, walk
 from parts.step_scenes import pair, rich, scene, scene_a, under
-from parts.sum_cases import sums
+from parts.sum_cases import as_rule_0, sums
 from reference import batch
 
 ROOT = pathlib.Path(__file__).resolve().parent.parent
@@ -47,7 +47,7 @@ LENT = ((scene_a(), 6, 14, "refused 8 0\n"), (scene_a(), 7, 13, "refused 8 0\n")
 
 def cases():
     """Comment, scene, and pieces of its text."""
-    return [*starred(), *readings(), *rules(), *sums(), *faults(), *sizes(), *drawn()]
+    return [*starred(), *readings(), *rules(), *sums(), *as_rule_0(), *faults(), *sizes(), *drawn()]
 
 
 def files():

@@ -1,6 +1,6 @@
 #!/usr/bin/env python3
 """Holds a program that answers packed scenes against the Rust's own step (oracle/), output for
-output. The Rust has rule 0 alone: of a scene with rule 1 the first line is held against
+output. The Rust has rule 0 alone: of a scene with another rule the first line is held against
 checks/parts/step_rules.py, and the others against the Rust's step with as many iterations.
 
   checks/compare.py [--scenes N] [--seed N] [--only CLASS] [--subject COMMAND | --reference]
@@ -10,11 +10,13 @@ checks/parts/step_rules.py, and the others against the Rust's step with as many 
   --scenes N        so many scenes, shared out over the classes of checks/made_scenes.py (15,000),
                     after the cases of checks/cases_step.py
   --seed N          another seed gives other scenes (1)
-  --only CLASS      this class alone; `large` is there only so, and its scenes are then never
-                    `too long` to the oracle
+  --only CLASS      this class alone; `large` and `many` are there only so, and their scenes are
+                    then never `too long` to the oracle; checks/archive_steps.py is a subject that
+                    steps them too
   --subject COMMAND the program to compare; it is run in a folder with the file `scenes` and prints
                     the lines of all its scenes (target/bin/cases_step)
-  --reference       compare checks/parts/step_rules.py instead (of rule 1 then all but first lines)
+  --reference       compare checks/parts/step_rules.py instead (of rules 1 to 3 then all but first
+                    lines)
   --stdin           run the command once for each scene, which it reads from standard input, as the
                     program iisph does
   --bytes N         at most so many bytes in one file `scenes` (300,000)
@@ -44,6 +46,7 @@ from parts.smaller import shrunk
 from reference import Stop
 
 ROOT = pathlib.Path(__file__).resolve().parent.parent
+MINUS_ZERO = "8000000000000000"
 
 
 # ---- the runs
@@ -76,11 +79,12 @@ def kinds(answer):
 
 
 def error_kinds(error):
-    """What rule 1 alone can have."""
-    return ["not a number"] if error == NAN else ["below 0"] if error[0] in "89ABCDEF" else []
+    """What Ihmsen's criterion alone can have."""
+    return (["not a number"] if error == NAN else ["-0"] if error == MINUS_ZERO else
+            ["below 0"] if error[0] in "89ABCDEF" else [])
 
 
-ORDER = ["accepted", "settled", "ranout", "unswept", "passed over", "error below 0", "error not a number",
+ORDER = ["accepted", "settled", "ranout", "unswept", "passed over", "error below 0", "error -0", "error not a number",
          "3 or more iterations", "pressure above 0", "infinity", "not-a-number", "skipped", "too long"]
 ORDER += ["refused %d" % n for n in range(1, 11)]
 

@@ -1,6 +1,6 @@
 #!/usr/bin/env python3
 """Chooses the recorded scenes of crates/cases_replay and writes them with the Rust's answers. Under
-rule 1, which the Rust does not have, first lines are those of checks/parts/step_rules.py.
+rules 1 to 3, which the Rust does not have, first lines are those of checks/parts/step_rules.py.
 
   checks/record.py [--oracle FILE]           writes crates/cases_replay/data/scenes and
                                              crates/cases_replay/stdout
@@ -27,9 +27,9 @@ from parts.sides import SKIPPED, Expected, Failed, form_name
 from reference import Stop, batch, load, text, unbatch
 from wrong_versions import LINES, NOTICED, ROOT, SCENES, answer, edited
 
-SEED, POOL, TIMES, SHARE, LARGEST_FILE = 7, 1000, 4, 8, 225_000
+SEED, POOL, TIMES, SHARE, LARGEST_FILE = 7, 1000, 4, 5, 275_000
 LONGEST_SCENE = collections.defaultdict(
-    lambda: 520, {"lattice": 900, "crowd": 1300, "passed over": 720, "cases_step": 720})
+    lambda: 520, {"lattice": 900, "crowd": 1300, "passed over": 720, "cases_step": 1500, "sums": 1000})
 
 
 def pool(oracle):

@@ -2,7 +2,7 @@
 into checks/parts/step_rules.py's text."""
 import math
 
-from parts import branches_ihmsen
+from parts import branches_ihmsen, branches_sums
 from reference import load
 from wrong_versions import edited
 
@@ -33,17 +33,18 @@ a contact with itself|a repeated contact|no fluid contacts|wall contacts alone|a
 a push on a kept force|a push on no force|a push of pressure 0|two pushes on one force
 refused 9 without contacts|refused 9 by terms|refused 9 at a later fluid
 refused 10|refused 10 at a later particle
-version 1|version 2, rule 0|version 2, rule 1""".replace("\n", "|").split("|")
+version 1|version 2, rule 0|version 2, rule 1|version 2, rule 2|version 2, rule 3""".replace("\n", "|").split("|")
 BRANCHES += ["refused 1 in the %s" % part for part in ("header", "count", "rest density", "records")]
 BRANCHES += ["refused 2 at 0", "refused 2 at 1 in version 1", "refused 2 at 1 in version 2", "refused 3 at 0",
              "refused 3 at 1", "refused 3 at 1 with a wrong rule", "refused 4 at 52", "refused 4 later", "refused 5",
              "refused 6 in the header", "refused 6 at the rest density", "refused 6 in the records",
              "refused 7 by the model", "refused 7 by the number", "refused 7 at a wall contact"]
-# By either criterion; Ihmsen's have this before their names.
-IHMSEN = "Ihmsen: "
+# By either criterion; Ihmsen's have this before their names, and those of a sum by halves that.
+IHMSEN, HALVES = "Ihmsen: ", "by halves: "
 ENDS = """error above the limit|limit met before least|limit met at least|limit met after least|limit met exactly
 limit met in the last iteration|ran out with the limit met""".replace("\n", "|").split("|")
 BRANCHES += [*ENDS, *(IHMSEN + name for name in ENDS + branches_ihmsen.NAMES)]
+BRANCHES += [HALVES + name for name in branches_sums.NAMES]
 
 
 class Branches:
@@ -67,11 +68,14 @@ class Branches:
             self.add("version 1" if data[0] >> 4 == 1 else "version 2, rule %d" % (data[1] & 15), True)
             self.add(ending, True)
             self.add("255 iterations", line.split(" ")[2] == "255")
+            found = [(averages, terms, error) for error, _, averages, terms in self.iterations]
             if self.by_ihmsen(self.scene):
-                found = [(averages, terms, error) for error, _, averages, terms in self.iterations]
                 self.met |= {IHMSEN + name for name in branches_ihmsen.met(ending, found, self.scene.limit)}
             elif self.iterations:
                 self.passed_over(ending)
+            if self.scene.summation is self.names["BY_HALVES"]:
+                self.met |= {HALVES + name
+                             for name in branches_sums.met(self.scene, self.by_ihmsen(self.scene), found)}
         return self.met
 
     def by_ihmsen(self, s): return s.criterion is self.names["IHMSEN"]
@@ -113,7 +117,7 @@ class Branches:
     def passed_over(self, ending):
         """Of the last iteration, and of those before: was an average passed over."""
         *before, (yes, fluids) = [(passed, terms) for _, passed, _, terms in self.iterations]
-        sums = [(self.names["total"](terms), terms) for terms in fluids if terms]
+        sums = [(self.scene.summation.of(terms), terms) for terms in fluids if terms]
         not_numbers = [terms for found, terms in sums if math.isnan(found)]
         self.add("%s, passed over" % ending, yes)
         self.add("passed over before, not at the end", not yes and any(passed for passed, _ in before))

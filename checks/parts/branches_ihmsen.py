@@ -1,5 +1,4 @@
-"""Which branches of Ihmsen's criterion a scene meets, for branches.py. No average there is -0: the
-SAME of wrong_versions.py say why."""
+"""Which branches of Ihmsen's criterion a scene meets, for branches.py."""
 import math
 
 from parts.step_rules import bits
@@ -52,7 +51,7 @@ def of_averages(averages, terms):
 def of_error(error, terms):
     yield "error below 0", -math.inf < error < 0.0
     yield "error below 0 beside an empty fluid", error < 0.0 and [] in terms
-    yield "error +0", error == 0.0
+    yield "error +0", bits(error) == bits(0.0)
     yield "error above 0", 0.0 < error < math.inf
     yield "error +infinity", error == math.inf
     yield "error -infinity", error == -math.inf

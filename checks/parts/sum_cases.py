@@ -1,14 +1,15 @@
-"""Cases of the two summations, for cases_step.py, in the form of step_cases.py. With its rule each
-comment names one scene."""
+"""Cases of the two summations, for cases_step.py, in the form of step_cases.py. Each comment of
+`sums`, with its rule, names one scene."""
 import math
 
 from parts.drawing import LARGEST
 from parts.rule_cases import of_ihmsen
-from parts.step_cases import passed_over, swept
+from parts.step_cases import readings, starred, swept
 from parts.step_scenes import BEDS, LEAST, faint, fluid, laden, level, scene, torn, under, weightless
 
 LARGE = 2.0**54                                        # 2 is lost beside it, 4 is not
-HIGH, LOW = 0.75 * 2.0**1023, -0.4375 * 2.0**1023      # three of HIGH overflow, and five of LOW
+HALF = 2.0**1023                                       # of what overflows
+HIGH, LOW = 0.75 * HALF, -0.4375 * HALF                # three of HIGH overflow, and five of LOW
 SALVAS, IHMSENS = (0, 2), (1, 3)                       # the rules of a criterion: in order, by halves
 
 
@@ -61,18 +62,20 @@ def fluids_apart():
 
 
 def overflows():
-    """A sum that is infinite in order alone, by halves alone, and one whose halves are infinite."""
-    for comment, terms, infinite, error in (
-            ("infinite in order", (HIGH, HIGH, HIGH, LOW), (0, 1), 3.0 * (HIGH / 4) + LOW / 4),
-            ("infinite by halves", (LOW, LOW, 0.0, 0.0, HIGH, HIGH, HIGH, 0.0), (2, 3),
-             (3.0 * (HIGH / 4) + LOW / 2) / 2)):
+    """A sum that is infinite in order alone, by halves alone, and one with two infinite halves."""
+    for comment, terms, infinite, total in (
+            ("infinite in order, 4 terms", (HIGH, HIGH, HIGH, LOW), (0, 1), 1.8125 * HALF),
+            ("infinite in order, 5 terms", (HIGH, HIGH, HIGH, LOW, LOW), (0, 1), 1.375 * HALF),
+            ("infinite by halves, 7 terms", (LOW, LOW, 0.0, HIGH, HIGH, HIGH, 0.0), (2, 3), 1.375 * HALF),
+            ("infinite by halves, 8 terms", (LOW, LOW, 0.0, 0.0, HIGH, HIGH, HIGH, 0.0), (2, 3), 1.375 * HALF)):
         for rule in range(4):
-            end = ("ranout", 1, math.inf) if rule in infinite else ("settled", 1, error)
+            end = ("ranout", 1, math.inf) if rule in infinite else ("settled", 1, total / len(terms))
             yield case(comment, rule, scene([laden(*terms)], BEDS, least=0, most=1, limit=LARGEST), *end)
-    halves = scene([laden(*[HIGH] * 5, *[LOW] * 5)], BEDS, least=0, most=1)
-    for rule, *end in ((0, "ranout", 1, math.inf), (1, "ranout", 1, math.inf), (2, "settled", 1, 0.0, 1),
-                       (3, "ranout", 1, math.nan)):
-        yield case("infinite halves of both signs", rule, halves, *end)
+    for low in 5, 6:
+        halves = scene([laden(*[HIGH] * 5, *[LOW] * low)], BEDS, least=0, most=1)
+        for rule, *end in ((0, "ranout", 1, math.inf), (1, "ranout", 1, math.inf), (2, "settled", 1, 0.0, 1),
+                           (3, "ranout", 1, math.nan)):
+            yield case("infinite halves of both signs, %d terms" % (5 + low), rule, halves, *end)
 
 
 def limits():
@@ -93,6 +96,8 @@ def minus_zeros():
             ("a term of -0 and one of +0", [level(2.0, -64.0)], 0.0),
             ("averages -0 and +0", [level(2.0), laden(0.0)], -0.0),
             ("averages +0 and -0", [laden(0.0), level(2.0)], 0.0),
+            ("averages -0 of two terms and +0", [level(2.0, 2.0), laden(0.0)], -0.0),
+            ("averages +0 and -0 of three terms", [laden(0.0), level(2.0, 2.0, 2.0)], 0.0),
             ("averages -0, +0 and -0", [level(2.0, 2.0), laden(0.0, 0.0), level(2.0)], -0.0),
             ("averages +0, -0 and +0", [laden(0.0), level(2.0), laden(0.0)], 0.0),
             ("averages -2, -0 and +0", [laden(-2.0), level(2.0), laden(0.0)], -0.0),
@@ -115,16 +120,20 @@ def minus_zeros():
 
 # ---- what the summation does not change
 
-def as_in_order():
-    """Under rule 3 what rule 1 has, and under rule 2 what rule 0 has: sums of one or two terms."""
+def as_rule_0():
+    """Several scenes may have the same comment."""
+    for comment, data, *pieces in [*starred(), *readings()]:
+        yield comment + ", rule 2", under(data, 2, 2), *pieces
+
+
+def as_rule_1():
+    """But for the sign of a sum of terms of -0."""
     sign = "terms of -0, by a rest density below 0, make error +0"
     for comment, data, *pieces in of_ihmsen():
         if comment != sign:
             yield comment + ", rule 3", under(data, 2, 3), *pieces
         else:
             yield case("terms of -0, by a rest density below 0", 3, data, "settled", 2, -0.0)
-    for comment, data, *pieces in passed_over():
-        yield comment + ", rule 2", under(data, 2, 2), *pieces
 
 
 def no_numbers():
@@ -149,4 +158,4 @@ def no_numbers():
 
 
 def sums():
-    return [*lost(), *fluids_apart(), *overflows(), *limits(), *minus_zeros(), *as_in_order(), *no_numbers()]
+    return [*lost(), *fluids_apart(), *overflows(), *limits(), *minus_zeros(), *as_rule_1(), *no_numbers()]
