@@ -15,8 +15,9 @@
 
    A packed scene has its fields most significant bit first, doubles as their 64 bits:
        header      version (4 bits, 1 or 2), fluids (4 bits, 0 to 8); boundaries (4 bits, 0 to 8),
-                   rule (4 bits, 0, or 1 in version 2); least iterations (1 byte); most iterations
-                   (1 byte); step length, remaining time, error limit, gravity (3): 52 bytes in all
+                   rule (4 bits, 0, in version 2 up to 3); least iterations (1 byte); most
+                   iterations (1 byte); step length, remaining time, error limit, gravity (3): 52
+                   bytes in all
        each fluid  count (2 bytes, 0 to 4096), rest density; then records: position, velocity,
                    acceleration (3 doubles each), volume, warm pressure, the numbers of fluid and of
                    boundary contacts (1 byte each), and those contacts: model (4 bits), particle
@@ -25,11 +26,12 @@
                    force (only if kept), the number of contacts (1 byte), and those contacts, to
                    boundaries: model (4 bits), particle (12 bits), weight
 
-   The rule is the stopping criterion: it names the error that has to be at most the error limit for
-   the iterations to end. Either error is an average over the particles of a fluid, in which one
-   whose pressure becomes 0 counts as 0, and of the fluids' averages the greatest. An iteration's
-   pressures are the same under both. Version 1 has rule 0 alone; else the versions are the same.
-   Choose rule 1, unless steps have to equal the Rust's, which they do under rule 0 alone.
+   The rule names the error that has to be at most the error limit for the iterations to end: its
+   stopping criterion, and how it is summed. Each error is an average over the particles of a fluid,
+   in which one whose pressure becomes 0 counts as 0, and of the fluids' averages the greatest. An
+   iteration's pressures are the same under all rules. Version 1 has rule 0 alone; else the versions
+   are the same. Choose rule 1, or for large fluids 3, unless steps have to equal the Rust's, which
+   they do under rule 0 alone.
         0  salva's: by how much the pressures lower the density, over the rest density. It grows
            with them, towards the compression that there would be without them, and stays there. So
            it can settle long before they are right, while they are still too low; and where that
@@ -39,6 +41,13 @@
            above the rest density, over the rest density. It tends to 0 as the pressures become
            right. It may be negative, so a negative limit can be met. Where the average of any fluid
            is not a number, neither is the error, and the iteration does not settle.
+        2  as 0, and
+        3  as 1, but with the particles' terms added by halves: a list of one is its term, a longer
+           one is split after its first half, rounded down, and the sums of both parts, found alike,
+           are added. Under 0 and 1 they are added in order, from +0 on, and a small term is lost
+           beside a large sum. By halves a term goes through 12 additions at most, in order through
+           4096. The work list is longer, by one double for each fluid particle. Under 3 the error
+           may be -0.
 
    A refusal has a number and an offset in the scene, that of the byte where the field, contact or
    record in question begins:
@@ -68,7 +77,12 @@
 #include <stdint.h>
 
 /* The rules, for the lower 4 bits of a packed scene's byte 1. */
-enum { IISPH_RULE_SALVA = 0, IISPH_RULE_IHMSEN2014 = 1 };
+enum {
+    IISPH_RULE_SALVA = 0,
+    IISPH_RULE_IHMSEN2014 = 1,
+    IISPH_RULE_SALVA_BY_HALVES = 2,
+    IISPH_RULE_IHMSEN2014_BY_HALVES = 3
+};
 
 #ifdef __cplusplus
 extern "C" {
@@ -77,16 +91,16 @@ extern "C" {
 /* One step. numbers: at least 4 elements. counts: at least 2 elements.
    answers: per fluid particle, fluid by fluid, position, velocity (3 doubles each) and pressure;
        then of each boundary particle the volume, and the force (3) where forces are kept.
-   work: scratch, 14 doubles for a fluid particle, 1 for a boundary particle; what it holds before
-       does not matter. iisph_needed tells both lengths.
+   work: scratch, 14 doubles for a fluid particle, under rules 2 and 3 15, and 1 for a boundary
+       particle; what it holds before does not matter. iisph_needed tells both lengths.
    Returns 0 if there was no iteration (the scene's most is 0), 1 if the iterations settled, 2 if
    they ran out. Then the needed part of answers is written, that of work is all +0, numbers[0] is
    the last iteration's error by the scene's rule (+0 if there was none), numbers[1] dt, numbers[2]
    1 / dt (0 for a dt of 0), numbers[3] the remaining time, counts[0] the number of iterations, and
-   counts[1] 1 if in the last iteration, under rule 0, the average error of some fluid was not a
-   number, else 0 (0 too if there was none). Such an average is passed over when the greatest is
-   taken: where counts[1] is 1, do not trust a 1 for settled. Under rule 1, where it is not passed
-   over, counts[1] is 0, and numbers[0] may be negative or, after a 2, not a number.
+   counts[1] 1 if in the last iteration, under rule 0 or 2, the average error of some fluid was not
+   a number, else 0 (0 too if there was none). Such an average is passed over when the greatest is
+   taken: where counts[1] is 1, do not trust a 1 for settled. Under rules 1 and 3, where it is not
+   passed over, counts[1] is 0, and numbers[0] may be negative or, after a 2, not a number.
    Refused by 1 to 10. Then answers, numbers and counts[0] are unchanged; the needed part of work is
    all +0 after 9 and 10, and work is unchanged after 1 to 8.
    Takes some 34 KiB of stack where the scene's index, as iisph_step_lent has it, is of at most 4096

@@ -111,7 +111,8 @@ class Warnings(unittest.TestCase):
         self.assertEqual(old.split("\n"), [no.split("\n")[0], UNTOLD, *no.split("\n")[1:]])
         yes, no, old = self.written["csv"]
         head, *rows = no.split("\n")[:-1]
-        self.assertEqual((old, head), (no, "kind,model,particle,x,y,z,vx,vy,vz,pressure,volume,fx,fy,fz,stopping"))
+        self.assertEqual((old, head), (no, "kind,model,particle,x,y,z,vx,vy,vz,pressure,volume,fx,fy,fz,stopping,"
+                                           "summation"))
         self.assertEqual(yes.split("\n")[:-1], [head + ",warning", *[row + "," + PASSED_OVER for row in rows]])
 
     def test_json_begins_with_its_warnings(self):
@@ -127,7 +128,7 @@ class Warnings(unittest.TestCase):
         for kind, n in ("fluid", 60), ("wall", 79):
             yes, no, old = [text.split("\n") for text in self.written[kind]]
             self.assertEqual(no[1], kind + " particles after a pressure step, held against the scene, "
-                                           "stopping by salva")
+                                           "stopping by salva, summed in order")
             self.assertEqual((yes[1], old[1]), ("%s; %s" % (WARNING, no[1]), "%s; %s" % (no[1], UNTOLD)))
             at = no.index("POINT_DATA %d" % n) + 1      # in front of the scalars: viewers show the first
             self.assertEqual(yes[2:], [*no[2:at], "SCALARS passed_over int 1", "LOOKUP_TABLE default", *"1" * n,

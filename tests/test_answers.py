@@ -156,7 +156,8 @@ class Reading(unittest.TestCase):
         for text, piece in (("refused 7 152\n", "tools/scene.py at 152 SCENE.bin"),
                             ("too long\n", "at most 32,768 bytes"),
                             ("", "`step ..`"), ("refused 77 1\n", "line 1"), ("refused 7 15", "cut off"),
-                            ("refused 8 0\n", "a work list of 14")):
+                            ("refused 8 0\n", "a work list of 14 for each fluid particle, or 15 where errors are "
+                                               "summed by halves, and 1 for each wall particle")):
             self.refused(text, piece)
         with self.assertRaises(commands.Wrong) as raised:
             answers.parse("refused 8 0\n")
@@ -169,6 +170,15 @@ class Pictures(unittest.TestCase):
         light = [0.2126 * int(c[1:3], 16) + 0.7152 * int(c[3:5], 16) + 0.0722 * int(c[5:], 16) for c in shades]
         self.assertTrue(all(a > b for a, b in zip(light, light[1:])))
         self.assertGreater(light[0] - light[-1], 200)
+
+    def test_colours_span_any_pressures(self):
+        pale, dark = answer_picture.colour(0), answer_picture.colour(1)
+        for least, most in (0.0, 5e-324), (-5e-324, 0.0), (-1.7e308, 1.7e308), (-1.0, 2.0):
+            answer = in_chamber()
+            for k, p in enumerate(answer.fluid):
+                p.pressure = most if k % 2 else least
+            drawn = ElementTree.fromstring(answers.picture(answer)[0]).findall("{*}g/{*}circle")
+            self.assertEqual([node.get("fill") for node in drawn], [pale] * 30 + [dark] * 30)
 
     def test_the_chamber(self):
         answer = in_chamber()

@@ -11,9 +11,9 @@ import unittest
 
 ROOT = pathlib.Path(__file__).resolve().parent.parent
 sys.path[:0] = [str(ROOT / "tools"), str(ROOT / "checks")]
-import chamber                 # noqa: E402
-import scene                   # noqa: E402
-from parts import step_rules   # noqa: E402
+import chamber                              # noqa: E402
+import scene                                # noqa: E402
+from parts import step_rules, step_scenes   # noqa: E402
 
 EXAMPLES = ROOT / "examples"
 NAMES = sorted(path.stem for path in EXAMPLES.glob("*.json"))
@@ -30,8 +30,8 @@ def stopped(stopping, limit, most):
 
 class Examples(unittest.TestCase):
     def test_each_is_packed_and_answered(self):
-        self.assertEqual(NAMES, ["chamber", "lost-neighbour", "scene-a", "scene-b", "scene-b-ihmsen", "torn-droplet",
-                                 "torn-droplet-faint", "torn-droplet-overflow"])
+        self.assertEqual(NAMES, ["chamber", "lost-neighbour", "scene-a", "scene-b", "scene-b-ihmsen", "slow-pair",
+                                 "slow-pair-by-halves", "torn-droplet", "torn-droplet-faint", "torn-droplet-overflow"])
         for name in NAMES:
             data, text = (EXAMPLES / (name + ".bin")).read_bytes(), (EXAMPLES / (name + ".txt")).read_text()
             packed, notes = scene.pack((EXAMPLES / (name + ".json")).read_text())
@@ -95,6 +95,20 @@ class Examples(unittest.TestCase):
                                          for name in ("scene-b", "scene-b-ihmsen"))
         self.assertEqual((rust, paper), ("step ranout 50 4000000000000000 0", "step settled 2 0000000000000000 0"))
         self.assertEqual(answer, same)
+
+    def test_the_slow_pair_is_lost_in_order_and_not_by_halves(self):
+        found = []
+        for name in "slow-pair", "slow-pair-by-halves":
+            text, data = (EXAMPLES / (name + ".txt")).read_text(), (EXAMPLES / (name + ".bin")).read_bytes()
+            read = step_rules.walk(data)
+            step_rules.step(read)
+            self.assertEqual([p.term for _, p in read.all], [2.0, 2.0, 2.0**-51, 2.0**-51])
+            limited = step_scenes.changed(data, 20, step_scenes.doubles(1.0))
+            found.append((*text.split("\n", 1), step_rules.lines(limited).split()[1:3], data[:1] + data[2:]))
+        (lost, answer, settled, bytes_but_1), (kept, *others) = found
+        self.assertEqual((lost, kept), ("step ranout 50 3FF0000000000000 0", "step ranout 50 3FF0000000000001 0"))
+        self.assertEqual(settled, ["settled", "2"])
+        self.assertEqual(others, [answer, ["ranout", "50"], bytes_but_1])
 
 
 if __name__ == "__main__":

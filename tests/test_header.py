@@ -49,9 +49,13 @@ class Header(unittest.TestCase):
     def test_names_the_rules_as_rust_does(self):
         in_c = re.findall(r"IISPH_RULE_(\w+) = (\d+)", HEADER)
         source = (ROOT / "bindings/rust/src/stopping.rs").read_text()
-        in_rust = [(name.upper(), number) for name, number in re.findall(r"^    (\w+) = (\d+),$", source, re.M)]
-        self.assertEqual(in_c, [("SALVA", "0"), ("IHMSEN2014", "1")])
-        self.assertEqual(in_rust, in_c)
+        in_rust = dict(re.findall(r"^    (\w+) = (\d+),$", source, re.M))
+        self.assertEqual(in_c, [("SALVA", "0"), ("IHMSEN2014", "1"), ("SALVA_BY_HALVES", "2"),
+                                ("IHMSEN2014_BY_HALVES", "3")])
+        self.assertEqual(list(in_rust), ["Salva", "Ihmsen2014", "InOrder", "ByHalves"])
+        self.assertEqual([str(int(in_rust[stopping]) + int(in_rust[summation]))
+                          for summation in ("InOrder", "ByHalves") for stopping in ("Salva", "Ihmsen2014")],
+                         [number for _, number in in_c])
 
     def test_fits_in_100_columns(self):
         self.assertEqual([line for line in HEADER.splitlines() if len(line) > 100], [])

@@ -125,6 +125,7 @@ class Run(unittest.TestCase):
                                ("step ranout 50 7FF8000000000000 0", NO_NUMBER),
                                ("step ranout 1 7FF0000000000000 0", None),
                                ("step settled 2 0000000000000000 0", None), ("step unswept 0", None),
+                               ("step settled 2 8000000000000000 0", None),
                                ("refused 7 1", None), ("too long", None)):
             text = first + "\nclock 1\nstep settled 1 0 1\n\n"
             (self.root / "scene.bin").write_text(text)

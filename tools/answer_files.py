@@ -26,7 +26,10 @@ def alarms(answer):
 
 
 def doubts(answer): return [UNTOLD] if answer.passed_over is None else []
-def stopping(answer): return ", stopping by " + answer.stopping if answer.stopping else ""
+
+
+def rule(answer):
+    return ", stopping by %s, summed %s" % (answer.stopping, answer.summation) if answer.stopping else ""
 
 
 # ---- table, CSV and JSON
@@ -37,7 +40,7 @@ def decimal(x): return "%.6g" % x
 def ended(answer):
     ending = ENDINGS[answer.ending]
     return "".join([ending % counted(answer.iterations, "iteration") if "%" in ending else ending,
-                    *[", error " + decimal(x) for x in answer.error], stopping(answer)])
+                    *[", error " + decimal(x) for x in answer.error], rule(answer)])
 
 
 def table(answer):
@@ -65,9 +68,9 @@ def columns(heads, rows):
 
 
 def csv(answer):
-    """By what iterations stopped, where it is known, and a warning stand in each row, in last columns
-    that other answers lack: so they are seen wherever the rows go, and the columns before them are
-    read as ever."""
+    """By what error iterations stopped and how it was summed, where it is known, and a warning stand
+    in each row, in last columns that other answers lack: so they are seen wherever the rows go, and
+    the columns before them are read as ever."""
     lines = ["kind,model,particle,x,y,z,vx,vy,vz,pressure,volume,fx,fy,fz"]
     lines += [",".join(["fluid", str(p.model), str(p.number), *map(repr, [*p.position, *p.velocity, p.pressure])])
               + ",,,," for p in answer.fluid]
@@ -75,7 +78,7 @@ def csv(answer):
         cells = ["wall", str(w.model), str(w.number), *(map(repr, w.position) if w.position else ["", "", ""]), "", "",
                  "", "", repr(w.volume)]
         lines.append(",".join(cells + (list(map(repr, w.force)) if w.force else ["", "", ""])))
-    more = [("stopping", answer.stopping)] * bool(answer.stopping)
+    more = [("stopping", answer.stopping), ("summation", answer.summation)] if answer.stopping else []
     for head, cell in more + [("warning", text) for text in warnings(answer).values()]:
         lines = [line + "," + (cell if k else head) for k, line in enumerate(lines)]
     return "\n".join(lines) + "\n"
@@ -98,6 +101,7 @@ def json(answer):
     return written({"warnings": [*warnings(answer).values(), *doubts(answer)], "ending": answer.ending,
                     "iterations": answer.iterations, "error": (numbers(answer.error) or [None])[0],
                     "passed_over": answer.passed_over, "held": answer.held, "stopping": answer.stopping,
+                    "summation": answer.summation,
                     "clock": dict(zip(["dt", "inv_dt", "remaining_time"], numbers(answer.clock))),
                     "fluid": fluid, "walls": walls}, width=300) + "\n"
 
@@ -108,7 +112,7 @@ def vtk(answer, kind, scalars, vectors):
     """Legacy VTK of points; what is not finite, or not kept, is written as 0 and marked, since
     readers stumble over it. Titles, of 255 letters at most, are rarely shown: so a warning is the
     first scalar too, which VTK makes the active one."""
-    title = "%s particles after a pressure step%s%s" % (kind, held(answer), stopping(answer))
+    title = "%s particles after a pressure step%s%s" % (kind, held(answer), rule(answer))
     particles, title = getattr(answer, kind), "; ".join([*alarms(answer), title, *doubts(answer)])
     n, scalars = len(particles), [*((name, "int", lambda p: 1) for name in warnings(answer)), *scalars]
     safe = lambda xs: " ".join(repr(x) if math.isfinite(x) else "0.0" for x in xs)

@@ -76,10 +76,9 @@ def squares(walls, spot, radius):
 
 def circles(fluid, spot, radius, least, most):
     """Coloured from the least pressure to the most, the highest on top."""
-    out = []
+    out, part = [], 2 if math.isinf(most - least) else 1      # halves, where the difference overflows
     for p in sorted(fluid, key=lambda p: p.pressure):
-        # halves, lest the difference overflows
-        share = (p.pressure / 2 - least / 2) / (most / 2 - least / 2) if most > least else 0.0
+        share = (p.pressure / part - least / part) / (most / part - least / part) if most > least else 0.0
         out.append('<circle cx="%.1f" cy="%.1f" r="%.1f" fill="%s" stroke="#555">'
                    '<title>fluid %d, particle %d: pressure %s</title></circle>'
                    % (*spot(p), radius, colour(share), p.model, p.number, decimal(p.pressure)))

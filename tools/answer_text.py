@@ -7,7 +7,7 @@ from types import SimpleNamespace as Record
 
 from commands import Wrong, counted
 from scene_json import tree
-from scene_walk import Walk, told
+from scene_walk import RULE, Walk, told
 
 REFUSALS = {1: "a field is not wholly there", 2: "another version than 1 or 2, or a rule that it does not have",
             3: "more than 8 fluids or walls", 4: "a count above 4,096", 5: "bytes follow the last record",
@@ -90,7 +90,7 @@ def no_answer(line, name):
         raise Wrong("the step refused the lists that it was lent, so there are no answers: %s (refusal 8)\n"
                     "lend an answer list of 7 doubles for each fluid particle, and "
                     "for each wall particle 1, or 4 where forces are kept; and a work list of 14 for each fluid "
-                    "particle and 1 for each wall particle "
+                    "particle, or 15 where errors are summed by halves, and 1 for each wall particle "
                     "(iisph_needed gives both lengths)" % REFUSALS[8])
     if refused:
         raise Wrong("the step refused this scene, so there are no answers: %s (refusal %s)\n"
@@ -108,7 +108,7 @@ def parse(text, name=None):
         raise Wrong("the last line has no end, so the text was cut off there; " + AGAIN)
     if len(lines) == 1:
         no_answer(lines[0], name)
-    answer = Record(ending=None, clock=None, fluid=[], wall=[], held=False, stopping=None)
+    answer = Record(ending=None, clock=None, fluid=[], wall=[], held=False, stopping=None, summation=None)
     for k, line in enumerate(lines, 1):
         try:
             line_into(answer, k, line.split(" "))
@@ -146,8 +146,8 @@ def hold(answer, data, name):
 
 
 def hold_ending(answer, scene, name, other):
-    """Holds how an answer ended to its scene, and takes from this by what iterations stopped, if
-    there were any."""
+    """Holds how an answer ended to its scene, and takes from this by what error iterations stopped
+    and how it was summed, if there were any."""
     most, settles = scene["most_iterations"], any(error <= scene["error_limit"] for error in answer.error)
     settles = settles and answer.iterations > scene["least_iterations"]
     if not {"unswept": most == 0, "settled": settles and answer.iterations <= most,
@@ -155,12 +155,14 @@ def hold_ending(answer, scene, name, other):
         raise Wrong("the answer ended after %s%s, which %s does not allow%s"
                     % (counted(answer.iterations, "iteration"),
                        "".join(" with error %r" % error for error in answer.error), name, other))
-    stopping = scene.get("stopping", "salva")
-    # the Rust's error is a number and not below 0; the paper's passes no average over
-    if not (all(error >= 0.0 for error in answer.error) if stopping == "salva" else answer.passed_over is False):
+    stopping, summation = (scene.get(key, words[0]) for key, words in RULE.items())      # version 1 names none
+    # the Rust's error is a number, neither below 0 nor -0; the paper's passes no average over
+    if not (all(error >= 0.0 and math.copysign(1.0, error) > 0.0 for error in answer.error) if stopping == "salva"
+            else answer.passed_over is False):
         raise Wrong("the answer's first line is none of a step that stops by %s, as %s does%s"
                     % (stopping, name, other))
-    answer.stopping = stopping if answer.error else None
+    if answer.error:
+        answer.stopping, answer.summation = stopping, summation
 
 
 def place_walls(answer, text, name):

@@ -21,9 +21,10 @@ An answer that is damaged, cut within a line or merged with another is refused. 
 lines of a fluid or wall are missing the text alone can't tell: with --scene the answer is held to
 the scene that it is of (how many particles each fluid and wall has, which walls keep forces, the
 clock, the iterations and the error); without it the table, the picture, the VTK files, `held` in
-the JSON and a note with the CSV say that it was not. With --scene it is told by what the iterations
-stopped, salva or ihmsen2014: in the table and the picture behind the error, in a column `stopping`
-of the CSV, as `stopping` in the JSON, which else is null, and in the title of the VTK files.
+the JSON and a note with the CSV say that it was not. With --scene it is told by what error the
+iterations stopped, salva or ihmsen2014, and how it was summed, in order or by halves: in the table
+and the picture behind the error, in columns `stopping` and `summation` of the CSV, as `stopping`
+and `summation` in the JSON, which else are null, and in the title of the VTK files.
 An answer has no positions of wall particles: WALLS.txt has a line for each, `WALL PARTICLE X Y Z`,
 and # begins a comment.
 By salva a step passes over a fluid's average error that is not a number, and its answer tells

@@ -16,6 +16,11 @@ class Misused(Exception):
 def counted(n, word): return "%d %s%s" % (n, word, "" if n == 1 else "s")
 
 
+def either(words):
+    *others, last = words
+    return ", ".join(others) + " or " * bool(others) + last
+
+
 def taken(tool, commands, arguments):
     """A known command's words and options, if they are as many and those that it takes. A negative
     number is a word, so that a command can tell what it takes in its place."""

@@ -20,7 +20,8 @@ what a step will refuse and, where the JSON leaves it open, by which error the i
 The JSON, in the words of docs/FORMAT.md. What has a value below is that where it is left out; a
 list that is left out is empty.
 
-  {"comment": "", "version": 1, "stopping": "salva", "least_iterations": 1, "most_iterations": 50,
+  {"comment": "", "version": 1, "stopping": "salva", "summation": "in order",
+   "least_iterations": 1, "most_iterations": 50,
    "step_length": .., "remaining_time": .., "error_limit": .., "gravity": [0, 0, 0],
    "fluids": [{"rest_density": .., "particles": [
      {"position": [0, 0, 0], "velocity": [0, 0, 0], "acceleration": [0, 0, 0],
@@ -31,8 +32,11 @@ list that is left out is empty.
      {"velocity": [0, 0, 0], "force": [0, 0, 0],
       "contacts": [{"wall": .., "particle": .., "weight": ..}]}]}]}
 
-Iterations stop by the error of the Rust, "salva", or by that of the 2014 paper, "ihmsen2014", which
-needs version 2. With "stopping" alone the version is 2; version 2 alone is refused.
+Iterations stop by the error of the Rust, "salva", or by that of the 2014 paper, "ihmsen2014". Of an
+error the terms, one for each particle of a fluid, are added "in order" or "by halves", which loses
+less of small ones in a large fluid. "ihmsen2014" and "by halves" need version 2, which is the
+version where "stopping" or "summation" is there and "version" is not; it is refused without
+"stopping". Without "summation" it is "in order", as its scenes were before they could name one.
 A double is a decimal or, in quotes, its 16 hex digits: 0.5 or "3FE0000000000000". `show --json`
 writes decimals that read back as the same double, and hex digits for what is infinite or not a
 number. A force may stand only where keeps_forces is true. The comment is not packed.

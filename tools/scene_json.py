@@ -5,9 +5,9 @@ import json
 import re
 import struct
 
-from commands import Wrong
-from scene_walk import CONTACT, CONTACTS, FLUID_PARTICLE, HEADER, MODELS, NAMED, PARTICLES, VERSIONS, WALL_PARTICLE
-from scene_walk import Walk, key_of, told
+from commands import Wrong, either
+from scene_walk import CONTACT, CONTACTS, FLUID_PARTICLE, HEADER, MODELS, NAMED, PARTICLES, WALL_PARTICLE
+from scene_walk import RULE, RULES, VERSIONS, Walk, key_of, told
 
 LONGEST = 32768      # of what the program reads
 LEFT_OUT = {"warm_pressure": 0, "least_iterations": 1, "most_iterations": 50, "keeps_forces": False}
@@ -140,27 +140,32 @@ def wall(path, value):
     return struct.pack(">H", keeps << 15 | len(found)) + records
 
 
+def quoted(words): return either(map(json.dumps, words))
+
+
 def chosen(path, value, words):
     """Takes one of these words or numbers; 1.0 and true are not 1."""
-    said = list(map(json.dumps, words))
-    if json.dumps(value) not in said:
-        raise Wrong("%s: give %s, not %.40s" % (path, " or ".join(said), json.dumps(value)))
+    if json.dumps(value) not in map(json.dumps, words):
+        raise Wrong("%s: give %s, not %.40s" % (path, quoted(words), json.dumps(value)))
     return value
 
 
 def version_and_rule(scene):
-    """Where a scene's JSON names a rule alone, the version is the one that has every rule; where it
-    names neither, they are 1 and 0, as ever."""
-    version = chosen("version", scene.get("version", max(VERSIONS) if "stopping" in scene else 1), VERSIONS)
+    """Where a scene's JSON names a part of a rule alone, the version is the one that has every rule;
+    where it names none, they are 1 and 0, as ever. A summation that is left out is in order, as in
+    all scenes of version 2 from before there was another."""
+    newest, stoppings = max(VERSIONS), quoted(RULE["stopping"])
+    version = chosen("version", scene.get("version", newest if any(key in scene for key in RULE) else 1), VERSIONS)
+    rule = tuple(chosen(key, scene.get(key, words[0]), words) for key, words in RULE.items())
+    for key, word, there in zip(RULE, rule, zip(*VERSIONS[version])):
+        if word not in there:
+            raise Wrong('%s: "%s" is none of version %d, which has %s; set version to %d, or leave the version out%s'
+                        % (key, word, version, quoted(dict.fromkeys(there)), newest,
+                           "" if "stopping" in scene else ", and give a stopping, " + stoppings))
     if version != 1 and "stopping" not in scene:
-        raise Wrong("stopping is missing, and version %d does not tell it; give %s"
-                    % (version, " or ".join(map(json.dumps, VERSIONS[version]))))
-    words = VERSIONS[max(VERSIONS)]
-    rule = words.index(chosen("stopping", scene.get("stopping", words[0]), words))
-    if rule >= len(VERSIONS[version]):
-        raise Wrong('stopping: "%s" is none of version %d, which has %s; set version to %d, or leave the version out'
-                    % (words[rule], version, " or ".join(map(json.dumps, VERSIONS[version])), max(VERSIONS)))
-    return version, rule
+        raise Wrong("stopping is missing, and %s does not tell it; give %s"
+                    % ("version %d" % version if "version" in scene else "a summation", stoppings))
+    return version, RULES.index(rule)
 
 
 def pack(text):
@@ -170,7 +175,7 @@ def pack(text):
         scene = json.loads(text, parse_constant=no_constant, object_pairs_hook=unique)
     except (ValueError, RecursionError) as e:
         raise Wrong("this is no JSON: %s; mend it there, or start from examples/scene-b-ihmsen.json" % e) from None
-    members("", scene, ["comment", "version", "stopping", "least_iterations", "most_iterations",
+    members("", scene, ["comment", "version", *RULE, "least_iterations", "most_iterations",
                         *[key for key, _ in HEADER], "fluids", "walls"])
     version, rule = version_and_rule(scene)
     fluids, walls = items("", scene, "fluids", MODELS), items("", scene, "walls", MODELS)

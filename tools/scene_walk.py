@@ -3,11 +3,14 @@ import math
 import struct
 from types import SimpleNamespace as Record
 
-from commands import counted
+from commands import counted, either
 
 MODELS, PARTICLES, NAMED, CONTACTS = 8, 4096, 4095, 255
-# The rules by which iterations may stop, of each version: rule 0 comes first.
-VERSIONS = {1: ["salva"], 2: ["salva", "ihmsen2014"]}
+# What a rule names: by which error iterations stop, and how that error's terms are added up.
+RULE = {"stopping": ("salva", "ihmsen2014"), "summation": ("in order", "by halves")}
+# Those of each version: rule 0 comes first.
+RULES = [(stopping, summation) for summation in RULE["summation"] for stopping in RULE["stopping"]]
+VERSIONS = {1: RULES[:1], 2: RULES}
 HEADER = [("step_length", 1), ("remaining_time", 1), ("error_limit", 1), ("gravity", 3)]
 FLUID_PARTICLE = ([("position", 3), ("velocity", 3), ("acceleration", 3), ("volume", 1), ("warm_pressure", 1)],
                   ["fluid contact", "wall contact"])
@@ -21,7 +24,7 @@ CONTACT = {"fluid contact": ("fluid", [("weight", 1), ("gradient", 3)]),
 def key_of(word): return word.replace(" ", "_") + "s"
 def span(at, size): return "byte %d" % at if size == 1 else "bytes %d to %d" % (at, at + size - 1)
 def titled(owner): return ", ".join("%s %d" % part for part in owner) or "header"
-def titled_rule(k, words): return "rule %d (%s)" % (k, words[k]) if k < len(words) else "rule %d" % k
+def titled_rule(k, rules): return "rule %d (%s, %s)" % (k, *rules[k]) if k < len(rules) else "rule %d" % k
 
 
 class Walk:
@@ -79,7 +82,7 @@ class Walk:
                            lambda n: {"version": n >> 4})
         if first >> 4 not in VERSIONS:
             self.fault(2, 0, "the version is %d, not %s; is this a packed scene? tools/scene.py pack makes one from "
-                       "JSON" % (first >> 4, " or ".join(map(str, VERSIONS))))
+                       "JSON" % (first >> 4, either(map(str, VERSIONS))))
         if first & 15 > MODELS:
             self.fault(3, 0, "%d fluids; leave out some, at most %d may be there" % (first & 15, MODELS))
         second = self.walls_and_rule(first)
@@ -97,22 +100,22 @@ class Walk:
     def walls_and_rule(self, first):
         """Byte 1. What its last four bits may be hangs on the version in byte 0, which is `first`;
         version 1 has a single rule, so its JSON and its text name none."""
-        version, words = first >> 4, VERSIONS.get(first >> 4, [])
+        version, rules = first >> 4, VERSIONS.get(first >> 4, [])
 
         def text(n):
-            return counted(n >> 4, "wall") + (", " + titled_rule(n & 15, words) if version != 1 or n & 15 else "")
+            return counted(n >> 4, "wall") + (", " + titled_rule(n & 15, rules) if version != 1 or n & 15 else "")
 
-        def parts(n): return {"stopping": words[n & 15]} if version != 1 and n & 15 < len(words) else {}
+        def parts(n): return dict(zip(RULE, rules[n & 15])) if version != 1 and n & 15 < len(rules) else {}
 
         both = self.whole((), "walls and rule", 1, text, parts)
         if both >> 4 > MODELS:
             self.fault(3, 1, "%d walls; leave out some, at most %d may be there" % (both >> 4, MODELS))
-        if words and both & 15 >= len(words):
-            ways = ["%02X hex there for %s" % (both & 0xF0 | k, titled_rule(k, words)) for k in range(len(words))]
-            ways += ["%02X hex at byte 0 for version %d, which has it" % (other << 4 | first & 15, other)
-                     for other in VERSIONS if both & 15 < len(VERSIONS[other])]
-            self.fault(2, 1, "rule %d, the last four bits of byte 1, is none of version %d; put %s"
-                       % (both & 15, version, " or ".join(ways)))
+        if rules and both & 15 >= len(rules):
+            ways = ["%02X hex for %s" % (both & 0xF0 | k, titled_rule(k, rules)) for k in range(len(rules))]
+            others = ["; or put %02X hex at byte 0 for version %d, which has it" % (other << 4 | first & 15, other)
+                      for other in VERSIONS if both & 15 < len(VERSIONS[other])]
+            self.fault(2, 1, "rule %d, the last four bits of byte 1, is none of version %d; put there %s"
+                       % (both & 15, version, either(ways) + "".join(others)))
         return both
 
     def count(self, owner, mask, parts=lambda n: {}):

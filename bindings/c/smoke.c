@@ -1,10 +1,11 @@
-/* Each function through the archives, on scene A of docs/FORMAT.md; the steps under both rules (endings.h); and the
-   check of one contact list on a scene that has ten. Prints `ok`, or the line of the first difference.
+/* Each function through the archives, on scene A of docs/FORMAT.md; the steps under all rules (endings.h, summation.h);
+   and the check of one contact list on a scene that has ten. Prints `ok`, or the line of the first difference.
    gcc -O2 -Wall -Wextra -Iinclude bindings/c/smoke.c target/staticlib/libiisph_c*.a -o target/smoke && target/smoke */
 #include "endings.h"
 #include "iisph.h"
 #include "packing.h"
 #include "same.h"
+#include "summation.h"
 #include <math.h>
 
 static void scene_a(void) { pack_scene(1, 0, 1); }
@@ -250,7 +251,7 @@ int main(void) {
     SAME(memcmp(answers, expected, sizeof expected) == 0);
     SAME(memcmp(numbers, expected_numbers, sizeof expected_numbers) == 0);
     SAME(counts[0] == 2 && counts[1] == 0 && counts[2] == 7);
-    if (endings()) return 1;
+    if (endings() || summation()) return 1;
 
     /* the kernel: the shapes at 0.5 are 0.25 and -1.5 */
     const double normalizer = 8 / 3.141592653589793;

@@ -1,6 +1,6 @@
-/* How many bytes of stack each function takes, as a table over scenes of four sizes. Fails if a call is refused, or if
-   the lent step takes 16 KiB or more. Each call has a stack of its own, painted before; it took what lies above the
-   lowest byte that has changed.
+/* How many bytes of stack each function takes, the most under any rule, as a table over scenes of four sizes. Fails if
+   a call is refused, or if the lent step takes 16 KiB or more. Each call has a stack of its own, painted before; it
+   took what lies above the lowest byte that has changed.
    gcc -O2 -Wall -Wextra -Iinclude bindings/c/stack.c target/staticlib/libiisph_c*.a -o target/stack && target/stack */
 #include "iisph.h"
 #include "packing.h"
@@ -11,7 +11,7 @@ enum { MODELS = 8, MOST = 4096, OF_A_KIND = MODELS * MOST };
 enum { STACK = 2 << 20, PAINT = 0xA5, LENT_LIMIT = 16 << 10 };
 
 static _Alignas(16) uint8_t stack[STACK];
-static double answers[(7 + 4) * OF_A_KIND], work[(14 + 1) * OF_A_KIND], numbers[4], kept[4] = {0.25}, out[1];
+static double answers[(7 + 4) * OF_A_KIND], work[(15 + 1) * OF_A_KIND], numbers[4], kept[4] = {0.25}, out[1];
 static uint64_t lent[4 + 16 * (2 * MODELS) + (2 + 1) * OF_A_KIND], counts[2], told;
 
 #define LIST(list) list, sizeof list / sizeof *list
@@ -74,7 +74,8 @@ static size_t bytes[FUNCTIONS][SIZES];
 
 /* whether function f on the scene of size s is done, with no more stack than it may take */
 static int measured(int f, int s) {
-    bytes[f][s] = taken(functions[f].call);
+    const size_t now = taken(functions[f].call);
+    if (bytes[f][s] < now) bytes[f][s] = now;
     if (told > 2) {
         printf("%s, %s: answered %d\n", functions[f].name, sizes[s].name, (int)told);
         return 0;
@@ -92,11 +93,20 @@ static void print_row(int f) {
     puts("");
 }
 
+/* the packed scene as version 2, under this rule */
+static void change_rule(unsigned rule) {
+    scene[0] = (uint8_t)(2 << 4 | (scene[0] & 15));
+    scene[1] = (uint8_t)((scene[1] & 0xF0) | rule);
+}
+
 int main(void) {
     int wrong = 0;
     for (int s = 0; s < SIZES; s++) {
         pack_scene(sizes[s].fluids, sizes[s].boundaries, sizes[s].particles);
-        for (int f = 0; f < FUNCTIONS; f++) wrong += !measured(f, s);
+        for (unsigned rule = IISPH_RULE_SALVA; rule <= IISPH_RULE_IHMSEN2014_BY_HALVES; rule++) {
+            change_rule(rule);
+            for (int f = 0; f < FUNCTIONS; f++) wrong += !measured(f, s);
+        }
     }
     printf("%-20s%9s%9s%9s%9s\n", "particles", sizes[0].name, sizes[1].name, sizes[2].name, sizes[3].name);
     for (int f = 0; f < FUNCTIONS; f++) print_row(f);

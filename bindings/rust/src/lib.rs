@@ -1,7 +1,7 @@
 //! One IISPH pressure step over a packed scene, and its smoothing kernel: a safe interface to
 //! the C archives, whose functions are proved to meet their contracts for all arguments.
-//! `include/iisph.h` has the format of a packed scene and of the lists; [`Scene::pack`] writes one, and
-//! [`Stopping`] tells which stopping criterion to choose for it.
+//! `include/iisph.h` has the format of a packed scene and of the lists; [`Scene::pack`] writes one.
+//! [`Stopping`] tells which stopping criterion to choose for it, and [`Summation`] how its error is summed.
 //! The specification's scene A as version 2, from its numbers to its answers:
 //!
 //! ```
@@ -51,7 +51,7 @@ pub use lists::{check_list, CheckedList, Contacts, Unchecked};
 pub use pack::{Boundary, BoundaryContact, BoundaryParticle, Contact, Fluid, FluidParticle, Misfit, Scene};
 pub use refusals::{KernelRefusal, Reason, Refusal};
 pub use solver::Solver;
-pub use stopping::{Stopping, Version};
+pub use stopping::{Stopping, Summation, Version};
 
 /// The lengths that the lists of a step must have at least.
 #[derive(Clone, Copy, Debug, PartialEq, Eq, Hash)]

@@ -11,7 +11,8 @@ const CONTACTS: usize = 255;
 /// error limit of salva's solver (1, 50 and 0.05), zeros, and no models.
 #[derive(Clone, Debug, PartialEq)]
 pub struct Scene {
-    /// As which version it is packed, and so under which [stopping criterion](crate::Stopping).
+    /// As which version it is packed, and so under which [stopping criterion](crate::Stopping) and with
+    /// which [summation](crate::Summation).
     pub version: Version,
     /// The iteration with this number, counted from 0, is the first that may be the last: at most 255.
     pub least_iterations: usize,

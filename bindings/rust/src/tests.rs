@@ -8,6 +8,7 @@ mod lists;
 mod packing;
 mod solver;
 mod stopping;
+mod summation;
 
 fn empty(most: usize) -> Scene {
     Scene { most_iterations: most, error_limit: 0.0, ..Default::default() }

@@ -61,6 +61,8 @@ impl Fields<'_> {
             (1, 0) => Version::One,
             (2, 0) => Version::Two(Stopping::Salva),
             (2, 1) => Version::Two(Stopping::Ihmsen2014),
+            (2, 2) => Version::TwoByHalves(Stopping::Salva),
+            (2, 3) => Version::TwoByHalves(Stopping::Ihmsen2014),
             form => panic!("no such version and rule: {form:?}"),
         };
         let (least_iterations, most_iterations) = (self.whole(1), self.whole(1));

@@ -202,7 +202,7 @@ fn fields_are_refused_before_any_list_is_looked_at() {
     for (scene, reason, offset) in [
         (whole[..LENGTH - 1].to_vec(), Reason::Missing, LENGTH - 1),
         (changed(0, 0x3320), Reason::Form, 0),
-        (changed(0, 0x2322), Reason::Form, 1),
+        (changed(0, 0x2324), Reason::Form, 1),
         (changed(0, 0x1920), Reason::Models, 0),
         (changed(52, 4097), Reason::Count, 52),
         ([&whole[..], &[0]].concat(), Reason::Trailing, LENGTH),

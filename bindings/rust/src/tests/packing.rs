@@ -2,7 +2,7 @@
 use super::fields::Fields;
 use super::*;
 
-pub const EXAMPLES: [&[u8]; 7] = [
+pub const EXAMPLES: [&[u8]; 9] = [
     include_bytes!("../../../../examples/scene-a.bin"),
     include_bytes!("../../../../examples/scene-b.bin"),
     include_bytes!("../../../../examples/chamber.bin"),
@@ -10,6 +10,8 @@ pub const EXAMPLES: [&[u8]; 7] = [
     include_bytes!("../../../../examples/torn-droplet-faint.bin"),
     include_bytes!("../../../../examples/torn-droplet-overflow.bin"),
     include_bytes!("../../../../examples/scene-b-ihmsen.bin"),
+    include_bytes!("../../../../examples/slow-pair.bin"),
+    include_bytes!("../../../../examples/slow-pair-by-halves.bin"),
 ];
 
 #[test]

@@ -11,13 +11,13 @@ fn under(stopping: Stopping, scene: Scene) -> Vec<u8> {
 }
 
 // how the iterations end, how many there are, and whether an average was passed over
-fn ended(scene: &[u8]) -> (Ending, u64, bool) {
+pub fn ended(scene: &[u8]) -> (Ending, u64, bool) {
     let report = stepped(scene).unwrap().0;
     (report.ending, report.iterations, report.passed_over)
 }
 
 // the error that is not a number is equal to none, so it is told apart here
-fn runs_out_without_a_number(scene: &[u8], most: u64) -> bool {
+pub fn runs_out_without_a_number(scene: &[u8], most: u64) -> bool {
     let (ending, iterations, passed_over) = ended(scene);
     matches!(ending, RanOut(error) if error.is_nan()) && iterations == most && !passed_over
 }
@@ -148,16 +148,18 @@ fn versions_and_rules_are_refused_as_they_are_read() {
         (0x00, 0x00, Reason::Form, 0),
         (0x39, 0x9F, Reason::Form, 0),
         (0xF0, 0x00, Reason::Form, 0),
-        (0x29, 0x92, Reason::Models, 0),
+        (0x29, 0x94, Reason::Models, 0),
         (0x10, 0x91, Reason::Models, 1),
-        (0x20, 0x92, Reason::Models, 1),
+        (0x20, 0x94, Reason::Models, 1),
         (0x10, 0x81, Reason::Form, 1),
-        (0x20, 0x82, Reason::Form, 1),
+        (0x10, 0x02, Reason::Form, 1),
+        (0x10, 0x83, Reason::Form, 1),
+        (0x20, 0x84, Reason::Form, 1),
         (0x20, 0x0F, Reason::Form, 1),
     ] {
         assert_eq!(told(first, second), refused(reason, offset), "{first:02X} {second:02X}");
     }
-    for (first, second) in [(0x10, 0x00), (0x20, 0x00), (0x20, 0x01)] {
+    for (first, second) in [(0x10, 0x00), (0x20, 0x00), (0x20, 0x01), (0x20, 0x02), (0x20, 0x03)] {
         assert_eq!(told(first, second), Ok(Lengths { answers: 0, work: 0 }));
     }
 }
@@ -168,7 +170,8 @@ fn refusals_of_versions_rules_and_models_say_what_to_do() {
     assert_eq!(
         text(Reason::Form),
         "refused 2 at byte 1: the version is neither 1 nor 2, or does not have the rule; \
-         write version 1 with rule 0, or version 2 with rule 0 (salva) or 1 (Ihmsen 2014)"
+         write version 1 with rule 0, or version 2 with rule 0 (salva) or 1 (Ihmsen 2014), \
+         or with 2 or 3 for these by halves"
     );
     assert_eq!(
         text(Reason::Models),

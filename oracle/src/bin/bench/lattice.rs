@@ -99,7 +99,7 @@ impl Lattice {
 }
 
 /// Fluids of side × side × side particles, each upon a wall of side × side that keeps its forces.
-/// The last iteration is the first that may settle, so all are carried out, under either rule.
+/// The last iteration is the first that may settle, so all are carried out, under every rule.
 pub fn packed_lattice(fluids: usize, side: i32, iterations: u8, number: i32) -> Vec<u8> {
     let lattice = Lattice { side, number };
     let mut packed = Packed(vec![0x10 | fluids as u8, 0x10, iterations.saturating_sub(1), iterations]);
@@ -114,10 +114,10 @@ pub fn packed_lattice(fluids: usize, side: i32, iterations: u8, number: i32) -> 
     packed.0
 }
 
-/// The same scene as version 2, under the rule of Ihmsen et al. 2014. Its answers are the same too.
-pub fn under_ihmsen(scene: &[u8]) -> Vec<u8> {
+/// The same scene as version 2, under another rule. Its answers are the same too.
+pub fn under_rule(scene: &[u8], rule: u8) -> Vec<u8> {
     let mut twin = scene.to_vec();
     twin[0] = 0x20 | twin[0] & 15;
-    twin[1] |= 1;
+    twin[1] |= rule;
     twin
 }

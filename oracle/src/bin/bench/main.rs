@@ -1,12 +1,13 @@
 //! Times our step and the Rust's on the same packed lattice scenes, in one process. Ours takes the
 //! packed scene, so it also checks and decodes it; the Rust's structures are filled before the clock
 //! starts. With libiisph_c.a built (`rt staticlib iisph_c`), in the folder oracle:
-//!   cargo run --release --offline --features bench,lent --bin bench -- [REPEATS [SIZES [ihmsen]]]
+//!   cargo run --release --offline --features bench,lent --bin bench -- [REPEATS [SIZES [ihmsen] [halves]]]
 //!
 //! Times are the best of REPEATS (15). SIZES, such as 1,8,10000x8, names those of the first column
 //! that are to be timed; `all`, or none, stands for all. With the word `ihmsen`, `iisph_step` is also
-//! timed on each scene as version 2, under the rule of Ihmsen et al. 2014. Without the feature `lent`
-//! an archive can be linked that has no `iisph_step_lent`.
+//! timed on each scene as version 2, under the rule of Ihmsen et al. 2014; with the word `halves`,
+//! under the Rust's rule summed by halves. Without the feature `lent` an archive can be linked that has
+//! no `iisph_step_lent`.
 
 mod lattice;
 mod ours;
@@ -15,7 +16,7 @@ mod timing;
 
 use oracle::scene::{read, Scene};
 
-use lattice::{packed_lattice, under_ihmsen};
+use lattice::{packed_lattice, under_rule};
 use ours::Ours;
 use rusts::{compare, Rusts};
 use timing::{Timer, Way};
@@ -24,8 +25,25 @@ use Scenes::{Different, Same};
 /// The last column is that of `iisph_step`: nanoseconds for each contact in each iteration.
 const HEAD: &str = "particles contacts iterations    step ms    lent ms    rust ms  step/rust  lent/rust  ns/contact";
 
-/// What follows with the word `ihmsen`; `step` is the time under the Rust's rule.
-const IHMSEN_HEAD: &str = "  ihmsen ms ihmsen/step";
+/// A rule beside the Rust's, which a word asks for.
+struct Rule {
+    word: &'static str,
+    number: u8,
+}
+
+/// In the order of their columns.
+const RULES: [Rule; 2] = [Rule { word: "ihmsen", number: 1 }, Rule { word: "halves", number: 2 }];
+
+impl Rule {
+    /// The heads of its columns; `step` is the time under the Rust's rule.
+    fn head(&self) -> String {
+        format!("  {} ms {}/step", self.word, self.word)
+    }
+
+    fn columns(&self, ms: f64, step: f64) -> String {
+        format!(" {:>10} {:11.3}", digits(ms), ms / step)
+    }
+}
 
 struct Size {
     name: &'static str,
@@ -68,25 +86,27 @@ impl Size {
     }
 
     /// Times one row and prints it.
-    fn row(&self, iterations: u8, repeats: usize, ihmsen: bool) {
+    fn row(&self, iterations: u8, repeats: usize, rules: &[&Rule]) {
         let packed = self.packed(iterations);
-        let twins: Option<Vec<Vec<u8>>> = ihmsen.then(|| packed.iter().map(|scene| under_ihmsen(scene)).collect());
+        let under = |rule: &&Rule| packed.iter().map(|scene| under_rule(scene, rule.number)).collect();
+        let twins: Vec<Vec<Vec<u8>>> = rules.iter().map(under).collect();
         let scenes: Vec<Scene> = packed.iter().map(|bytes| read(bytes).ok().expect("a scene is accepted")).collect();
         let (mut step, mut lent, mut rust) = (Ours::new(&packed), Ours::lent(&packed), Rusts::new(&scenes));
-        let mut ihmsen = twins.as_deref().map(Ours::new);
+        let mut others: Vec<Ours> = twins.iter().map(|scenes| Ours::new(scenes)).collect();
         let mut ways: Vec<&mut dyn Way> = vec![&mut rust, &mut step];
-        ways.extend(lent.iter_mut().chain(&mut ihmsen).map(|way| way as &mut dyn Way));
+        ways.extend(lent.iter_mut().chain(&mut others).map(|way| way as &mut dyn Way));
         let times = Timer::new(matches!(self.scenes, Different(_))).best(&mut ways, repeats);
-        for ours in [Some(&step), lent.as_ref(), ihmsen.as_ref()].into_iter().flatten() {
+        for ours in [&step].into_iter().chain(&lent).chain(&others) {
             rust.states.iter().zip(&ours.answers).for_each(|(state, answers)| compare(state, answers));
         }
         let told = if matches!(self.scenes, Same(_)) { 1 } else { scenes.len() };
         let contacts = told * contacts(&scenes[0]);
         let mut ms = times.iter().map(|pass| pass * 1e3 * told as f64 / scenes.len() as f64);
         let mut next = || ms.next().expect("every way has a time");
-        let (rust, step, lent, ihmsen) = (next(), next(), lent.map(|_| next()), ihmsen.map(|_| next()));
-        let columns = columns(rust, step, lent, contacts * iterations as usize) + &ihmsen_columns(ihmsen, step);
-        println!("{:>9} {contacts:8} {iterations:10} {columns}", self.name);
+        let (rust, step, lent) = (next(), next(), lent.map(|_| next()));
+        let others: String = rules.iter().map(|rule| rule.columns(next(), step)).collect();
+        let columns = columns(rust, step, lent, contacts * iterations as usize);
+        println!("{:>9} {contacts:8} {iterations:10} {columns}{others}", self.name);
     }
 }
 
@@ -105,10 +125,6 @@ fn columns(rust: f64, step: f64, lent: Option<f64>, contacts: usize) -> String {
     format!("{step_ms:>10} {lent_ms:>10} {rust_ms:>10} {times:10.3} {lent_times:>10} {each:>11}")
 }
 
-fn ihmsen_columns(ihmsen: Option<f64>, step: f64) -> String {
-    ihmsen.map_or(String::new(), |ms| format!(" {:>10} {:11.3}", digits(ms), ms / step))
-}
-
 /// Four digits that count.
 fn digits(x: f64) -> String {
     format!("{x:.*}", (3.0 - x.log10().floor()).max(0.0) as usize)
@@ -116,7 +132,7 @@ fn digits(x: f64) -> String {
 
 fn wrong_use() -> ! {
     let names = SIZES.map(|size| size.name).join(",");
-    eprintln!("use: bench [REPEATS [SIZES [ihmsen]]], a number, and all or some of {names}");
+    eprintln!("use: bench [REPEATS [SIZES [ihmsen] [halves]]], a number, and all or some of {names}");
     std::process::exit(2)
 }
 
@@ -126,14 +142,15 @@ fn main() {
     let listed = arguments.next().filter(|text| text != "all");
     let wanted: Option<Vec<&str>> = listed.as_ref().map(|text| text.split(',').collect());
     let known = |name: &&str| SIZES.iter().any(|size| size.name == *name);
-    let word = arguments.next();
-    let ihmsen = word.as_deref() == Some("ihmsen");
-    let misspelt = word.is_some() && !ihmsen;
-    if arguments.next().is_some() || misspelt || repeats == 0 || !wanted.iter().flatten().all(known) {
+    let words: Vec<String> = arguments.collect();
+    let rules: Vec<&Rule> = RULES.iter().filter(|rule| words.iter().any(|word| word == rule.word)).collect();
+    // misspelt or twice there
+    let unused = words.len() > rules.len();
+    if unused || repeats == 0 || !wanted.iter().flatten().all(known) {
         wrong_use();
     }
-    println!("{HEAD}{}", if ihmsen { IHMSEN_HEAD } else { "" });
+    println!("{HEAD}{}", rules.iter().map(|rule| rule.head()).collect::<String>());
     for size in SIZES.iter().filter(|size| wanted.as_ref().is_none_or(|names| names.contains(&size.name))) {
-        size.iterations.iter().for_each(|iterations| size.row(*iterations, repeats, ihmsen));
+        size.iterations.iter().for_each(|iterations| size.row(*iterations, repeats, &rules));
     }
 }
