@@ -1,3 +1,4 @@
 pub mod Scenes
 pub mod Walks
 pub mod Versions
+pub mod Rules

@@ -1,6 +1,6 @@
--- Two packed scenes that are the same but for the version are checked alike: their walks go side by side, one law for
--- each way of joining steps, since every step behind byte 0 reads the same and leads on. In byte 0 and byte 1 a known
--- version and a known rule are passed, whichever they are. Assumes nothing.
+-- Two packed scenes that are the same but for version and rule are checked alike: their walks go side by side, one law
+-- for each way of joining steps, since every step behind byte 1 reads the same and leads on. In byte 0 and byte 1 a
+-- known version and a known rule are passed, whichever they are. Assumes nothing.
 use Prim.Native.Nat.{ℕ, zero, suc, _+_, _≤_}
 use mathlib.Core.Path.{_≡_, refl, ap}
 use mathlib.Core.Bool.{Bool, true, false, not}
@@ -23,8 +23,8 @@ use Rattle.scene_walk.specs.Walk.{header, contact, fluidRecord, boundaryRecord,
 use Rattle.scene_walk.specs.Walk.{fields}
 use Rattle.scene_check.specs.Walk.{name, names, recordNamesOf, modelNamesOf, modelsNamesOf, allNames, checked}
 use Rattle.scene_check.proofs.OwnBytes.{same-be64}
-use Rattle.iisph_versions.specs.Versions.{SameButVersion, KnownForm, SameChecks}
-use Rattle.iisph_versions.proofs.Scenes.{bytes-from, be16-same, model-number-same, particles-at-same}
+use Rattle.iisph_versions.specs.Versions.{SameButForm, KnownForm, SameChecks}
+use Rattle.iisph_versions.proofs.Scenes.{bytes-from, be16-same, particles-at-same}
 use Rattle.iisph_versions.proofs.Scenes.{keeps-at-same, contact-count-same, boundary-contact-count-same}
 use Rattle.iisph_versions.proofs.Scenes.{counts-same}
 
@@ -39,9 +39,9 @@ data Together (P : ℕ → Type 0) : Walk → Walk → Type 0 where
 abbrev StepsTogether : (ℕ → Type 0) → (ℕ → Type 0) → (ℕ → Walk) → (ℕ → Walk) → Type 0
 StepsTogether P Q f f′ = (at : ℕ) → P at → Together Q (f at) (f′ at)
 
--- from behind byte 0 on
+-- from behind byte 1 on
 abbrev Behind : ℕ → Type 0
-Behind at = 1 ≤ at
+Behind at = 2 ≤ at
 
 abbrev Alongside : (ℕ → Walk) → (ℕ → Walk) → Type 0
 Alongside f f′ = StepsTogether Behind Behind f f′
@@ -88,7 +88,7 @@ half-counted : {P : ℕ → Type 0} {x x′ : ℕ} (at : ℕ) {w w′ : Walk} �
 unfolding halfByte
 half-counted at e t = tested _ (cc) t
 
-module _ {b b′ : List ℕ} (s : SameButVersion b b′) where
+module _ {b b′ : List ℕ} (s : SameButForm b b′) where
   -- ---- single fields
 
   field-steps : {P Q : ℕ → Type 0} (k : ℕ) {rule rule′ : ℕ → Walk} → StepsTogether P Q rule rule′
@@ -136,7 +136,7 @@ module _ {b b′ : List ℕ} (s : SameButVersion b b′) where
       doubles-alongside _ at h then plain-alongside 1
       then times-alongside (boundary-contact-count-same s k at h) (contact-alongside _)
 
-  record-alongside : (κ : Kind) (head : ℕ) → 1 ≤ head → Alongside (recordOf κ b head) (recordOf κ b′ head)
+  record-alongside : (κ : Kind) (head : ℕ) → 2 ≤ head → Alongside (recordOf κ b head) (recordOf κ b′ head)
   unfolding recordOf
   record-alongside Fluid head l = fluid-record-alongside
   record-alongside Boundary head l = rw (← keeps-at-same s head l) (boundary-record-alongside (keepsAt b head))
@@ -153,7 +153,7 @@ module _ {b b′ : List ℕ} (s : SameButVersion b b′) where
 
   models-alongside : (κ : Kind) → Alongside (modelsOf κ b) (modelsOf κ b′)
   unfolding modelsOf
-  models-alongside κ = times-alongside (model-number-same s κ) (model-alongside κ)
+  models-alongside κ = times-alongside (s .models κ) (model-alongside κ)
 
   -- ---- names
 
@@ -163,7 +163,7 @@ module _ {b b′ : List ℕ} (s : SameButVersion b b′) where
   names-alongside w e q =
       times-alongside q (λ at h. tested _ (cc (be16-same s at h)) (reached (omega arith)))
 
-  record-names-alongside : (κ : Kind) (head : ℕ) → 1 ≤ head
+  record-names-alongside : (κ : Kind) (head : ℕ) → 2 ≤ head
       → Alongside (recordNamesOf κ b head) (recordNamesOf κ b′ head)
   unfolding recordNamesOf
   record-names-alongside Fluid head l at h =
@@ -182,7 +182,7 @@ module _ {b b′ : List ℕ} (s : SameButVersion b b′) where
 
   models-names-alongside : (κ : Kind) → Alongside (modelsNamesOf κ b) (modelsNamesOf κ b′)
   unfolding modelsNamesOf
-  models-names-alongside κ = times-alongside (model-number-same s κ) (model-names-alongside κ)
+  models-names-alongside κ = times-alongside (s .models κ) (model-names-alongside κ)
 
   names-together : Together Behind (allNames b) (allNames b′)
   unfolding allNames
@@ -196,7 +196,7 @@ module _ {b b′ : List ℕ} (s : SameButVersion b b′) where
         (halves b′ (Between firstVersion lastVersion) ModelCount)
     unfolding halves
     first-byte = field-steps 1
-        (λ at e. rw e (half-passed 0 (f .version) (f′ .version) (half-counted 0 (s .fluids) (reached refl))))
+        (λ at e. rw e (half-passed 0 (f .version) (f′ .version) (half-counted 0 (s .models Fluid) (reached refl))))
 
     -- byte 1: there are as many boundaries, and the rule is passed
     second-byte : StepsTogether (λ at. at ≡ 1) Behind (halves b ModelCount (Between 0 (mostRule (versionOf b))))
@@ -205,7 +205,7 @@ module _ {b b′ : List ℕ} (s : SameButVersion b b′) where
     second-byte = field-steps 1
         (λ at e.
         let rules = half-passed 1 (omega arith, f .rule) (omega arith, f′ .rule) (reached (omega arith)) in
-        rw e (half-counted 1 (model-number-same s Boundary) rules))
+        rw e (half-counted 1 (s .models Boundary) rules))
 
     header-together : Together Behind (header b 0) (header b′ 0)
     unfolding header

@@ -1,5 +1,6 @@
--- What the version of a packed scene changes (FORMAT 1): version 2 has the layout of version 1 and a rule where that
--- has zeros, so with rule 0 both have one result. Each claim is one type, and proofs/ proves it.
+-- What version and rule of a packed scene change (FORMAT 1): version 2 has the layout of version 1 and a rule where that
+-- has zeros, so with rule 0 both have one result; and a rule acts through the error of the iterations alone, so where
+-- there are as many of them the answers are the same by every rule. Each claim is one type, and proofs/ proves it.
 -- Definitions only.
 use Prim.Native.Nat.{ℕ, _+_, _*_, _≤_}
 use mathlib.Core.Path.{_≡_}
@@ -8,20 +9,24 @@ use lib.Ieee.{Float}
 use lib.ListN.{length}
 use Rattle.scene_format.specs.Bytes.{byteAt}
 use Rattle.scene_format.specs.Format.{halfModulus, lowerHalf, versionOf, firstVersion, lastVersion, ruleOf, mostRule}
-use Rattle.scene_format.specs.Format.{modelNumber, locationsOf}
+use Rattle.scene_format.specs.Format.{criterionOf, summationOf, minPressureIterOffset, modelNumber, locationsOf}
+use Rattle.scene_format.specs.Scene.{Scene, Header}
 use Rattle.scene_format.specs.SceneOf.{sceneOf}
+use Rattle.scene_format.specs.declared.Criterion.{Criterion}
 use Rattle.scene_format.specs.declared.Kind.{Kind}
-use Rattle.scene_format.specs.declared.Kind.the-variants.{Fluid}
+use Rattle.scene_format.specs.declared.Summation.{Summation}
 use Rattle.scene_check.specs.Walk.{checked}
-use Rattle.iisph_rules.specs.Answer.{stepAnswer, answersAfter, workAfter}
+use Rattle.iisph_rules.specs.Step.{answersOf}
+use Rattle.iisph_rules.specs.Answer.{stepAnswer, answersAfter, workAfter, Accepted}
+use Rattle.iisph_rules.specs.PassedOver.{iterationAt}
 
 -- ---- two packed scenes
 
--- they are the same but for the version, which is half of byte 0
-pub record SameButVersion (b b′ : List ℕ) : Type 0 where
+-- they are the same but for version and rule, each half of one of the first two bytes
+pub record SameButForm (b b′ : List ℕ) : Type 0 where
   pub long : length b ≡ length b′
-  pub fluids : modelNumber Fluid b ≡ modelNumber Fluid b′
-  pub behind : (at : ℕ) → 1 ≤ at → byteAt b at ≡ byteAt b′ at
+  pub models : (κ : Kind) → modelNumber κ b ≡ modelNumber κ b′
+  pub behind : (at : ℕ) → minPressureIterOffset ≤ at → byteAt b at ≡ byteAt b′ at
 
 -- the version is known, and the rule is one of that version's: refusal 2 meets neither
 pub record KnownForm (b : List ℕ) : Type 0 where
@@ -35,23 +40,51 @@ pub record SameResult (b b′ : List ℕ) : Type 0 where
       → answersAfter b answers work old ≡ answersAfter b′ answers work old
   pub workList : (answers work : ℕ) (old : List Float) → workAfter b answers work old ≡ workAfter b′ answers work old
 
--- ---- the claims, of any two that are the same but for the version
+-- ---- the claims, of any two that are the same but for version and rule
 
--- the scene and where its records stand never depend on it
+-- the scene by another criterion and summation
+unfoldable pub headerBy : Criterion → Summation → Header → Header
+headerBy criterion summation h =
+    record {
+      axes = h .axes;
+      criterion = criterion;
+      summation = summation;
+      minPressureIter = h .minPressureIter;
+      maxPressureIter = h .maxPressureIter;
+      totalStepSize = h .totalStepSize;
+      remainingTime = h .remainingTime;
+      maxDensityError = h .maxDensityError;
+      gravity = h .gravity;
+    }
+
+unfoldable pub sceneBy : Criterion → Summation → Scene → Scene
+sceneBy criterion summation s =
+    record {
+      header = headerBy criterion summation (s .header);
+      fluidCounts = s .fluidCounts;
+      fluidParticles = s .fluidParticles;
+      boundaryParticles = s .boundaryParticles;
+    }
+
+-- the scene depends on the rule through these two, and on nothing else of both; where its records stand on neither
 abbrev pub SameScenes : Type 0
-SameScenes = (b b′ : List ℕ) → SameButVersion b b′ → sceneOf b ≡ sceneOf b′
+SameScenes =
+    (b b′ : List ℕ) → SameButForm b b′
+    → sceneOf b′ ≡ sceneBy (criterionOf (ruleOf b′)) (summationOf (ruleOf b′)) (sceneOf b)
 
 abbrev pub SameLocations : Type 0
-SameLocations = (b b′ : List ℕ) → SameButVersion b b′ → (κ : Kind) → locationsOf κ b ≡ locationsOf κ b′
+SameLocations = (b b′ : List ℕ) → SameButForm b b′ → (κ : Kind) → locationsOf κ b ≡ locationsOf κ b′
 
--- the check, and with it the step, only through refusal 2
+-- the check only through refusal 2
 abbrev pub SameChecks : Type 0
-SameChecks = (b b′ : List ℕ) → SameButVersion b b′ → KnownForm b → KnownForm b′ → checked b ≡ checked b′
+SameChecks = (b b′ : List ℕ) → SameButForm b b′ → KnownForm b → KnownForm b′ → checked b ≡ checked b′
 
+-- ---- the claims, of versions
+
+-- with one rule, the step only through refusal 2
 abbrev pub SameResults : Type 0
-SameResults = (b b′ : List ℕ) → SameButVersion b b′ → KnownForm b → KnownForm b′ → SameResult b b′
-
--- ---- the claim, of version 1 and version 2
+SameResults =
+    (b b′ : List ℕ) → SameButForm b b′ → ruleOf b ≡ ruleOf b′ → KnownForm b → KnownForm b′ → SameResult b b′
 
 -- the same bytes with another version's number
 unfoldable pub asVersion : ℕ → List ℕ → List ℕ
@@ -61,3 +94,22 @@ asVersion version (x ∷ b) = (halfModulus * version + lowerHalf x) ∷ b
 -- as version 2, with rule 0, a scene has the result that it has as version 1
 abbrev pub RuleZeroSame : Type 0
 RuleZeroSame = (b : List ℕ) → versionOf b ≡ firstVersion → ruleOf b ≡ 0 → SameResult (asVersion 2 b) b
+
+-- ---- the claims, of rules
+
+-- after each iteration the pressures are the same by every criterion and summation
+abbrev pub SamePressures : Type 0
+SamePressures =
+    (criterion : Criterion) (summation : Summation) (s : Scene) (k : ℕ)
+    → iterationAt (sceneBy criterion summation s) k .pressures ≡ iterationAt s k .pressures
+
+-- a rule that the version has makes no other scene refused
+abbrev pub RuleRefusesNone : Type 0
+RuleRefusesNone = (b b′ : List ℕ) → SameButForm b b′ → KnownForm b → KnownForm b′ → Accepted b → Accepted b′
+
+-- where two steps take as many iterations, the answers are the same: a rule acts through that number alone
+abbrev pub RuleByIterations : Type 0
+RuleByIterations =
+    (b b′ : List ℕ) → SameButForm b b′ → (a : Accepted b) (a′ : Accepted b′)
+    → a .report .iterations ≡ a′ .report .iterations
+    → (answersOf (sceneOf b) ≡ answersOf (sceneOf b′)) × (a .report .clock ≡ a′ .report .clock)
