@@ -13,7 +13,8 @@ prints the program's lines.
 
 data/scenes has for each case the scene's length in four bytes, most significant first, and the
 scene; stdout has the lines of all cases in the same order. cases_short_lists runs scene A with an
-answer list one too short, with a work list one too short, and with both just long enough.
+answer list one too short, with a work list one too short, and with both just long enough; then as
+version 2 and rule 2 with the work list that was enough, and with one longer by a double.
 cases_input reads a scene of 32,769 bytes from standard input and one of 32,768 from the file
 data/longest. The step itself is parts/step_rules.py.
 """
@@ -54,9 +55,12 @@ def files():
     """What is written where."""
     scenes, longest = [case[1] for case in cases()], most_particles()
     short = [lines(scene_a(), answers=a, work=w) for a, w in ((6, 14), (7, 13), (7, 14))]
+    by_halves = under(scene_a(), 2, 2)
+    short += [lines(by_halves, answers=7, work=w) for w in (14, 15)]
     made = {"crates/cases_step/data/scenes": batch(scenes),
             "crates/cases_step/stdout": "".join(map(lines, scenes)).encode(),
             "crates/cases_short_lists/data/scene": scene_a(),
+            "crates/cases_short_lists/data/by_halves": by_halves,
             "crates/cases_short_lists/stdout": "".join(short).encode(),
             "crates/cases_input/stdin": longest + b"\0",
             "crates/cases_input/data/longest": longest,

@@ -1,6 +1,7 @@
 // Runs the step on the scene in data/scene, scene A of FORMAT 1.9, with an answer list one double too short, with a
-// work list one too short, and with both just long enough, and writes the texts. The lists are full of a mark before;
-// refusal 8 leaves it, and a line tells if an element is another.
+// work list one too short, and with both just long enough; then on the one in data/by_halves, the same scene summed by
+// halves, with a work list of the length that was enough, and with one a double longer. It writes the texts. The lists
+// are full of a mark before; refusal 8 leaves it, and a line tells if an element is another.
 use cases_marks::MARK;
 use cases_marks::print_others;
 use iisph_run::TEXT_ROOM;
@@ -46,4 +47,13 @@ fn main() {
     print_short(&scene[..got], &mut six_answers, &mut work);
     print_short(&scene[..got], &mut answers, &mut thirteen_work);
     print_run(&scene[..got], &mut answers, &mut work);
+    let mut by_halves = [0u8; 186];
+    let mut new_answers = [MARK; 7];
+    let mut fourteen_work = [MARK; 14];
+    let mut fifteen_work = [MARK; 15];
+    let other = os::open_read(b"by_halves");
+    let length = io::read_full(other, &mut by_halves);
+    libc::close(other);
+    print_short(&by_halves[..length], &mut new_answers, &mut fourteen_work);
+    print_run(&by_halves[..length], &mut new_answers, &mut fifteen_work);
 }
