@@ -178,6 +178,7 @@ CLASSES = {
 def large(d): return lattice_scene(d, ((6, 6, 6), (8, 8, 4), (5, 10, 10)), (1, 2, 5))
 
 
+KEPT = LONGEST + 1      # bytes of a scene that is too long, and that a case program still keeps
 # Classes that are longer than the program's standard input takes.
 LARGE = {"large": (large, "lattices of some hundred particles"),
          "many": (many, "fluids of up to 4,096 particles with one to three contacts each")}
@@ -205,7 +206,7 @@ def made(seed, name):
     d = Draw(seed * 1000003 + list(CLASSES).index(name) * 7919)
     while True:
         data = one_of(d, name)
-        if len(data) <= LONGEST or d.one_in(16):
+        if len(data) <= LONGEST or d.one_in(16) and len(data) <= KEPT:
             yield data
 
 

@@ -61,11 +61,10 @@ def scene(d, fluids, most):
 
 
 def sums(d):
-    """Up to four fluids, mostly of few particles; one in sixteen has up to 140, which the program still
-    takes: a particle has 226 bytes at most."""
+    """Up to four fluids, mostly of few particles; one in sixteen has up to 200."""
     counts = [d.of((1, 2, 3, 3, 4, 4, 5, 6, 7, 8, 9)) for _ in range(d.of((1, 1, 2, 3)))]
     if d.one_in(16):
-        counts = [10 + d.below(131)]
+        counts = [10 + d.below(191)]
     return scene(d, [d.of(KINDS)(d, n, m) for m, n in enumerate(counts)], (1, 1, 1, 2, 3, 8))
 
 
