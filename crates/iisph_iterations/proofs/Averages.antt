@@ -128,7 +128,8 @@ module _ (criterion : Criterion) (w : Summation) (counts : List ℕ) (n : ℕ) (
           within = omega arith;
           rows = rw add-one (omega arith);
           none =
-              λ z. q ∙ sym (with-none criterion w from count error _ (omega (arith, z))) ∙ here .none (omega (arith, z));
+              λ z. q ∙ sym (with-none criterion w from count error _ (omega (arith, z)))
+              ∙ here .none (omega (arith, z));
           rest =
               rw (add-one m, q, ← part, ← drop-drop count from col)
               (sym (average-next criterion w from count (drop (suc m) counts) (drop from col) error (here .none))

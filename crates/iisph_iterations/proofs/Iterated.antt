@@ -233,11 +233,11 @@ pub iterates-made : (b : List ℕ) {n : ℕ} (size : n ≡ fluidSize (sceneOf b)
     → Iterates (sceneOf b) l r w
 unfolding iteration
 iterates-made b {n} size l ready {w = w} e f g k q =
-    let s = sceneOf b in
+    let h = sceneOf b .header in
     record {
       error =
           q
-          ∙ ap (λ (ts : List Float). errorOf (s .header .criterion) (averages (s .header .summation) (s .fluidCounts) ts))
+          ∙ ap (λ (ts : List Float). errorOf (h .criterion) (averages (h .summation) (sceneOf b .fluidCounts) ts))
           (iterated-terms b size l ready e f g k)
           ∙ ap (λ (j : ℕ). iteration (sceneOf b) (coefficients (sceneOf b)) (pressuresIn j l) .error) size;
       list = iterated-made b size l ready e f g k;

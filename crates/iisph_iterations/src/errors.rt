@@ -1,5 +1,5 @@
-// The error of an iteration, from the column of error terms: the greatest of the fluids' averages, whose terms are summed
-// by the summation, by the criterion, and whether an average was not a number and was passed over (METHOD 6.4).
+// The error of an iteration, from the column of error terms: the average of each fluid, by the summation; the greatest
+// of them, by the criterion; and whether an average was not a number and was passed over (METHOD 6.4).
 use iisph_rows::rows::ERROR_TERM;
 use iisph_rules::IterationError;
 use iisph_rules::NO_ERROR;

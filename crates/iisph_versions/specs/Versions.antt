@@ -1,7 +1,7 @@
--- What version and rule of a packed scene change (FORMAT 1): version 2 has the layout of version 1 and a rule where that
--- has zeros, so with rule 0 both have one result; and a rule acts through the error of the iterations alone, so where
--- there are as many of them the answers are the same by every rule. Each claim is one type, and proofs/ proves it.
--- Definitions only.
+-- What version and rule of a packed scene change (FORMAT 1): version 2 has the layout of version 1 and a rule where
+-- that has zeros, so with rule 0 both have one result; and a rule acts through the error of the iterations alone, so
+-- where there are as many of them the answers are the same by every rule. Each claim is one type, and proofs/ proves
+-- it. Definitions only.
 use Prim.Native.Nat.{ℕ, _+_, _*_, _≤_}
 use mathlib.Core.Path.{_≡_}
 use mathlib.Core.List.{List, [], _∷_}

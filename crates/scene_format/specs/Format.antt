@@ -77,8 +77,8 @@ lastRule = 3
 abbrev pub mostRule : ℕ → ℕ
 mostRule version = cond (eqb version firstVersion) 0 lastRule
 
--- what a rule's number stands for, two choices: a criterion, by its lowest bit, and how the terms of a fluid are summed,
--- by the bit above that
+-- what a rule's number stands for, two choices: a criterion, by its lowest bit, and by the bit above that how the terms
+-- of a fluid are summed
 abbrev pub criteria : ℕ
 criteria = 2
 
