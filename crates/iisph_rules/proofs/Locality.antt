@@ -26,7 +26,7 @@ use Rattle.iisph_rules.proofs.Sizes.{length-fluid}
 
 -- ---- an accepted scene
 
-needed : {b : List ℕ} → LongEnough b (answersNeeded (sceneOf b)) (workNeeded (sceneOf b))
+pub needed : {b : List ℕ} → LongEnough b (answersNeeded (sceneOf b)) (workNeeded (sceneOf b))
 needed = record { enoughAnswers = omega arith; enoughWork = omega arith }
 
 -- what its step reports is what the rules yield

@@ -30,7 +30,7 @@ use Rattle.iisph_rules.specs.declared.Report.{Report}
 use Rattle.iisph_rules.specs.declared.StepAnswer.{StepAnswer}
 use Rattle.iisph_rules.specs.declared.StepAnswer.the-variants.{Done, Refused}
 
-never : {A : Type 0} {x : Refusal} {r : Report} → Refused x ≡ Done r → A
+pub never : {A : Type 0} {x : Refusal} {r : Report} → Refused x ≡ Done r → A
 never q = let z : _≡_ {A = ℕ} 0 1 = cc in absurd (omega arith)
 
 not-refused : (t : Bool) (x : Refusal) (a : StepAnswer) {r : Report} → choose t (Refused x) a ≡ Done r

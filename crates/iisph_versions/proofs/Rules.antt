@@ -1,11 +1,10 @@
 -- The claims of specs/Versions.antt on rules: criterion and summation enter the error alone, so by another rule the
 -- definitions of coefficients, pressures and answers compute to the same; of a next pressure its term is another, but
 -- whether it is kept is not. By induction on the iterations, and by the cases of a step's answer. Assumes nothing.
-use Prim.Native.Nat.{ℕ, zero, suc, _≤_}
+use Prim.Native.Nat.{ℕ, zero, suc}
 use mathlib.Core.Path.{_≡_, refl, sym, ap, _∙_}
 use mathlib.Core.Bool.{Bool, true, false, cond}
 use mathlib.Core.List.{List}
-use native.Mathlib.Omega.{arith}
 use lib.Ieee
 use lib.Ieee.{Float}
 use Rattle.lists.specs.Lists.{choose}
@@ -19,27 +18,24 @@ use Rattle.scene_format.specs.declared.Criterion.{Criterion}
 use Rattle.scene_format.specs.declared.Kind.the-variants.{Fluid}
 use Rattle.scene_format.specs.declared.Refusal.{Refusal}
 use Rattle.scene_format.specs.declared.Summation.{Summation}
-use Rattle.scene_lengths.specs.Lengths.{answersNeeded, workNeeded}
 use Rattle.iisph_rules.specs.Coefficients.{Coefficients, clockOf, fluidMass, boundaryMass, velocityChange}
 use Rattle.iisph_rules.specs.Coefficients.{advectedVelocity, fluidNeighbour, boundaryNeighbour, overNeighbours, density}
 use Rattle.iisph_rules.specs.Coefficients.{delta, predictedDensity, diiFactor, dii, djiFactor, aii, coefficientsOf}
 use Rattle.iisph_rules.specs.Coefficients.{coefficients}
 use Rattle.iisph_rules.specs.Iteration.{dijSum, dijPjl, dijPjls, pressureSum, clamped, noPressure, nextPressure}
-use Rattle.iisph_rules.specs.Iteration.{NextPressure, nextPressures, Iteration, iteration}
+use Rattle.iisph_rules.specs.Iteration.{NextPressure, nextPressures, iteration}
 use Rattle.iisph_rules.specs.Step.{firstPressures, solution, boundaryAcceleration, finalVelocityChange, newVelocity}
 use Rattle.iisph_rules.specs.Step.{newPosition, fluidAnswer, forceFrom, boundaryForce, boundaryAnswer, answersFrom}
 use Rattle.iisph_rules.specs.Step.{answersOf, reportOf, unlessZero, sceneAnswer}
-use Rattle.iisph_rules.specs.Answer.{LongEnough, Accepted}
 use Rattle.iisph_rules.specs.PassedOver.{iterationAt}
 use Rattle.iisph_rules.specs.declared.Report.{Report}
 use Rattle.iisph_rules.specs.declared.StepAnswer.{StepAnswer}
 use Rattle.iisph_rules.specs.declared.StepAnswer.the-variants.{Done, Refused}
 use Rattle.iisph_rules.proofs.Cases.{scene-answer}
 use Rattle.iisph_rules.proofs.Iterations.{pressuresAfter, solution-pressures}
-use Rattle.iisph_rules.proofs.Locality.{accepted-report}
-use Rattle.iisph_rules.proofs.Reports.{step-done}
-use Rattle.iisph_versions.specs.Versions.{SameButForm, KnownForm, headerBy, sceneBy, SamePressures}
-use Rattle.iisph_versions.specs.Versions.{RuleRefusesNone, RuleByIterations}
+use Rattle.iisph_rules.proofs.Locality.{needed, accepted-report}
+use Rattle.iisph_rules.proofs.Reports.{never, step-done}
+use Rattle.iisph_versions.specs.Versions.{headerBy, sceneBy, SamePressures, RuleRefusesNone, RuleByIterations}
 use Rattle.iisph_versions.proofs.Scenes.{same-scenes}
 use Rattle.iisph_versions.proofs.Walks.{same-checks}
 
@@ -119,7 +115,7 @@ same-pressures criterion summation s k =
 passed-too : (t : Bool) (x x′ : Refusal) (a a′ : StepAnswer) {r r′ : Report} → (a ≡ Done r → a′ ≡ Done r′)
     → choose t (Refused x) a ≡ Done r → choose t (Refused x′) a′ ≡ Done r′
 unfolding choose
-passed-too true x x′ a a′ h q = let z : _≡_ {A = ℕ} 0 1 = cc in absurd (omega arith)
+passed-too true x x′ a a′ h q = never q
 passed-too false x x′ a a′ h q = h q
 
 done-too : (criterion : Criterion) (summation : Summation) (s : Scene) (at at′ : ℕ → ℕ) {r : Report}
@@ -131,9 +127,6 @@ done-too criterion summation s at at′ q =
     (passed-too _ _ _ _ _ (passed-too _ _ _ _ _ (λ _. refl)) q)
 
 -- ---- two packed scenes
-
-needed : {b : List ℕ} → LongEnough b (answersNeeded (sceneOf b)) (workNeeded (sceneOf b))
-needed = record { enoughAnswers = omega arith; enoughWork = omega arith }
 
 pub rule-refuses-none : RuleRefusesNone
 rule-refuses-none b b′ s f f′ a =

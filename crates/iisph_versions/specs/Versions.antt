@@ -66,7 +66,7 @@ sceneBy criterion summation s =
       boundaryParticles = s .boundaryParticles;
     }
 
--- the scene depends on the rule through these two, and on nothing else of both; where its records stand on neither
+-- of version and rule the scene has these two and nothing else, and where its records stand depends on neither
 abbrev pub SameScenes : Type 0
 SameScenes =
     (b b′ : List ℕ) → SameButForm b b′

@@ -1,5 +1,4 @@
 -- `scene_format::read::criterion` meets its contract: by the lowest bit of the rule. Assumes nothing.
-use mathlib.Core.Path.{ap}
 use borrow.Author.Needs.{needs}
 use borrow.Author.Tests.{eq-eqb, ne-eqb}
 use Rattle.scene_format.specs.Format.{criterionOf}

@@ -1,5 +1,4 @@
 -- `scene_format::read::summation` meets its contract: by whether the rule has a bit above its lowest. Assumes nothing.
-use mathlib.Core.Path.{ap}
 use borrow.Author.Needs.{needs}
 use borrow.Author.Tests.{eq-eqb, ne-eqb}
 use Rattle.scene_format.specs.Format.{summationOf}
