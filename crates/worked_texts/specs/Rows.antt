@@ -1,7 +1,6 @@
 -- Every worked example, as one list: those of doubles, sums, kernel, its table, check and step (worked_examples), those
 -- of versions, criteria and summations (worked_stopping), and packed scenes with the text that the program writes for
--- them.
--- Definitions only.
+-- them. Definitions only.
 use Prim.Native.Nat.{ℕ}
 use Prim.Native.Char.{code}
 use Prim.Native.String.{String, [] as end, _∷_ as _then_}
@@ -10,9 +9,8 @@ use mathlib.Core.List.{List, [], _∷_, _++_, map, flatten}
 use lib.ListN.{replicate}
 use Rattle.worked_examples.specs.Row as worked
 use Rattle.worked_examples.specs.Rows as worked-rows
-use Rattle.worked_examples.specs.Scenes.{emptyScene, sceneA, contactA, boundaryScene}
+use Rattle.worked_examples.specs.Scenes.{emptyScene, sceneA, contactA, boundaryScene, bits·-0}
 use Rattle.worked_examples.specs.PassedOver.{bothInfinities}
-use Rattle.worked_examples.specs.Scenes.{bits·-0}
 use Rattle.worked_stopping.specs.Stopping.{stopping, nanBehind}
 use Rattle.worked_stopping.specs.Summation.{summation, once, minusZero}
 use Rattle.iisph_text.specs.Text.{textOf}
