@@ -1,10 +1,10 @@
 // The cases as checks/cases_kernel.py lists them, each double by its bits: first those of the kernel.
-pub const OF_THE_KERNEL: usize = 73;
+pub const OF_THE_KERNEL: usize = 81;
 
-pub const IN_ALL: usize = 86;
+pub const IN_ALL: usize = 94;
 
 // A distance, or the clock's step length.
-pub const FIRST: [u64; 86] = [
+pub const FIRST: [u64; 94] = [
     0x0000000000000000,
     0x8000000000000000,
     0x3fd0000000000000,
@@ -40,6 +40,14 @@ pub const FIRST: [u64; 86] = [
     0x54b249ad2594c37d,
     0x3ff0000000000000,
     0x0000000000000000,
+    0x0000000000000000,
+    0x0000000000000000,
+    0x0000000000000000,
+    0x0000000000000000,
+    0x1ff573d68f903ea2,
+    0x3ff0000000000000,
+    0x5fcca3d8e6d80cbb,
+    0x3ff0000000000000,
     0xbff0000000000000,
     0x8000000000000001,
     0x7ff0000000000000,
@@ -94,7 +102,7 @@ pub const FIRST: [u64; 86] = [
 ];
 
 // The radius, or the remaining time.
-pub const SECOND: [u64; 86] = [
+pub const SECOND: [u64; 94] = [
     0x3ff0000000000000,
     0x3ff0000000000000,
     0x3ff0000000000000,
@@ -130,6 +138,14 @@ pub const SECOND: [u64; 86] = [
     0x55356e56e80a5516,
     0x5551dbf316b346e8,
     0x00000000000007e8,
+    0x2ab0000000000000,
+    0x2aa0000000000000,
+    0x2000000000000000,
+    0x1ff0000000000000,
+    0x200016e0ebac2efa,
+    0x5fe0b4e931535cc2,
+    0x5fe0b4e931535cc2,
+    0x5fe7dddf6b095ff1,
     0x3ff0000000000000,
     0x3ff0000000000000,
     0x3ff0000000000000,

@@ -2,6 +2,7 @@
 // expected lines were worked out with exact fractions (checks/cases_kernel.py).
 mod cases;
 
+use cubic_spline::Dimension;
 use cubic_spline::KernelAnswer;
 use cubic_spline::KernelRefusal;
 use libc::STDOUT_FILENO;
@@ -11,7 +12,7 @@ ghost use lib.Dec.{ltb};
 ghost use Rattle.math.specs.Real.{bits, bitsOf};
 ghost use Rattle.cubic_spline.specs.Answer.{number};
 ghost use Rattle.timestep_manager.specs.Clock.{advanced};
-ghost use Rattle.cases_kernel.specs.Printed.{printed};
+ghost use Rattle.cases_kernel.specs.Printed.{printed, shown};
 
 // Prints a space and a double's bits, and hands them back.
 fn print_bits(x: f64) -> u64
@@ -59,6 +60,29 @@ fn print_kernel(name: &[u8], r: f64, h: f64, a: KernelAnswer) -> u64
     n
 }
 
+// What the lines of weight and slope show.
+struct Shown {
+    weight: u64,
+    slope: u64,
+}
+
+// Prints the lines of weight and slope, and hands back what they show.
+fn print_both(dimension: Dimension, weight: &[u8], slope: &[u8], r: f64, h: f64) -> Shown
+    ensures { λ s. ⌜ s ≡ shown dimension r h ⌝ }
+{
+    let w = print_kernel(weight, r, h, cubic_spline::scalar_apply(dimension, r, h));
+    let s = print_kernel(
+        slope,
+        r,
+        h,
+        cubic_spline::scalar_apply_diff(dimension, r, h),
+    );
+    Shown {
+        weight: w,
+        slope: s,
+    }
+}
+
 // Prints a line for an advance of the clock, and hands back the clock after it.
 fn print_clock(step: f64, remaining: f64) -> Clock
     ensures { λ c. ⌜
@@ -81,23 +105,14 @@ fn print_clock(step: f64, remaining: f64) -> Clock
     after
 }
 
-// Prints the lines of case number i: two of the kernel, or one of the clock. Answers whether it is the kernel's.
+// Prints the lines of case number i: four of the kernel, in three dimensions and in two, or one of the clock. Answers
+// whether it is the kernel's.
 fn print_case(i: usize, first: f64, second: f64) -> bool
-    ensures { λ r. ⌜ r ≡ ltb i 73 ⌝ }
+    ensures { λ r. ⌜ r ≡ ltb i 81 ⌝ }
 {
     if i < cases::OF_THE_KERNEL {
-        print_kernel(
-            b"weight",
-            first,
-            second,
-            cubic_spline::scalar_apply(first, second),
-        );
-        print_kernel(
-            b"slope",
-            first,
-            second,
-            cubic_spline::scalar_apply_diff(first, second),
-        );
+        print_both(Dimension::Three, b"weight", b"slope", first, second);
+        print_both(Dimension::Two, b"weight_2d", b"slope_2d", first, second);
         true
     } else {
         print_clock(first, second);
@@ -107,7 +122,7 @@ fn print_case(i: usize, first: f64, second: f64) -> bool
 
 // Runs all cases, and answers how many.
 fn all_cases() -> usize
-    ensures { λ n. ⌜ n ≡ 86 ⌝ }
+    ensures { λ n. ⌜ n ≡ 94 ⌝ }
 {
     let mut i = 0;
     while i < cases::IN_ALL {

@@ -2,7 +2,7 @@
 -- is rounded once more, by 2 ^ -53 of the normalizer at most where that is normal. Assumes nothing.
 use mathlib.Core.Path.{_≡_, refl, sym, _∙_}
 use mathlib.Core.Logic.{_⊎_, ⊎-elim}
-use Prim.Native.Nat.{ℕ, _*_, _^_, _≤_, _<_}
+use Prim.Native.Nat.{ℕ, _-_, _*_, _^_, _≤_, _<_}
 use native.Mathlib.Nat.{mul-one, mul-pos, le-of-mul-le-mul-right}
 use native.Mathlib.Omega.{arith}
 use mathlib.Core.Bool.{true, false}
@@ -20,15 +20,18 @@ use Rattle.rounding.proofs.Fractions.{Fraction, fraction, value-of, le-is, lt-i
 use Rattle.rounding.proofs.Counts.{minus-zero, minus-zero-or-fraction, count-value, fraction-finite}
 use Rattle.rounding.proofs.Counts.{fraction-count, at-least-zero}
 use Rattle.rounding.proofs.Steps.{Part, zero-part, normal-part}
-use Rattle.cubic_spline.specs.Shape.{normalizer, weightShape, weight, isDistance, isRadius}
+use Rattle.cubic_spline.specs.Normalizer.{normalizer}
+use Rattle.cubic_spline.specs.Shape.{weightShape, weight, isDistance, isRadius}
 use Rattle.cubic_spline.specs.Exact.{exactWeight}
 use Rattle.cubic_spline.specs.Answer.{kernelAnswer, KernelPromise}
 use Rattle.cubic_spline.specs.Apply.{leastRadius, cube, AppliedNear, ApplyPromise}
+use Rattle.cubic_spline.specs.declared.Dimension.{Dimension}
+use Rattle.cubic_spline.specs.declared.Dimension.the-variants.{Two, Three}
 use Rattle.cubic_spline.specs.declared.KernelAnswer.{KernelAnswer}
 use Rattle.cubic_spline.specs.declared.KernelAnswer.the-variants.{Value}
 use Rattle.cubic_spline.proofs.Bounds.{scale}
 use Rattle.cubic_spline.proofs.Quotient.{ShapeAt, quotient-shape, minus-zero-shape}
-use Rattle.cubic_spline.proofs.Normal.{Normal, normalizer-normal, normalizer-finite}
+use Rattle.cubic_spline.proofs.Normal.{Normal, reach, normalizer-normal, normalizer-finite}
 
 -- ---- the product's errors, where u units make 1: n is the normalizer, x the shape, v what is rounded of their product
 
@@ -40,11 +43,11 @@ both-errors u n x v b e U P S =
     let S' = near-times (9 * (u * cube b)) n S in
     near-cancel (v * cube b * 2 ^ 52) (n * e * 2 ^ 52) (5 * (n * cube b)) (u * 2) (mul-pos U (lit< tt)) (omega arith)
 
-module _ (r h q : Float) (S : ShapeAt (count r) (count h) (weightShape q)) where
-  of-part : Part unit (normalizer h ⊗ weightShape q) (count (normalizer h)) (count (weightShape q))
-      → AppliedNear r h (normalizer h ⊗ weightShape q)
+module _ (d : Dimension) (r h q : Float) (S : ShapeAt (count r) (count h) (weightShape q)) where
+  of-part : Part unit (normalizer d h ⊗ weightShape q) (count (normalizer d h)) (count (weightShape q))
+      → AppliedNear d r h (normalizer d h ⊗ weightShape q)
   of-part P =
-      let n = count (normalizer h) in
+      let n = count (normalizer d h) in
       let x = count (weightShape q) in
       let e = exactWeight (count h) (count r) in
       let near = both-errors unit n x (P .count) (count h) e (lit< tt) (P .near) (S .near) in
@@ -54,7 +57,7 @@ module _ (r h q : Float) (S : ShapeAt (count r) (count h) (weightShape q)) where
         near = rw (fraction-count (P .is)) near;
       }
 
-  product-near : (normalizer h ≡ +0) ⊎ Normal (normalizer h) → AppliedNear r h (normalizer h ⊗ weightShape q)
+  product-near : (normalizer d h ≡ +0) ⊎ Normal (normalizer d h) → AppliedNear d r h (normalizer d h ⊗ weightShape q)
   unfolding ofBits
   product-near =
       ⊎-elim
@@ -63,13 +66,13 @@ module _ (r h q : Float) (S : ShapeAt (count r) (count h) (weightShape q)) where
 
 -- ---- every distance, and every radius with a finite normalizer
 
-weight-near : {h : Float} → Fraction false h (count h) unit → 0 < count h → T (finite (normalizer h))
-    → (r : Float) → T (fits binary64 r) → T (finite r) → T (le +0 r) → AppliedNear r h (weight r h)
-weight-near {h} H B f =
-    let N = normalizer-normal H B f in
-    minus-zero-or-fraction (λ r. AppliedNear r h (weight r h))
-    (product-near minus-zero h (minus-zero ⊘ h) (minus-zero-shape H B) N)
-    (λ r R. product-near r h (r ⊘ h) (quotient-shape R H B) N)
+weight-near : {h : Float} (d : Dimension) → Fraction false h (count h) unit → 0 < count h → T (finite (normalizer d h))
+    → (r : Float) → T (fits binary64 r) → T (finite r) → T (le +0 r) → AppliedNear d r h (weight d r h)
+weight-near {h} d H B f =
+    let N = normalizer-normal d H B f in
+    minus-zero-or-fraction (λ r. AppliedNear d r h (weight d r h))
+    (product-near d minus-zero h (minus-zero ⊘ h) (minus-zero-shape H B) N)
+    (λ r R. product-near d r h (r ⊘ h) (quotient-shape R H B) N)
 
 -- ---- what `scalar_apply` promises
 
@@ -96,28 +99,32 @@ radius (fin false m e) t R =
     let H = fraction (count-value false m e t) in
     (H, above-zero (fin false m e) H (and-l (lt +0 (fin false m e)) true R))
 
-least-radius-fraction : Fraction false leastRadius (2 ^ 734) unit
+least-radius-fraction : (d : Dimension) → Fraction false (leastRadius d) (2 ^ (1074 - reach d)) unit
 unfolding ofBits
-least-radius-fraction = fraction (refl, refl)
+least-radius-fraction Two = fraction (refl, refl)
+least-radius-fraction Three = fraction (refl, refl)
 
-from-least : (h : Float) → Fraction false h (count h) unit → T (le leastRadius h) → 2 ^ 734 ≤ count h
-from-least h H l =
-    let L = value-of least-radius-fraction in
-    let t = le-is leastRadius h (2 ^ 734) unit (count h) unit (lit< tt) (lit< tt) L (value-of H) in
-    le-of-mul-le-mul-right (leb-true (2 ^ 734 * unit) (count h * unit) (sym t ∙ is-true (le leastRadius h) l)) (lit< tt)
+from-least : (d : Dimension) (h : Float) → Fraction false h (count h) unit → T (le (leastRadius d) h)
+    → 2 ^ (1074 - reach d) ≤ count h
+from-least d h H l =
+    let k = 2 ^ (1074 - reach d) in
+    let L = value-of (least-radius-fraction d) in
+    let t = le-is (leastRadius d) h k unit (count h) unit (lit< tt) (lit< tt) L (value-of H) in
+    le-of-mul-le-mul-right (leb-true (k * unit) (count h * unit) (sym t ∙ is-true (le (leastRadius d) h) l)) (lit< tt)
 
-pub apply-promise : (r h : Float) (a : KernelAnswer) → fits binary64 r ≡ true → fits binary64 h ≡ true
-    → KernelPromise r h (weight r h) a → ApplyPromise r h a
-apply-promise r h a s t K =
+pub apply-promise : (d : Dimension) (r h : Float) (a : KernelAnswer) → fits binary64 r ≡ true → fits binary64 h ≡ true
+    → KernelPromise r h (weight d r h) a → ApplyPromise d r h a
+apply-promise d r h a s t K =
     record {
       kernel = K;
-      bound = λ d R f.
+      bound = λ q R f.
           let H = radius h (holds _ t) R in
           record {
-            value = weight r h;
-            is = K .answer ∙ taken-answer r h (weight r h) (is-true (isDistance r) d) (is-true (isRadius h) R);
+            value = weight d r h;
+            is = K .answer ∙ taken-answer r h (weight d r h) (is-true (isDistance r) q) (is-true (isRadius h) R);
             near =
-                weight-near (H .0) (H .1) f r (holds _ s) (and-r (le +0 r) (finite r) d) (and-l (le +0 r) (finite r) d);
+                weight-near d (H .0) (H .1) f r (holds _ s) (and-r (le +0 r) (finite r) q)
+                (and-l (le +0 r) (finite r) q);
           };
-      normalizes = λ R l. let H = radius h (holds _ t) R in normalizer-finite (H .0) (from-least h (H .0) l);
+      normalizes = λ R l. let H = radius h (holds _ t) R in normalizer-finite d (H .0) (H .1) (from-least d h (H .0) l);
     }

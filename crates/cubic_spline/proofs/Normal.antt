@@ -1,28 +1,29 @@
 -- The normalizer for a radius that is taken is infinite, +0, or normal. The divisor is a rounded product, so infinite
--- or a fraction below 2 ^ 1024; 8 divided by that is above 2 ^ -1021, or infinite. Assumes nothing.
+-- or a fraction below 2 ^ 1024; 4 or more divided by that is 2 ^ -1022 or more. How small the product can be is found
+-- by induction on the number of axes. Assumes nothing.
 use mathlib.Core.Path.{_≡_, refl, sym}
 use mathlib.Core.Logic.{_⊎_, inl, inr, ⊎-elim}
-use Prim.Native.Nat.{ℕ, _*_, _^_, _≤_, _<_, zero-le}
-use native.Mathlib.Nat.{le-trans, le-of-lt, lt-irrefl, eq-zero-or-pos, zero-mul, mul-one, one-mul, mul-assoc, mul-pos}
-use native.Mathlib.Nat.{mul-le-mul, mul-le-mul-left, mul-le-mul-right}
+use Prim.Native.Nat.{ℕ, zero, suc, _+_, _-_, _*_, _^_, _≤_, _<_, zero-le}
+use native.Mathlib.Nat.{le-trans, le-of-lt, le-refl, lt-irrefl, lt-of-le-of-lt, eq-zero-or-pos, zero-mul, one-mul}
+use native.Mathlib.Nat.{mul-assoc, mul-pos, mul-le-mul, mul-le-mul-left, mul-le-mul-right}
+use native.Mathlib.Omega.{arith}
 use mathlib.Core.Bool.{false}
 use lib.IntN.{ℤ}
 use lib.Dec.{T, lit≤, lit<}
+use lib.Pow.{pow-add, pow-pos, pow-mono}
 use lib.Ieee.{Float, inf, binary64, up, down, round, mul, div, ofBits}
 use lib.Ieee.Fits.{up-pos}
 use lib.Ieee.Exact.{HasValue}
 use lib.Ieee.Scale.{grid, overflow, finite, round-under}
 use Rattle.math.specs.Real.{_⊗_, _⊘_, +0}
 use Rattle.rounding.specs.Exact.{unit, count}
-use Rattle.rounding.proofs.Fractions.{Fraction, fraction, value-of, at-fraction, mul-is}
+use Rattle.rounding.proofs.Fractions.{Fraction, fraction, value-of, at-fraction, at-fractions, mul-is}
 use Rattle.rounding.proofs.Relative.{Held, at-least, below-finite, finite-or-infinite}
 use Rattle.rounding.proofs.Counts.{number, fraction-finite}
 use Rattle.rounding.proofs.Quotients.{significand-pos, not-zero, div-is}
-use Rattle.cubic_spline.specs.Shape.{eight, pi, normalizer}
-
-eight-fraction : Fraction false eight 8 1
-unfolding ofBits
-eight-fraction = fraction (refl, refl)
+use Rattle.cubic_spline.specs.Normalizer.{pi, axes, numerator, divisor, normalizer}
+use Rattle.cubic_spline.specs.declared.Dimension.{Dimension}
+use Rattle.cubic_spline.specs.declared.Dimension.the-variants.{Two, Three}
 
 -- ---- infinite, or a number of the format
 
@@ -63,14 +64,20 @@ module _ {h : Float} {b : ℕ} (H : Fraction false h b unit) (B : 0 < b) (k : �
       (rounded-product m (n * b) (unit * unit) M (lit< tt)
       (rw (← mul-assoc m unit unit) (mul-le-mul-right unit (le-trans o (mul-le-mul (X .least) K)))))
 
-  divisor-product : (l m n : ℕ) → Held binary64 l → Held binary64 m → Held binary64 n
-      → l * unit ≤ count pi * k → m * unit ≤ l * k → n * unit ≤ m * k → Product n (pi ⊗ h ⊗ h ⊗ h)
+  -- multiplied n times by it, pi is not below l n
+  divisor-product : (l : ℕ → ℕ) → ((n : ℕ) → Held binary64 (l n)) → l 0 ≤ count pi → (n : ℕ)
+      → ((m : ℕ) → m < n → l (suc m) * unit ≤ l m * k) → Product (l n) (divisor n h)
   unfolding ofBits
-  divisor-product l m n L M N p q r =
-      let P : Product (count pi) pi = inr (record { is = fraction (refl, refl); most = lit< tt; least = lit≤ tt }) in
-      times m n N r (pi ⊗ h ⊗ h) (times l m M q (pi ⊗ h) (times (count pi) l L p pi P))
+  divisor-product l L p zero s = inr (record { is = fraction (refl, refl); most = lit< tt; least = p })
+  divisor-product l L p (suc n) s =
+      times (l n) (l (suc n)) (L (suc n)) (s n (omega arith)) (divisor n h)
+      (divisor-product l L p n (λ m o. s m (omega arith)))
 
--- ---- 8 divided by it
+-- ---- a number of 4 or more, divided
+
+record Numerator (x : Float) : Type 0 where
+  is : Fraction false x (count x) unit
+  least : 4 * unit ≤ count x
 
 -- a number of the format, and a normal one
 pub record Normal (x : Float) : Type 0 where
@@ -78,80 +85,142 @@ pub record Normal (x : Float) : Type 0 where
   pub held : Held binary64 (count x)
   pub normal : 2 ^ 52 ≤ count x
 
-over-zero : (y : Float) → HasValue y false 0 unit → eight ⊘ y ≡ inf false
-unfolding div ofBits
-over-zero y k = at-fraction (λ y. eight ⊘ y ≡ inf false) y false 0 unit k (λ m e v. rw (none m e v) refl)
-  where
-    none : (m : ℕ) (e : ℤ) → m * up e * unit ≡ 0 * down e → m ≡ 0
-    none m e v =
-        elim (eq-zero-or-pos m) [
-          | inl z ↦ z
-          | inr p ↦
-              let l : 0 < m * up e * unit = mul-pos (mul-pos p (up-pos e)) (lit< tt) in
-              absurd (lt-irrefl 0 (rw (v, zero-mul (down e)) at l))
-        ]
+module _ (x : Float) (X : Numerator x) where
+  above-zero : 0 < count x
+  above-zero = le-trans (lit≤ tt) (X .least)
 
-module _ (y : Float) (Y : Fraction false y (count y) unit) (P : 0 < count y) where
-  over-is : eight ⊘ y ≡ round binary64 false (8 * unit) (count y * 1)
-  over-is =
-      div-is binary64 eight y false false 8 1 (count y) unit (lit< tt) P (lit< tt) (value-of eight-fraction)
-      (value-of Y)
+  over-infinity : x ⊘ inf false ≡ +0
+  unfolding div ofBits
+  over-infinity = at-fraction (λ z. z ⊘ inf false ≡ +0) x false (count x) unit (value-of (X .is)) (λ m e v. refl)
 
-  above : 0 < count y * 1
-  above = mul-pos P (lit< tt)
+  over-zero : (y : Float) → HasValue y false 0 unit → x ⊘ y ≡ inf false
+  unfolding div
+  over-zero y k =
+      at-fractions (λ z y. z ⊘ y ≡ inf false) x y false false (count x) unit 0 unit (value-of (X .is)) k
+      (λ m e n i v w. rw (none n i w, not-zero m (significand-pos m e (count x) unit above-zero v)) refl)
+    where
+      none : (m : ℕ) (e : ℤ) → m * up e * unit ≡ 0 * down e → m ≡ 0
+      none m e v =
+          elim (eq-zero-or-pos m) [
+            | inl z ↦ z
+            | inr p ↦
+                let l : 0 < m * up e * unit = mul-pos (mul-pos p (up-pos e)) (lit< tt) in
+                absurd (lt-irrefl 0 (rw (v, zero-mul (down e)) at l))
+          ]
 
-  over-normal : count y < overflow binary64 → T (finite (eight ⊘ y)) → Normal (eight ⊘ y)
-  over-normal l f =
-      let d = count y * 1 in
-      let g = round-under binary64 (8 * unit) d (rw over-is at f) in
-      let N = number (8 * unit) d g in
-      let under : d ≤ overflow binary64 = rw (mul-one (count y)) (le-of-lt l) in
-      let eighth : 2 ^ 52 * d ≤ 8 * unit * unit = le-trans (mul-le-mul-left (2 ^ 52) under) (lit≤ tt) in
-      let normal = at-least (power 52 (lit< tt)) (8 * unit) d above eighth g in
-      rw over-is (record { is = N .is; held = N .held; normal = rw (N .counted) normal })
+  module _ (y : Float) (Y : Fraction false y (count y) unit) (P : 0 < count y) where
+    over-is : x ⊘ y ≡ round binary64 false (count x * unit) (count y * unit)
+    over-is =
+        div-is binary64 x y false false (count x) unit (count y) unit (lit< tt) P (lit< tt) (value-of (X .is))
+        (value-of Y)
 
-  -- 2 ^ 55 units are 2 ^ -1019, and 8 divided by that is 2 ^ 1022, which is 2 ^ 2096 units
-  over-finite : 2 ^ 55 ≤ count y → T (finite (eight ⊘ y))
-  over-finite l =
-      let d = count y * 1 in
-      let l' : 2 ^ 55 ≤ d = rw (mul-one (count y)) l in
-      let most : 8 * unit * unit ≤ 2 ^ 2096 * d = le-trans (lit≤ tt) (mul-le-mul-left (2 ^ 2096) l') in
-      let g = below-finite (power 2096 (lit< tt)) (8 * unit) d above most in
-      rw over-is (fraction-finite (number (8 * unit) d g .is))
+    above : 0 < count y * unit
+    above = mul-pos P (lit< tt)
+
+    over-normal : count y < overflow binary64 → T (finite (x ⊘ y)) → Normal (x ⊘ y)
+    over-normal l f =
+        let n = count x * unit in
+        let d = count y * unit in
+        let g = round-under binary64 n d (rw over-is at f) in
+        let N = number n d g in
+        let under : 2 ^ 52 * count y ≤ 4 * unit * unit = le-trans (mul-le-mul-left (2 ^ 52) (le-of-lt l)) (lit≤ tt) in
+        let part : 2 ^ 52 * count y ≤ n = le-trans under (mul-le-mul-right unit (X .least)) in
+        let least : 2 ^ 52 * d ≤ n * unit = rw (← mul-assoc (2 ^ 52) (count y) unit) (mul-le-mul-right unit part) in
+        let normal = at-least (power 52 (lit< tt)) n d above least g in
+        rw over-is (record { is = N .is; held = N .held; normal = rw (N .counted) normal })
+
+    -- the quotient is then at most 2 ^ 1023, which is 2 ^ 2097 units
+    over-finite : count x * unit ≤ 2 ^ 2097 * count y → T (finite (x ⊘ y))
+    over-finite l =
+        let n = count x * unit in
+        let d = count y * unit in
+        let most : n * unit ≤ 2 ^ 2097 * d = rw (← mul-assoc (2 ^ 2097) (count y) unit) (mul-le-mul-right unit l) in
+        let g = below-finite (power 2097 (lit< tt)) n d above most in
+        rw over-is (fraction-finite (number n d g .is))
+
+  normal-over : (y : Float) → Product 0 y → T (finite (x ⊘ y)) → (x ⊘ y ≡ +0) ⊎ Normal (x ⊘ y)
+  normal-over y (inl e) f = inl (rw e over-infinity)
+  normal-over y (inr Y) f =
+      elim (eq-zero-or-pos (count y)) [
+        | inl z ↦ absurd (infinite (over-zero y (rw z at (value-of (Y .is)))) f)
+        | inr P ↦ inr (over-normal y (Y .is) P (Y .most) f)
+      ]
+    where
+      infinite : x ⊘ y ≡ inf false → T (finite (x ⊘ y)) → ⊥
+      infinite e f = rw e at f
+
+  finite-over : (l : ℕ) (y : Float) → 0 < l → count x * unit ≤ 2 ^ 2097 * l → Product l y → T (finite (x ⊘ y))
+  unfolding ofBits
+  finite-over l y p o (inl e) = rw (e, over-infinity) tt
+  finite-over l y p o (inr Y) =
+      over-finite y (Y .is) (le-trans p (Y .least)) (le-trans o (mul-le-mul-left (2 ^ 2097) (Y .least)))
 
 -- ---- the normalizer
+
+numerator-least : (d : Dimension) → Numerator (numerator d)
+unfolding div ofBits
+numerator-least Two = record { is = fraction (refl, refl); least = lit≤ tt }
+numerator-least Three = record { is = fraction (refl, refl); least = lit≤ tt }
 
 zero-held : Held binary64 0
 zero-held = record { digits = 0; place = 0; is = refl; few = zero-le; finite = lit< tt }
 
-pub normalizer-normal : {h : Float} {b : ℕ} → Fraction false h b unit → 0 < b → T (finite (normalizer h))
-    → (normalizer h ≡ +0) ⊎ Normal (normalizer h)
-unfolding div ofBits
-normalizer-normal {h} H B f =
-    go (pi ⊗ h ⊗ h ⊗ h) (divisor-product H B 0 zero-le 0 0 0 zero-held zero-held zero-held zero-le zero-le zero-le) f
-  where
-    infinite : (y : Float) → eight ⊘ y ≡ inf false → T (finite (eight ⊘ y)) → ⊥
-    infinite y e f = rw e at f
+pub normalizer-normal : {h : Float} {b : ℕ} (d : Dimension) → Fraction false h b unit → 0 < b
+    → T (finite (normalizer d h)) → (normalizer d h ≡ +0) ⊎ Normal (normalizer d h)
+normalizer-normal {h} d H B f =
+    normal-over (numerator d) (numerator-least d) (divisor (axes d) h)
+    (divisor-product H B 0 zero-le (λ n. 0) (λ n. zero-held) zero-le (axes d) (λ m o. zero-le)) f
 
-    go : (y : Float) → Product 0 y → T (finite (eight ⊘ y)) → (eight ⊘ y ≡ +0) ⊎ Normal (eight ⊘ y)
-    go y (inl e) f = inl (rw e refl)
-    go y (inr Y) f =
-        elim (eq-zero-or-pos (count y)) [
-          | inl z ↦ absurd (infinite y (over-zero y (rw z at (value-of (Y .is)))) f)
-          | inr P ↦ inr (over-normal y (Y .is) P (Y .most) f)
-        ]
+-- ---- it is finite for radii of 2 ^ -reach or more
 
--- ---- it is finite for radii of 2 ^ 734 units, 2 ^ -340, or more
+abbrev pub reach : Dimension → ℕ
+reach Two = 511
+reach Three = 340
 
--- the divisor is then infinite, or 2 ^ 55 units or more
-finite-over : (y : Float) → Product (2 ^ 55) y → T (finite (eight ⊘ y))
-unfolding div ofBits
-finite-over y (inl e) = rw e tt
-finite-over y (inr Y) = over-finite y (Y .is) (le-trans (lit≤ tt) (Y .least)) (Y .least)
+-- 3, which is below pi, multiplied n times by 2 ^ -e, in units of 2 ^ -t
+abbrev shrunk : ℕ → ℕ → ℕ → ℕ
+shrunk t e n = 3 * 2 ^ (t - n * e)
 
-pub normalizer-finite : {h : Float} {b : ℕ} → Fraction false h b unit → 2 ^ 734 ≤ b → T (finite (normalizer h))
-unfolding ofBits
-normalizer-finite {h} H L =
-    finite-over (pi ⊗ h ⊗ h ⊗ h)
-    (divisor-product H (le-trans (lit≤ tt) L) (2 ^ 734) L (2 ^ 735) (2 ^ 395) (2 ^ 55) (power 735 (lit< tt))
-    (power 395 (lit< tt)) (power 55 (lit< tt)) (lit≤ tt) (lit≤ tt) (lit≤ tt))
+shrunk-again : (t e n : ℕ) → suc n * e ≤ t → shrunk t e (suc n) * 2 ^ t ≤ shrunk t e n * 2 ^ (t - e)
+shrunk-again t e n h =
+    let s : t - suc n * e + t ≡ t - n * e + (t - e) = omega arith in
+    rw (
+      mul-assoc 3 (2 ^ (t - suc n * e)) (2 ^ t),
+      mul-assoc 3 (2 ^ (t - n * e)) (2 ^ (t - e)),
+      ← pow-add 2 (t - suc n * e) t,
+      ← pow-add 2 (t - n * e) (t - e),
+      s,
+    ) (le-refl _)
+
+triple-held : (j : ℕ) → j ≤ 1074 → Held binary64 (3 * 2 ^ j)
+triple-held j l =
+    record {
+      digits = 3;
+      place = j;
+      is = refl;
+      few = lit≤ tt;
+      finite = lt-of-le-of-lt (mul-le-mul-left 3 (pow-mono l)) (lit< tt);
+    }
+
+-- the divisor is then infinite, or of so many units or more
+least-divisor : Dimension → ℕ
+least-divisor d = shrunk 1074 (reach d) (axes d)
+
+most-quotient : (d : Dimension) → count (numerator d) * unit ≤ 2 ^ 2097 * least-divisor d
+unfolding least-divisor div ofBits
+most-quotient Two = lit≤ tt
+most-quotient Three = lit≤ tt
+
+reaches : (d : Dimension) → axes d * reach d ≤ 1074
+reaches Two = lit≤ tt
+reaches Three = lit≤ tt
+
+pub normalizer-finite : {h : Float} {b : ℕ} (d : Dimension) → Fraction false h b unit → 0 < b
+    → 2 ^ (1074 - reach d) ≤ b → T (finite (normalizer d h))
+unfolding least-divisor ofBits
+normalizer-finite {h} d H B L =
+    finite-over (numerator d) (numerator-least d) (least-divisor d) (divisor (axes d) h)
+    (mul-pos (lit< tt) (pow-pos (1074 - axes d * reach d))) (most-quotient d)
+    (divisor-product H B (2 ^ (1074 - reach d)) L (shrunk 1074 (reach d))
+    (λ n. triple-held (1074 - n * reach d) (omega arith)) (rw (zero-mul (reach d)) (lit≤ tt)) (axes d)
+    (λ n o. shrunk-again 1074 (reach d) n (le-trans (mul-le-mul-right (reach d) o) (reaches d))))

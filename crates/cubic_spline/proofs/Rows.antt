@@ -16,6 +16,8 @@ use Rattle.cubic_spline.specs.Exact.{pieces, exactWeight, monaghanFall}
 use Rattle.cubic_spline.specs.Bound.{ShapeWithin, WeightNear, SlopeNear, SlopeBound}
 use Rattle.cubic_spline.specs.Apply.{AppliedWithin, AppliedNear, ApplyPromise}
 use Rattle.cubic_spline.specs.Rows.{rows}
+use Rattle.cubic_spline.specs.declared.Dimension.{Dimension}
+use Rattle.cubic_spline.specs.declared.Dimension.the-variants.{Two, Three}
 use Rattle.cubic_spline.specs.declared.KernelAnswer.the-variants.{Value}
 
 pub rows-hold : Yielded rows
@@ -76,34 +78,51 @@ slope-no-flatter l = not-le-of-lt (lit< tt) l
 
 -- ---- the weight, relative to the normalizer
 
--- r / h close to 0.35530094: the error is 1.2587 × 2 ^ -52 × normalizer, so within 5 × 2 ^ -52 and not within 2 ^ -52
-abbrev farthest-distance : Float
-farthest-distance = bits 0x40039ACBA903908E
+-- r / h close to 0.35514369 and 0.35530094: the errors are 1.2521 and 1.2587 × 2 ^ -52 × normalizer, so within
+-- 5 × 2 ^ -52 and not within 2 ^ -52
+abbrev farthest-distance : Dimension → Float
+farthest-distance Two = bits 0x4005DB4B1DEB8026
+farthest-distance Three = bits 0x40039ACBA903908E
 
-abbrev farthest-radius : Float
-farthest-radius = bits 0x401B96BD2E65B5BD
+abbrev farthest-radius : Dimension → Float
+farthest-radius Two = bits 0x401EC581A0A2BE29
+farthest-radius Three = bits 0x401B96BD2E65B5BD
 
-pub applied-farthest : AppliedNear farthest-distance farthest-radius (weight farthest-distance farthest-radius)
+abbrev farthest : Dimension → Float
+farthest d = weight d (farthest-distance d) (farthest-radius d)
+
+pub applied-farthest : (d : Dimension) → AppliedNear d (farthest-distance d) (farthest-radius d) (farthest d)
 unfolding weightShape exactWeight pieces ofBits add sub mul div le
-applied-farthest = record { isFinite = tt; sign = tt; near = (lit≤ tt, lit≤ tt) }
+applied-farthest Two = record { isFinite = tt; sign = tt; near = (lit≤ tt, lit≤ tt) }
+applied-farthest Three = record { isFinite = tt; sign = tt; near = (lit≤ tt, lit≤ tt) }
 
-pub applied-no-nearer : AppliedWithin 1 farthest-distance farthest-radius (weight farthest-distance farthest-radius) → ⊥
+pub applied-no-nearer : (d : Dimension)
+    → AppliedWithin d 1 (farthest-distance d) (farthest-radius d) (farthest d) → ⊥
 unfolding weightShape exactWeight pieces ofBits add sub mul div le
-applied-no-nearer W = not-le-of-lt (lit< tt) (W .near .0)
+applied-no-nearer Two W = not-le-of-lt (lit< tt) (W .near .0)
+applied-no-nearer Three W = not-le-of-lt (lit< tt) (W .near .0)
 
--- the radius 2 ^ -341: the normalizer is infinite, so the answer is promised, and not how near it is
-abbrev tiny-radius : Float
-tiny-radius = bits 0x2AA0000000000000
+-- the radii 2 ^ -512 and 2 ^ -341: the normalizer is infinite, so the answer is promised, and not how near it is
+abbrev tiny-radius : Dimension → Float
+tiny-radius Two = bits 0x1FF0000000000000
+tiny-radius Three = bits 0x2AA0000000000000
 
-pub applied-tiny : ApplyPromise +0 tiny-radius (Value (weight +0 tiny-radius))
+pub applied-tiny : (d : Dimension) → ApplyPromise d +0 (tiny-radius d) (Value (weight d +0 (tiny-radius d)))
 unfolding weightShape kernelAnswer refusal ofBits add sub mul div le lt
-applied-tiny =
+applied-tiny Two =
     record {
       kernel = record { answer = refl; numbered = refl };
-      bound = λ d t n. absurd n;
+      bound = λ q t n. absurd n;
+      normalizes = λ t l. absurd l;
+    }
+applied-tiny Three =
+    record {
+      kernel = record { answer = refl; numbered = refl };
+      bound = λ q t n. absurd n;
       normalizes = λ t l. absurd l;
     }
 
-pub tiny-infinite : AppliedNear +0 tiny-radius (weight +0 tiny-radius) → ⊥
+pub tiny-infinite : (d : Dimension) → AppliedNear d +0 (tiny-radius d) (weight d +0 (tiny-radius d)) → ⊥
 unfolding weightShape ofBits add sub mul div le
-tiny-infinite N = N .isFinite
+tiny-infinite Two N = N .isFinite
+tiny-infinite Three N = N .isFinite

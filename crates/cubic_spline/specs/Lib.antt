@@ -1,3 +1,4 @@
+pub mod Normalizer
 pub mod Shape
 pub mod Exact
 pub mod Bound

@@ -4,6 +4,8 @@ use mathlib.Core.Bool.{Bool, cond, _&&_, _||_}
 use lib.Ieee.{Float, le, lt}
 use lib.Ieee.Scale.{finite}
 use Rattle.math.specs.Real.{_⊕_, _⊖_, _⊗_, _⊘_, ⊝, bits, +0, half, one}
+use Rattle.cubic_spline.specs.Normalizer.{normalizer}
+use Rattle.cubic_spline.specs.declared.Dimension.{Dimension}
 
 abbrev pub two : Float
 two = bits 0x4000000000000000
@@ -14,19 +16,9 @@ three = bits 0x4008000000000000
 abbrev pub six : Float
 six = bits 0x4018000000000000
 
-abbrev pub eight : Float
-eight = bits 0x4020000000000000
-
-abbrev pub pi : Float
-pi = bits 0x400921FB54442D18
-
 -- the double 1e-5
 abbrev pub epsilon : Float
 epsilon = bits 0x3EE4F8B588E368F1
-
--- 8 / (((pi × h) × h) × h)
-abbrev pub normalizer : Float → Float
-normalizer h = eight ⊘ (pi ⊗ h ⊗ h ⊗ h)
 
 -- ---- the weight's shape, at q
 
@@ -56,15 +48,15 @@ farSlope t = ⊝ t ⊗ t ⊗ six
 unfoldable pub slopeShape : Float → Float
 slopeShape q = cond (lt one q || le q epsilon) +0 (cond (le q half) (nearSlope q) (farSlope (one ⊖ q)))
 
--- ---- the kernel at the distance r, with the radius h: q = r / h
+-- ---- the kernel in the dimension d, at the distance r, with the radius h: q = r / h
 
 -- normalizer × shape
-abbrev pub weight : Float → Float → Float
-weight r h = normalizer h ⊗ weightShape (r ⊘ h)
+abbrev pub weight : Dimension → Float → Float → Float
+weight d r h = normalizer d h ⊗ weightShape (r ⊘ h)
 
 -- (normalizer × shape) / h
-abbrev pub slope : Float → Float → Float
-slope r h = normalizer h ⊗ slopeShape (r ⊘ h) ⊘ h
+abbrev pub slope : Dimension → Float → Float → Float
+slope d r h = normalizer d h ⊗ slopeShape (r ⊘ h) ⊘ h
 
 -- ---- the arguments that are taken
 

@@ -1,12 +1,21 @@
-// The cubic spline smoothing kernel (cubic_spline_kernel.rs), in three dimensions and doubles.
+// The cubic spline smoothing kernel (cubic_spline_kernel.rs), in two and three dimensions and doubles.
 // Every operation rounds once, in the order written; nothing is reassociated.
 ghost use mathlib.Core.Path.{_≡_};
 ghost use mathlib.Core.Bool.{_&&_};
 ghost use lib.Ieee.Scale.{finite};
+ghost use Rattle.cubic_spline.specs.Normalizer as Normalizer;
 ghost use Rattle.cubic_spline.specs.Shape as Shape;
 ghost use Rattle.cubic_spline.specs.Bound.{WeightPromise, SlopePromise};
 ghost use Rattle.cubic_spline.specs.Answer.{KernelPromise};
 ghost use Rattle.cubic_spline.specs.Apply.{ApplyPromise};
+
+const PI: f64 = 3.141592653589793;
+
+// How many axes a particle moves along.
+pub enum Dimension {
+    Two,
+    Three,
+}
 
 // The argument that is turned down: refusal 11, the distance, and refusal 12, the radius.
 pub enum KernelRefusal {
@@ -48,10 +57,14 @@ pub fn slope_shape(q: f64) -> f64
     }
 }
 
-fn normalizer(h: f64) -> f64
-    ensures { λ r. ⌜ r ≡ Shape.normalizer h ⌝ }
+// What a shape is multiplied by.
+fn normalizer(dimension: Dimension, h: f64) -> f64
+    ensures { λ r. ⌜ r ≡ Normalizer.normalizer dimension h ⌝ }
 {
-    8.0 / (3.141592653589793 * h * h * h)
+    match dimension {
+        Dimension::Two => 40.0 / 7.0 / (PI * h * h),
+        Dimension::Three => 8.0 / (PI * h * h * h),
+    }
 }
 
 // Whether the test holds and x is finite.
@@ -95,15 +108,15 @@ fn answer(r: f64, h: f64, value: f64) -> KernelAnswer
 }
 
 // The kernel at the distance r, with the radius h.
-pub fn scalar_apply(r: f64, h: f64) -> KernelAnswer
-    ensures { λ a. ⌜ ApplyPromise r h a ⌝ }
+pub fn scalar_apply(dimension: Dimension, r: f64, h: f64) -> KernelAnswer
+    ensures { λ a. ⌜ ApplyPromise dimension r h a ⌝ }
 {
-    answer(r, h, normalizer(h) * weight_shape(r / h))
+    answer(r, h, normalizer(dimension, h) * weight_shape(r / h))
 }
 
 // The kernel's derivative there.
-pub fn scalar_apply_diff(r: f64, h: f64) -> KernelAnswer
-    ensures { λ a. ⌜ KernelPromise r h (Shape.slope r h) a ⌝ }
+pub fn scalar_apply_diff(dimension: Dimension, r: f64, h: f64) -> KernelAnswer
+    ensures { λ a. ⌜ KernelPromise r h (Shape.slope dimension r h) a ⌝ }
 {
-    answer(r, h, normalizer(h) * slope_shape(r / h) / h)
+    answer(r, h, normalizer(dimension, h) * slope_shape(r / h) / h)
 }

@@ -1,14 +1,16 @@
 // The C interface (include/iisph.h). A slice is a pointer and a length.
+use cubic_spline::Dimension;
 use iisph_codes::CLOCK;
 use iisph_codes::COUNTS;
 use iisph_codes::NUMBERS;
 use iisph_codes::TOO_SHORT;
 use iisph_codes::advance_listed;
 use iisph_codes::write_index;
-use iisph_codes::write_kernel;
 use iisph_codes::write_lengths;
 use iisph_codes::write_refusal;
 use iisph_codes::write_report;
+use iisph_codes::write_slope;
+use iisph_codes::write_weight;
 use iisph_lent::LentAnswer;
 use iisph_preparation::Readiness;
 use iisph_rules::StepAnswer;
@@ -18,6 +20,7 @@ ghost use mathlib.Core.Path.{_≡_};
 ghost use Prim.Native.Nat.{_≤_};
 ghost use lib.ListN.{length};
 ghost use Rattle.cubic_spline.specs.Shape.{weight, slope};
+ghost use Rattle.cubic_spline.specs.declared.Dimension.the-variants.{Two, Three};
 ghost use Rattle.iisph_codes.specs.Kernel.{KernelTo};
 ghost use Rattle.iisph_codes.specs.Numbers.{countsNeeded};
 ghost use Rattle.iisph_codes.specs.Report.{numbersNeeded};
@@ -159,18 +162,34 @@ pub extern "C" fn iisph_validate(scene: &[u8], work: &mut [f64], counts: &mut [u
     }
 }
 
-// The kernel at the distance r, with the radius h.
+// The kernel in three dimensions, at the distance r, with the radius h.
 #[no_mangle]
 pub extern "C" fn iisph_weight(r: f64, h: f64, out: &mut [f64]) -> u64
-    ensures { λ n. ⌜ KernelTo r h (weight r h) (now (out .entry)) n (now (out .exit)) ⌝ }
+    ensures { λ n. ⌜ KernelTo r h (weight Three r h) (now (out .entry)) n (now (out .exit)) ⌝ }
 {
-    write_kernel(cubic_spline::scalar_apply(r, h), out)
+    write_weight(Dimension::Three, r, h, out)
 }
 
 // The kernel's derivative there.
 #[no_mangle]
 pub extern "C" fn iisph_slope(r: f64, h: f64, out: &mut [f64]) -> u64
-    ensures { λ n. ⌜ KernelTo r h (slope r h) (now (out .entry)) n (now (out .exit)) ⌝ }
+    ensures { λ n. ⌜ KernelTo r h (slope Three r h) (now (out .entry)) n (now (out .exit)) ⌝ }
 {
-    write_kernel(cubic_spline::scalar_apply_diff(r, h), out)
+    write_slope(Dimension::Three, r, h, out)
+}
+
+// The kernel in two dimensions.
+#[no_mangle]
+pub extern "C" fn iisph_weight_2d(r: f64, h: f64, out: &mut [f64]) -> u64
+    ensures { λ n. ⌜ KernelTo r h (weight Two r h) (now (out .entry)) n (now (out .exit)) ⌝ }
+{
+    write_weight(Dimension::Two, r, h, out)
+}
+
+// Its derivative.
+#[no_mangle]
+pub extern "C" fn iisph_slope_2d(r: f64, h: f64, out: &mut [f64]) -> u64
+    ensures { λ n. ⌜ KernelTo r h (slope Two r h) (now (out .entry)) n (now (out .exit)) ⌝ }
+{
+    write_slope(Dimension::Two, r, h, out)
 }

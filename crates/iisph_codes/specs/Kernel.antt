@@ -1,4 +1,4 @@
--- What `iisph_weight` and `iisph_slope` return, and every element of their list afterwards. Definitions only.
+-- What the kernel's functions in C return, and every element of their list afterwards. Definitions only.
 use Prim.Native.Nat.{ℕ}
 use mathlib.Core.Path.{_≡_}
 use mathlib.Core.List.{List}

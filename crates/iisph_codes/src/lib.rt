@@ -1,5 +1,6 @@
 // What the C interface writes of an answer, and the number that it returns with it. What is public here is for the
 // crate of that interface, which shows what each function asks: the lent lists have room.
+use cubic_spline::Dimension;
 use cubic_spline::KernelAnswer;
 use cubic_spline::KernelRefusal;
 use iisph_rules::Report;
@@ -13,12 +14,13 @@ ghost use mathlib.Core.List.{[], _∷_};
 ghost use Prim.Native.Nat.{_≤_};
 ghost use lib.ListN.{length, set};
 ghost use lib.Seq.{sets};
+ghost use Rattle.cubic_spline.specs.Shape.{weight, slope};
 ghost use Rattle.iisph_rules.specs.Endings.{endingNumber};
 ghost use Rattle.timestep_manager.specs.Clock.{advanced};
 ghost use Rattle.iisph_codes.specs.ClockList.{clockNeeded, clockNumbers, clockOf};
 ghost use Rattle.iisph_codes.specs.Numbers.{shortIndex, countsNeeded, refusedCode, refusedCounts};
 ghost use Rattle.iisph_codes.specs.Report.{numbersNeeded, reportNumbers, reportCounts};
-ghost use Rattle.iisph_codes.specs.Kernel.{refusalCode, Gives};
+ghost use Rattle.iisph_codes.specs.Kernel.{refusalCode, Gives, KernelTo};
 
 // What a call returns that a list is too short for.
 pub const TOO_SHORT: u64 = 99;
@@ -121,7 +123,7 @@ fn refusal_code(refusal: KernelRefusal) -> u64
 }
 
 // The kernel's value, where the list has a place for it.
-pub fn write_kernel(answer: KernelAnswer, out: &mut [f64]) -> u64
+fn write_kernel(answer: KernelAnswer, out: &mut [f64]) -> u64
     ensures { λ n. ⌜ Gives answer (now (out .entry)) n (now (out .exit)) ⌝ }
 {
     if out.len() < 1 {
@@ -134,4 +136,18 @@ pub fn write_kernel(answer: KernelAnswer, out: &mut [f64]) -> u64
         }
         KernelAnswer::Refused(refusal) => refusal_code(refusal),
     }
+}
+
+// The kernel at the distance r, with the radius h.
+pub fn write_weight(dimension: Dimension, r: f64, h: f64, out: &mut [f64]) -> u64
+    ensures { λ n. ⌜ KernelTo r h (weight dimension r h) (now (out .entry)) n (now (out .exit)) ⌝ }
+{
+    write_kernel(cubic_spline::scalar_apply(dimension, r, h), out)
+}
+
+// The kernel's derivative there.
+pub fn write_slope(dimension: Dimension, r: f64, h: f64, out: &mut [f64]) -> u64
+    ensures { λ n. ⌜ KernelTo r h (slope dimension r h) (now (out .entry)) n (now (out .exit)) ⌝ }
+{
+    write_kernel(cubic_spline::scalar_apply_diff(dimension, r, h), out)
 }

@@ -9,7 +9,7 @@ use Rattle.lists.specs.Lists.{fold}
 use Rattle.math.specs.Real.{_⊕_, _⊗_, _⊘_, ⊝, +0}
 use Rattle.math.specs.Vector.{Vector, coordinates, origin}
 use Rattle.math.specs.declared.Vec3.{Vec3}
-use Rattle.scene_format.specs.Format.{axes}
+use Rattle.scene_format.specs.Format.{axesOf}
 use Rattle.iisph_rows.proofs.Particles.{zero-is}
 use Rattle.scene_format.specs.Scene.{FluidParticle, Contact}
 use Rattle.scene_format.specs.SceneOf.{sceneOf}
@@ -28,29 +28,31 @@ use Rattle.scene_index.proofs.ContactLists.{contactsOf, ContactsAre, over-list}
 -- ---- both kinds of contacts
 
 -- the whole sum over a list is one over the particle's contacts
-summed-all : {A : Type 0} {b : List ℕ} {κ : Kind} {p : FluidParticle} {list : ContactList} → ContactsAre b κ p list
+summed-all : {A : Type 0} {b : List ℕ} {κ : Kind} {p : FluidParticle} {list : ContactList} {d : ℕ}
+    → d ≡ axesOf b → ContactsAre b κ p list
     → (f : Neighbour → A → Contact → A) (a : A)
-    → summed κ b list f a (list .count)
+    → summed κ d b list f a (list .count)
     ≡ fold (λ sum c. f (neighbourOf κ (sceneOf b) (p .density0) c) sum c) a (contactsOf κ p)
-summed-all {A} {b} {κ} {p} {list} h f a =
-    let over : Float → A = λ d. overList κ b list (λ sum c. f (neighbourOf κ (sceneOf b) d c) sum c) a in
-    ap over (h .density0) ∙ over-list h (λ sum c. f (neighbourOf κ (sceneOf b) (p .density0) c) sum c) a
+summed-all {A} {b} {κ} {p} {list} {d} axes h f a =
+    let over : Float → A = λ x. overList κ d b list (λ sum c. f (neighbourOf κ (sceneOf b) x c) sum c) a in
+    ap over (h .density0) ∙ over-list axes h (λ sum c. f (neighbourOf κ (sceneOf b) (p .density0) c) sum c) a
 
--- of a particle p with these lists of contacts; x is what a sum is after the fluid contacts
-module _ {b : List ℕ} {p : FluidParticle} {fluid boundary : ContactList} (fs : ContactsAre b Fluid p fluid)
-    (bs : ContactsAre b Boundary p boundary) where
+-- of a particle p with these lists of contacts, where the code has d for the number of axes; x is what a sum is after
+-- the fluid contacts
+module _ {b : List ℕ} {d : ℕ} (axes : d ≡ axesOf b) {p : FluidParticle} {fluid boundary : ContactList}
+    (fs : ContactsAre b Fluid p fluid) (bs : ContactsAre b Boundary p boundary) where
   over-both : {A : Type 0} (f : Neighbour → A → Contact → A) (a : A) {x y : A}
-      → x ≡ summed Fluid b fluid f a (fluid .count)
-      → y ≡ summed Boundary b boundary f x (boundary .count)
+      → x ≡ summed Fluid d b fluid f a (fluid .count)
+      → y ≡ summed Boundary d b boundary f x (boundary .count)
       → y ≡ overNeighbours (sceneOf b) p f a
   unfolding overNeighbours overContacts fluidNeighbour boundaryNeighbour massOf velocityOf contactsOf
   over-both {A} f a q r =
-      r ∙ summed-all bs f _
+      r ∙ summed-all axes bs f _
       ∙ ap (λ (x : A). fold (λ sum c. f (neighbourOf Boundary (sceneOf b) (p .density0) c) sum c) x
-      (contactsOf Boundary p)) (q ∙ summed-all fs f a)
+      (contactsOf Boundary p)) (q ∙ summed-all axes fs f a)
 
-  density-made : {x rho : Float} → x ≡ summed Fluid b fluid weighed +0 (fluid .count)
-      → rho ≡ summed Boundary b boundary weighed x (boundary .count)
+  density-made : {x rho : Float} → x ≡ summed Fluid d b fluid weighed +0 (fluid .count)
+      → rho ≡ summed Boundary d b boundary weighed x (boundary .count)
       → rho ≡ rules.density (sceneOf b) p
   unfolding rules.density
   density-made q r = over-both weighed +0 q r
@@ -58,60 +60,62 @@ module _ {b : List ℕ} {p : FluidParticle} {fluid boundary : ContactList} (fs :
   -- t is the step length
   module _ {t : Float} (te : t ≡ dt (sceneOf b)) (rho : Float) where
     predicted-made : (v : Vector) {x delta : Float} → v ≡ advectedVelocity (sceneOf b) p
-        → x ≡ summed Fluid b fluid (approached v) +0 (fluid .count)
-        → delta ≡ summed Boundary b boundary (approached v) x (boundary .count)
+        → x ≡ summed Fluid d b fluid (approached v) +0 (fluid .count)
+        → delta ≡ summed Boundary d b boundary (approached v) x (boundary .count)
         → rho ⊕ delta ⊗ t ≡ predictedDensity (sceneOf b) p rho
     unfolding predictedDensity rules.delta
     predicted-made v ve q r =
-        ap (λ d. rho ⊕ d ⊗ t)
+        ap (λ x. rho ⊕ x ⊗ t)
         (over-both (approached v) +0 q r ∙ ap (λ v. overNeighbours (sceneOf b) p (approached v) +0) ve)
         ∙ ap (λ t. rho ⊕ rules.delta (sceneOf b) p ⊗ t) te
 
-    dii-made : {x d : Vector}
-        → x ≡ summed Fluid b fluid (pushed (⊝ t ⊗ t ⊘ (rho ⊗ rho))) (origin axes) (fluid .count)
-        → d ≡ summed Boundary b boundary (pushed (⊝ t ⊗ t ⊘ (rho ⊗ rho))) x (boundary .count)
-        → d ≡ rules.dii (sceneOf b) p rho
+    dii-made : {x u : Vector}
+        → x ≡ summed Fluid d b fluid (pushed (⊝ t ⊗ t ⊘ (rho ⊗ rho))) (origin d) (fluid .count)
+        → u ≡ summed Boundary d b boundary (pushed (⊝ t ⊗ t ⊘ (rho ⊗ rho))) x (boundary .count)
+        → u ≡ rules.dii (sceneOf b) p rho
     unfolding rules.dii diiFactor
     dii-made q r =
         over-both (pushed (⊝ t ⊗ t ⊘ (rho ⊗ rho))) _ q r
-        ∙ ap (λ z. overNeighbours (sceneOf b) p (pushed (⊝ t ⊗ t ⊘ (rho ⊗ rho))) z) (zero-is b)
+        ∙ ap (λ z. overNeighbours (sceneOf b) p (pushed (⊝ t ⊗ t ⊘ (rho ⊗ rho))) z) (ap origin axes ∙ zero-is b)
         ∙ ap (λ t. overNeighbours (sceneOf b) p (pushed (⊝ t ⊗ t ⊘ (rho ⊗ rho))) (zeroVector (sceneOf b))) te
 
-    aii-made : (d : Vector) (m : Float) {x a : Float} → m ≡ particleMass p
-        → x ≡ summed Fluid b fluid (returned d (t ⊗ t ⊗ m ⊘ (rho ⊗ rho))) +0 (fluid .count)
-        → a ≡ summed Boundary b boundary (returned d (t ⊗ t ⊗ m ⊘ (rho ⊗ rho))) x (boundary .count)
-        → a ≡ rules.aii (sceneOf b) p rho d
+    aii-made : (u : Vector) (m : Float) {x a : Float} → m ≡ particleMass p
+        → x ≡ summed Fluid d b fluid (returned u (t ⊗ t ⊗ m ⊘ (rho ⊗ rho))) +0 (fluid .count)
+        → a ≡ summed Boundary d b boundary (returned u (t ⊗ t ⊗ m ⊘ (rho ⊗ rho))) x (boundary .count)
+        → a ≡ rules.aii (sceneOf b) p rho u
     unfolding rules.aii djiFactor
-    aii-made d m me q r =
-        over-both (returned d (t ⊗ t ⊗ m ⊘ (rho ⊗ rho))) +0 q r
-        ∙ ap (λ m. overNeighbours (sceneOf b) p (returned d (t ⊗ t ⊗ m ⊘ (rho ⊗ rho))) +0) me
-        ∙ ap (λ t. overNeighbours (sceneOf b) p (returned d (t ⊗ t ⊗ particleMass p ⊘ (rho ⊗ rho))) +0) te
+    aii-made u m me q r =
+        over-both (returned u (t ⊗ t ⊗ m ⊘ (rho ⊗ rho))) +0 q r
+        ∙ ap (λ m. overNeighbours (sceneOf b) p (returned u (t ⊗ t ⊗ m ⊘ (rho ⊗ rho))) +0) me
+        ∙ ap (λ t. overNeighbours (sceneOf b) p (returned u (t ⊗ t ⊗ particleMass p ⊘ (rho ⊗ rho))) +0) te
 
   -- from the results of the code's calls, in their order
-  pub coefficients-made : {t x y rho delta u a m : Float} {v pd d : Vec3}
+  pub coefficients-made : {t x y rho delta z a m : Float} (v part : Vec3) {u : Vec3}
       → t ≡ dt (sceneOf b)
-      → coordinates v ≡ advectedVelocity (sceneOf b) p
-      → x ≡ summed Fluid b fluid weighed +0 (fluid .count)
-      → y ≡ summed Fluid b fluid (approached (coordinates v)) +0 (fluid .count)
-      → rho ≡ summed Boundary b boundary weighed x (boundary .count)
-      → delta ≡ summed Boundary b boundary (approached (coordinates v)) y (boundary .count)
-      → coordinates pd ≡ summed Fluid b fluid (pushed (⊝ t ⊗ t ⊘ (rho ⊗ rho))) (origin axes) (fluid .count)
-      → coordinates d ≡ summed Boundary b boundary (pushed (⊝ t ⊗ t ⊘ (rho ⊗ rho))) (coordinates pd) (boundary .count)
+      → coordinates d v ≡ advectedVelocity (sceneOf b) p
+      → x ≡ summed Fluid d b fluid weighed +0 (fluid .count)
+      → y ≡ summed Fluid d b fluid (approached (coordinates d v)) +0 (fluid .count)
+      → rho ≡ summed Boundary d b boundary weighed x (boundary .count)
+      → delta ≡ summed Boundary d b boundary (approached (coordinates d v)) y (boundary .count)
+      → coordinates d part ≡ summed Fluid d b fluid (pushed (⊝ t ⊗ t ⊘ (rho ⊗ rho))) (origin d) (fluid .count)
+      → coordinates d u
+      ≡ summed Boundary d b boundary (pushed (⊝ t ⊗ t ⊘ (rho ⊗ rho))) (coordinates d part) (boundary .count)
       → m ≡ particleMass p
-      → u ≡ summed Fluid b fluid (returned (coordinates d) (t ⊗ t ⊗ m ⊘ (rho ⊗ rho))) +0 (fluid .count)
-      → a ≡ summed Boundary b boundary (returned (coordinates d) (t ⊗ t ⊗ m ⊘ (rho ⊗ rho))) u (boundary .count)
-      → CoefficientsAre (record { density = rho; «predicted_density» = rho ⊕ delta ⊗ t; aii = a; dii = d })
+      → z ≡ summed Fluid d b fluid (returned (coordinates d u) (t ⊗ t ⊗ m ⊘ (rho ⊗ rho))) +0 (fluid .count)
+      → a ≡ summed Boundary d b boundary (returned (coordinates d u) (t ⊗ t ⊗ m ⊘ (rho ⊗ rho))) z (boundary .count)
+      → CoefficientsAre d (record { density = rho; «predicted_density» = rho ⊕ delta ⊗ t; aii = a; dii = u })
       (coefficientsOf (sceneOf b) p)
   unfolding coefficientsOf
-  coefficients-made {rho = rho} {m = m} {v = v} {d = d} te ve xe ye re le pe de me ue ae =
+  coefficients-made {rho = rho} {m = m} v part {u = u} te ve xe ye re le pe ue me ze ae =
       let density = density-made xe re in
-      let dii = dii-made te rho pe de ∙ ap (rules.dii (sceneOf b) p) density in
+      let dii = dii-made te rho pe ue ∙ ap (rules.dii (sceneOf b) p) density in
       record {
         density = density;
-        predictedDensity = predicted-made te rho (coordinates v) ve ye le ∙ ap (predictedDensity (sceneOf b) p) density;
+        predictedDensity =
+            predicted-made te rho (coordinates d v) ve ye le ∙ ap (predictedDensity (sceneOf b) p) density;
         aii =
-            aii-made te rho (coordinates d) m me ue ae
-            ∙ ap (λ r. rules.aii (sceneOf b) p r (coordinates d)) density
+            aii-made te rho (coordinates d u) m me ze ae
+            ∙ ap (λ r. rules.aii (sceneOf b) p r (coordinates d u)) density
             ∙ ap (rules.aii (sceneOf b) p (rules.density (sceneOf b) p)) dii;
         dii = dii;
       }

@@ -49,25 +49,25 @@ pushed factor j sum c = sum ⊞ c .gradient ⊡ (j .mass ⊗ factor)
 abbrev pub returned : Vector → Float → Neighbour → Float → Contact → Float
 returned d factor j sum c = sum ⊕ j .mass ⊗ ((d ⊟ c .gradient ⊡ factor) · c .gradient)
 
--- ---- a sum over the first n contacts of a list of one kind, from a on
+-- ---- a sum over the first n contacts of a list of one kind, for d axes, from a on
 
-abbrev pub summed : {A : Type 0} → Kind → List ℕ → ContactList → (Neighbour → A → Contact → A) → A → ℕ → A
-summed κ b list f a n =
-    overFirst κ b (list .at) (λ sum c. f (neighbourOf κ (sceneOf b) (list .density0) c) sum c) a n
+abbrev pub summed : {A : Type 0} → Kind → ℕ → List ℕ → ContactList → (Neighbour → A → Contact → A) → A → ℕ → A
+summed κ d b list f a n =
+    overFirst κ d b (list .at) (λ sum c. f (neighbourOf κ (sceneOf b) (list .density0) c) sum c) a n
 
 -- what it finds
-abbrev pub SumReady : Kind → List ℕ → List ℕ → List Float → ℕ → ContactList → Type 0
-SumReady κ b index work n list =
-    PassOver b index n × ContactsReady κ b list × CoefficientsReady (sceneOf b) n work
+abbrev pub SumReady : Kind → List ℕ → List ℕ → List Float → ℕ → ℕ → ContactList → Type 0
+SumReady κ b index work d n list =
+    PassOver b index d n × ContactsReady κ d b list × CoefficientsReady (sceneOf b) d n work
 
 -- ---- a particle's coefficients
 
--- the code's are these
-pub record CoefficientsAre (r : CoefficientsOf) (k : Coefficients) : Type 0 where
+-- the code's are these, dii on d axes
+pub record CoefficientsAre (d : ℕ) (r : CoefficientsOf) (k : Coefficients) : Type 0 where
   pub density : r .density ≡ k .density
   pub predictedDensity : r .«predicted_density» ≡ k .predictedDensity
   pub aii : r .aii ≡ k .aii
-  pub dii : coordinates (r .dii) ≡ k .dii
+  pub dii : coordinates d (r .dii) ≡ k .dii
 
 -- the first pressure, dii, density, predicted density and aii, in the order of their slots
 unfoldable pub coefficientRow : Scene → ℕ → List Float

@@ -5,13 +5,13 @@ use crate::neighbours::mass;
 use crate::neighbours::velocity;
 use iisph_rows::rows::ADVECTED;
 use iisph_rows::rows::MASS;
-use iisph_rows::rows::ROW;
+use iisph_rows::rows::row_at;
 use iisph_rows::rows::vector_at;
 use math::Vec3;
 use scene_format::Kind;
 use scene_format::format::CONTACT_GRADIENT;
 use scene_format::format::CONTACT_WEIGHT;
-use scene_format::format::CONTACT_WIDTH;
+use scene_format::format::contact_width;
 use scene_format::read;
 use scene_index::contacts::ContactList;
 use scene_index::contacts::contacts_of;
@@ -21,7 +21,6 @@ ghost use Rattle.iisph_rows.specs.Passes.{TimedPass, CoefficientsReady};
 ghost use Rattle.iisph_rules.specs.Coefficients.{coefficientsOf};
 ghost use Rattle.math.specs.Real.{+0};
 ghost use Rattle.math.specs.Vector.{coordinates, origin};
-ghost use Rattle.scene_format.specs.Format.{axes};
 ghost use Rattle.scene_format.specs.Scene.{particle};
 ghost use Rattle.scene_format.specs.SceneOf.{sceneOf};
 ghost use Rattle.iisph_coefficients.specs.Neighbours.{weighed, approached, pushed, returned, summed, SumReady};
@@ -46,28 +45,33 @@ fn fluid_densities(
     scene: &[u8],
     index: &[usize],
     work: &[f64],
+    dim: u8,
     n: usize,
     list: ContactList,
     v: Vec3,
 ) -> Sums
-    requires { ⌜ SumReady Kind.Fluid (now scene) (now index) (now work) n list ⌝ }
+    requires { ⌜ SumReady Kind.Fluid (now scene) (now index) (now work) dim n list ⌝ }
     ensures { λ r. ⌜
-        (let over = summed Kind.Fluid (now (scene .entry)) list in
+        (let over = summed Kind.Fluid dim (now (scene .entry)) list in
         (r .density ≡ over weighed +0 (list .count))
-        × (r .delta ≡ over (approached (coordinates v)) +0 (list .count)))
+        × (r .delta ≡ over (approached (coordinates dim v)) +0 (list .count)))
         ⌝ }
 {
     let count = list.count;
     let at = list.at;
+    let width = contact_width(dim);
     let mut density = 0.0;
     let mut delta = 0.0;
     let mut k = 0usize;
     while k < count {
-        let c = at + CONTACT_WIDTH * k;
-        let m = mass(scene, index, work, n, Kind::Fluid, list.density0, c);
-        let vj = velocity(scene, index, work, n, Kind::Fluid, c);
+        let c = at + width * k;
+        let m = mass(scene, index, work, dim, n, Kind::Fluid, list.density0, c);
+        let vj = velocity(scene, index, work, dim, n, Kind::Fluid, c);
         density = density + m * read::double(scene, c + CONTACT_WEIGHT);
-        delta = delta + m * v.sub(vj).dot(read::vector(scene, c + CONTACT_GRADIENT));
+        delta = delta
+            + m
+                * v.sub(vj)
+                    .dot(read::vector(scene, c + CONTACT_GRADIENT, dim), dim);
         k += 1;
     }
     Sums { density, delta }
@@ -78,29 +82,34 @@ fn boundary_densities(
     scene: &[u8],
     index: &[usize],
     work: &[f64],
+    dim: u8,
     n: usize,
     list: ContactList,
     v: Vec3,
     from: Sums,
 ) -> Sums
-    requires { ⌜ SumReady Kind.Boundary (now scene) (now index) (now work) n list ⌝ }
+    requires { ⌜ SumReady Kind.Boundary (now scene) (now index) (now work) dim n list ⌝ }
     ensures { λ r. ⌜
-        (let over = summed Kind.Boundary (now (scene .entry)) list in
+        (let over = summed Kind.Boundary dim (now (scene .entry)) list in
         (r .density ≡ over weighed (from .density) (list .count))
-        × (r .delta ≡ over (approached (coordinates v)) (from .delta) (list .count)))
+        × (r .delta ≡ over (approached (coordinates dim v)) (from .delta) (list .count)))
         ⌝ }
 {
     let count = list.count;
     let at = list.at;
+    let width = contact_width(dim);
     let mut density = from.density;
     let mut delta = from.delta;
     let mut k = 0usize;
     while k < count {
-        let c = at + CONTACT_WIDTH * k;
-        let m = mass(scene, index, work, n, Kind::Boundary, list.density0, c);
-        let vj = velocity(scene, index, work, n, Kind::Boundary, c);
+        let c = at + width * k;
+        let m = mass(scene, index, work, dim, n, Kind::Boundary, list.density0, c);
+        let vj = velocity(scene, index, work, dim, n, Kind::Boundary, c);
         density = density + m * read::double(scene, c + CONTACT_WEIGHT);
-        delta = delta + m * v.sub(vj).dot(read::vector(scene, c + CONTACT_GRADIENT));
+        delta = delta
+            + m
+                * v.sub(vj)
+                    .dot(read::vector(scene, c + CONTACT_GRADIENT, dim), dim);
         k += 1;
     }
     Sums { density, delta }
@@ -111,24 +120,26 @@ fn fluid_dii(
     scene: &[u8],
     index: &[usize],
     work: &[f64],
+    dim: u8,
     n: usize,
     list: ContactList,
     factor: f64,
 ) -> Vec3
-    requires { ⌜ SumReady Kind.Fluid (now scene) (now index) (now work) n list ⌝ }
+    requires { ⌜ SumReady Kind.Fluid (now scene) (now index) (now work) dim n list ⌝ }
     ensures { λ r. ⌜
-        coordinates r
-        ≡ summed Kind.Fluid (now (scene .entry)) list (pushed factor) (origin axes) (list .count)
+        coordinates dim r
+        ≡ summed Kind.Fluid dim (now (scene .entry)) list (pushed factor) (origin dim) (list .count)
         ⌝ }
 {
     let count = list.count;
     let at = list.at;
+    let width = contact_width(dim);
     let mut sum = Vec3::zero();
     let mut k = 0usize;
     while k < count {
-        let c = at + CONTACT_WIDTH * k;
-        let m = mass(scene, index, work, n, Kind::Fluid, list.density0, c);
-        sum = sum.add(read::vector(scene, c + CONTACT_GRADIENT).scale(m * factor));
+        let c = at + width * k;
+        let m = mass(scene, index, work, dim, n, Kind::Fluid, list.density0, c);
+        sum = sum.add(read::vector(scene, c + CONTACT_GRADIENT, dim).scale(m * factor));
         k += 1;
     }
     sum
@@ -139,25 +150,27 @@ fn boundary_dii(
     scene: &[u8],
     index: &[usize],
     work: &[f64],
+    dim: u8,
     n: usize,
     list: ContactList,
     factor: f64,
     from: Vec3,
 ) -> Vec3
-    requires { ⌜ SumReady Kind.Boundary (now scene) (now index) (now work) n list ⌝ }
+    requires { ⌜ SumReady Kind.Boundary (now scene) (now index) (now work) dim n list ⌝ }
     ensures { λ r. ⌜
-        coordinates r
-        ≡ summed Kind.Boundary (now (scene .entry)) list (pushed factor) (coordinates from) (list .count)
+        coordinates dim r
+        ≡ summed Kind.Boundary dim (now (scene .entry)) list (pushed factor) (coordinates dim from) (list .count)
         ⌝ }
 {
     let count = list.count;
     let at = list.at;
+    let width = contact_width(dim);
     let mut sum = from;
     let mut k = 0usize;
     while k < count {
-        let c = at + CONTACT_WIDTH * k;
-        let m = mass(scene, index, work, n, Kind::Boundary, list.density0, c);
-        sum = sum.add(read::vector(scene, c + CONTACT_GRADIENT).scale(m * factor));
+        let c = at + width * k;
+        let m = mass(scene, index, work, dim, n, Kind::Boundary, list.density0, c);
+        sum = sum.add(read::vector(scene, c + CONTACT_GRADIENT, dim).scale(m * factor));
         k += 1;
     }
     sum
@@ -168,25 +181,27 @@ fn fluid_aii(
     scene: &[u8],
     index: &[usize],
     work: &[f64],
+    dim: u8,
     n: usize,
     list: ContactList,
     factor: f64,
     d: Vec3,
 ) -> f64
-    requires { ⌜ SumReady Kind.Fluid (now scene) (now index) (now work) n list ⌝ }
+    requires { ⌜ SumReady Kind.Fluid (now scene) (now index) (now work) dim n list ⌝ }
     ensures { λ r. ⌜
-        r ≡ summed Kind.Fluid (now (scene .entry)) list (returned (coordinates d) factor) +0 (list .count)
+        r ≡ summed Kind.Fluid dim (now (scene .entry)) list (returned (coordinates dim d) factor) +0 (list .count)
         ⌝ }
 {
     let count = list.count;
     let at = list.at;
+    let width = contact_width(dim);
     let mut sum = 0.0;
     let mut k = 0usize;
     while k < count {
-        let c = at + CONTACT_WIDTH * k;
-        let m = mass(scene, index, work, n, Kind::Fluid, list.density0, c);
-        let g = read::vector(scene, c + CONTACT_GRADIENT);
-        sum = sum + m * d.sub(g.scale(factor)).dot(g);
+        let c = at + width * k;
+        let m = mass(scene, index, work, dim, n, Kind::Fluid, list.density0, c);
+        let g = read::vector(scene, c + CONTACT_GRADIENT, dim);
+        sum = sum + m * d.sub(g.scale(factor)).dot(g, dim);
         k += 1;
     }
     sum
@@ -197,26 +212,28 @@ fn boundary_aii(
     scene: &[u8],
     index: &[usize],
     work: &[f64],
+    dim: u8,
     n: usize,
     list: ContactList,
     factor: f64,
     d: Vec3,
     from: f64,
 ) -> f64
-    requires { ⌜ SumReady Kind.Boundary (now scene) (now index) (now work) n list ⌝ }
+    requires { ⌜ SumReady Kind.Boundary (now scene) (now index) (now work) dim n list ⌝ }
     ensures { λ r. ⌜
-        r ≡ summed Kind.Boundary (now (scene .entry)) list (returned (coordinates d) factor) from (list .count)
+        r ≡ summed Kind.Boundary dim (now (scene .entry)) list (returned (coordinates dim d) factor) from (list .count)
         ⌝ }
 {
     let count = list.count;
     let at = list.at;
+    let width = contact_width(dim);
     let mut sum = from;
     let mut k = 0usize;
     while k < count {
-        let c = at + CONTACT_WIDTH * k;
-        let m = mass(scene, index, work, n, Kind::Boundary, list.density0, c);
-        let g = read::vector(scene, c + CONTACT_GRADIENT);
-        sum = sum + m * d.sub(g.scale(factor)).dot(g);
+        let c = at + width * k;
+        let m = mass(scene, index, work, dim, n, Kind::Boundary, list.density0, c);
+        let g = read::vector(scene, c + CONTACT_GRADIENT, dim);
+        sum = sum + m * d.sub(g.scale(factor)).dot(g, dim);
         k += 1;
     }
     sum
@@ -227,29 +244,31 @@ pub fn coefficients_of(
     scene: &[u8],
     index: &[usize],
     work: &[f64],
+    dim: u8,
     n: usize,
     dt: f64,
     i: usize,
 ) -> CoefficientsOf
-    requires { ⌜ TimedPass (now scene) (now index) n dt × (i < n) ⌝ }
-    requires { ⌜ CoefficientsReady (sceneOf (now scene)) n (now work) ⌝ }
+    requires { ⌜ TimedPass (now scene) (now index) dim n dt × (i < n) ⌝ }
+    requires { ⌜ CoefficientsReady (sceneOf (now scene)) dim n (now work) ⌝ }
     ensures { λ r. ⌜
         (let s = sceneOf (now (scene .entry)) in
-        CoefficientsAre r (coefficientsOf s (particle s i)))
+        CoefficientsAre dim r (coefficientsOf s (particle s i)))
         ⌝ }
 {
-    let fluid = contacts_of(scene, index, Kind::Fluid, i);
-    let boundary = contacts_of(scene, index, Kind::Boundary, i);
-    let v = vector_at(work, ROW * i + ADVECTED);
-    let part = fluid_densities(scene, index, work, n, fluid, v);
-    let sums = boundary_densities(scene, index, work, n, boundary, v, part);
+    let fluid = contacts_of(scene, index, dim, Kind::Fluid, i);
+    let boundary = contacts_of(scene, index, dim, Kind::Boundary, i);
+    let row = row_at(work, dim, i);
+    let v = vector_at(work, row + ADVECTED, dim);
+    let part = fluid_densities(scene, index, work, dim, n, fluid, v);
+    let sums = boundary_densities(scene, index, work, dim, n, boundary, v, part);
     let rho = sums.density;
     let factor = -dt * dt / (rho * rho);
-    let part = fluid_dii(scene, index, work, n, fluid, factor);
-    let d = boundary_dii(scene, index, work, n, boundary, factor, part);
-    let e = dt * dt * work[ROW * i + MASS] / (rho * rho);
-    let part = fluid_aii(scene, index, work, n, fluid, e, d);
-    let a = boundary_aii(scene, index, work, n, boundary, e, d, part);
+    let part = fluid_dii(scene, index, work, dim, n, fluid, factor);
+    let d = boundary_dii(scene, index, work, dim, n, boundary, factor, part);
+    let e = dt * dt * work[row + MASS] / (rho * rho);
+    let part = fluid_aii(scene, index, work, dim, n, fluid, e, d);
+    let a = boundary_aii(scene, index, work, dim, n, boundary, e, d, part);
     CoefficientsOf {
         density: rho,
         predicted_density: rho + sums.delta * dt,

@@ -1,9 +1,9 @@
 // What a contact of a fluid particle names, as its owner sees it: the neighbour's mass and velocity (METHOD 5.1, 5.2).
 use iisph_rows::rows::ADVECTED;
 use iisph_rows::rows::MASS;
-use iisph_rows::rows::ROW;
-use iisph_rows::rows::VOLUMES;
+use iisph_rows::rows::row_at;
 use iisph_rows::rows::vector_at;
+use iisph_rows::rows::volume_at;
 use math::Vec3;
 use scene_format::Kind;
 use scene_format::read;
@@ -22,22 +22,23 @@ pub fn mass(
     scene: &[u8],
     index: &[usize],
     work: &[f64],
+    dim: u8,
     n: usize,
     kind: Kind,
     density0: f64,
     at: usize,
 ) -> f64
-    requires { ⌜ PassOver (now scene) (now index) n ⌝ }
-    requires { ⌜ ContactReady kind (now scene) at × CoefficientsReady (sceneOf (now scene)) n (now work) ⌝ }
+    requires { ⌜ PassOver (now scene) (now index) dim n ⌝ }
+    requires { ⌜ ContactReady kind dim (now scene) at × CoefficientsReady (sceneOf (now scene)) dim n (now work) ⌝ }
     ensures { λ r. ⌜
         (let b = now (scene .entry) in
-        r ≡ massOf kind (sceneOf b) density0 (contactAt (startsOf kind b) b at))
+        r ≡ massOf kind (sceneOf b) density0 (contactAt dim (startsOf kind b) b at))
         ⌝ }
 {
     let j = target_of(scene, index, kind, at);
     match kind {
-        Kind::Fluid => work[ROW * j + MASS],
-        Kind::Boundary => work[VOLUMES * n + j] * density0,
+        Kind::Fluid => work[row_at(work, dim, j) + MASS],
+        Kind::Boundary => work[volume_at(work, dim, n, j)] * density0,
     }
 }
 
@@ -47,23 +48,24 @@ pub fn velocity(
     scene: &[u8],
     index: &[usize],
     work: &[f64],
+    dim: u8,
     n: usize,
     kind: Kind,
     at: usize,
 ) -> Vec3
-    requires { ⌜ PassOver (now scene) (now index) n ⌝ }
-    requires { ⌜ ContactReady kind (now scene) at × CoefficientsReady (sceneOf (now scene)) n (now work) ⌝ }
+    requires { ⌜ PassOver (now scene) (now index) dim n ⌝ }
+    requires { ⌜ ContactReady kind dim (now scene) at × CoefficientsReady (sceneOf (now scene)) dim n (now work) ⌝ }
     ensures { λ r. ⌜
         (let b = now (scene .entry) in
-        coordinates r ≡ velocityOf kind (sceneOf b) (contactAt (startsOf kind b) b at))
+        coordinates dim r ≡ velocityOf kind (sceneOf b) (contactAt dim (startsOf kind b) b at))
         ⌝ }
 {
     let j = target_of(scene, index, kind, at);
     match kind {
-        Kind::Fluid => vector_at(work, ROW * j + ADVECTED),
+        Kind::Fluid => vector_at(work, row_at(work, dim, j) + ADVECTED, dim),
         Kind::Boundary => {
             let record = record_of(scene, index, Kind::Boundary, j);
-            read::vector(scene, record)
+            read::vector(scene, record, dim)
         }
     }
 }

@@ -24,7 +24,7 @@ use Rattle.math.proofs.Vectors.{sum-sized, scaled-sized}
 use Rattle.scene_check.specs.Walk.{checked}
 use Rattle.scene_check.proofs.Records.{fluid-particle-ok}
 use Rattle.scene_format.specs.Bytes.{vectorAt}
-use Rattle.scene_format.specs.Format.{axes}
+use Rattle.scene_format.specs.Format.{axesOf}
 use Rattle.scene_format.specs.Scene.{Scene, Contact, fluidSize, boundarySize, sizeOf, particle, boundary}
 use Rattle.scene_format.specs.SceneOf.{contactAt, contactList, fluidParticleAt, forceAt, boundaryParticleAt, sceneOf}
 use Rattle.scene_format.specs.declared.Kind.the-variants.{Boundary}
@@ -39,23 +39,24 @@ use Rattle.iisph_forces.proofs.Offsets.{offset-next, offset-more, offse
 -- ---- rows
 
 -- kept forces are vectors
-abbrev pub Fits : Scene → (ℕ → Vector) → Type 0
-Fits s F = (j : ℕ) → j < boundarySize s → boundary s j .keepsForces ≡ true → length (F j) ≡ axes
+abbrev pub Fits : ℕ → Scene → (ℕ → Vector) → Type 0
+Fits d s F = (j : ℕ) → j < boundarySize s → boundary s j .keepsForces ≡ true → length (F j) ≡ d
 
-width-go : (t : Bool) (v : Float) (u : Vector) → (t ≡ true → length u ≡ axes)
-    → length (v ∷ choose t u []) ≡ answerWidth axes Boundary (choose t 1 0)
+width-go : (d : ℕ) (t : Bool) (v : Float) (u : Vector) → (t ≡ true → length u ≡ d)
+    → length (v ∷ choose t u []) ≡ answerWidth d Boundary (choose t 1 0)
 unfolding answerWidth choose
-width-go true v u q = ap suc (q refl)
-width-go false v u q = refl
+width-go d true v u q = omega (arith, q refl)
+width-go d false v u q = refl
 
-module _ (s : Scene) (F : ℕ → Vector) (fits : Fits s F) where
-  pub with-length : (j : ℕ) → j < boundarySize s → length (boundaryWith s F j) ≡ widthAt s j
+module _ (d : ℕ) (s : Scene) (F : ℕ → Vector) (fits : Fits d s F) where
+  pub with-length : (j : ℕ) → j < boundarySize s → length (boundaryWith s F j) ≡ widthAt d s j
   unfolding boundaryWith boundaryAnswerWidth
-  with-length j h = width-go (boundary s j .keepsForces) (boundaryVolume (boundary s j)) (F j) (fits j h)
+  with-length j h = width-go d (boundary s j .keepsForces) (boundaryVolume (boundary s j)) (F j) (fits j h)
 
   -- all of them
-  pub with-all : length (flatten (table (boundarySize s) (boundaryWith s F))) ≡ sum (table (boundarySize s) (widthAt s))
-  with-all = length-rows (boundarySize s) (boundaryWith s F) (widthAt s) with-length
+  pub with-all : length (flatten (table (boundarySize s) (boundaryWith s F)))
+      ≡ sum (table (boundarySize s) (widthAt d s))
+  with-all = length-rows (boundarySize s) (boundaryWith s F) (widthAt d s) with-length
 
 -- a row with a kept force
 kept-row : (s : Scene) (F : ℕ → Vector) (j : ℕ) → boundary s j .keepsForces ≡ true
@@ -77,14 +78,14 @@ row-same s F G j h = same-go (boundary s j .keepsForces) _ (F j) (G j) h
 
 -- ---- the answer list `old` with these forces
 
-abbrev pub held : Scene → List Float → (ℕ → Vector) → List Float
-held s old F = sets old (fluidAnswerWidth axes * fluidSize s) (flatten (table (boundarySize s) (boundaryWith s F)))
+abbrev pub held : ℕ → Scene → List Float → (ℕ → Vector) → List Float
+held d s old F = sets old (fluidAnswerWidth d * fluidSize s) (flatten (table (boundarySize s) (boundaryWith s F)))
 
-pub held-same : (s : Scene) (old : List Float) (F G : ℕ → Vector)
+pub held-same : (d : ℕ) (s : Scene) (old : List Float) (F G : ℕ → Vector)
     → ((j : ℕ) → j < boundarySize s → boundary s j .keepsForces ≡ true → F j ≡ G j)
-    → held s old F ≡ held s old G
-held-same s old F G h =
-    ap (λ (rows : List (List Float)). sets old (fluidAnswerWidth axes * fluidSize s) (flatten rows))
+    → held d s old F ≡ held d s old G
+held-same d s old F G h =
+    ap (λ (rows : List (List Float)). sets old (fluidAnswerWidth d * fluidSize s) (flatten rows))
     (table-same (boundarySize s) (boundaryWith s F) (boundaryWith s G) (λ j l. row-same s F G j (h j l)))
 
 -- what a gain makes of the forces: the one on particle t grows
@@ -103,53 +104,53 @@ not-both : false ≡ true → ⊥
 unfolding choose
 not-both e = let z : _≡_ {A = ℕ} 1 0 = ap (λ (t : Bool). choose t 0 1) e in omega arith
 
-module _ (s : Scene) (old : List Float) (room : answerOffset s (boundarySize s) ≤ length old) where
-  module _ (F : ℕ → Vector) (fits : Fits s F) (t : ℕ) (below : t < boundarySize s) where
-    grown-fits : (gain : Vector) → length gain ≡ axes → Fits s (grown t gain F)
+module _ (d : ℕ) (s : Scene) (old : List Float) (room : answerOffset d s (boundarySize s) ≤ length old) where
+  module _ (F : ℕ → Vector) (fits : Fits d s F) (t : ℕ) (below : t < boundarySize s) where
+    grown-fits : (gain : Vector) → length gain ≡ d → Fits d s (grown t gain F)
     grown-fits gain sized j h k =
-        chosen (λ (u : Vector). length u ≡ axes) (eqb t j) _ _ (λ _. sum-sized (F j) gain (fits j h k) sized)
+        chosen (λ (u : Vector). length u ≡ d) (eqb t j) _ _ (λ _. sum-sized (F j) gain (fits j h k) sized)
         (λ _. fits j h k)
 
     module _ (kept : boundary s t .keepsForces ≡ true) where
       -- the row of t ends within the rows, and these within the list
-      row-room : (answerOffset s t + keptAnswerWidth axes ≤ answerOffset s (boundarySize s))
-          × (fluidAnswerWidth axes * fluidSize s + length (flatten (table (boundarySize s) (boundaryWith s F)))
-          ≡ answerOffset s (boundarySize s))
+      row-room : (answerOffset d s t + keptAnswerWidth d ≤ answerOffset d s (boundarySize s))
+          × (fluidAnswerWidth d * fluidSize s + length (flatten (table (boundarySize s) (boundaryWith s F)))
+          ≡ answerOffset d s (boundarySize s))
       unfolding answerOffset
       row-room = (
-        omega (arith, offset-next s t, width-kept s t kept, offset-more s (suc t) (boundarySize s) below),
-        omega (arith, with-all s F fits),
+        omega (arith, offset-next d s t, width-kept d s t kept, offset-more d s (suc t) (boundarySize s) below),
+        omega (arith, with-all d s F fits),
       )
 
-      held-force : vectorFrom (held s old F) (answerOffset s t + 1) ≡ F t
+      held-force : vectorFrom d (held d s old F) (answerOffset d s t + 1) ≡ F t
       unfolding answerOffset
       held-force =
-          let at = fluidAnswerWidth axes * fluidSize s in
-          let before = sum (table t (widthAt s)) in
+          let at = fluidAnswerWidth d * fluidSize s in
+          let before = sum (table t (widthAt d s)) in
           let rows = flatten (table (boundarySize s) (boundaryWith s F)) in
-          let size = length-table axes (λ e. getD (held s old F) (at + before + 1 + e) nan) in
+          let size = length-table d (λ e. getD (held d s old F) (at + before + 1 + e) nan) in
           let is-row = kept-row s F t kept in
           ext-getD nan _ _ (size ∙ sym (fits t below kept))
           (λ e l.
-          let here : e < axes = omega (arith, size) in
+          let here : e < d = omega (arith, size) in
           let offset : at + before + 1 + e ≡ at + (before + suc e) = omega arith in
-          table-at axes (λ e. getD (held s old F) (at + before + 1 + e) nan) e nan here
-          ∙ ap (λ (k : ℕ). getD (held s old F) k nan) offset
+          table-at d (λ e. getD (held d s old F) (at + before + 1 + e) nan) e nan here
+          ∙ ap (λ (k : ℕ). getD (held d s old F) k nan) offset
           ∙ sets-in nan rows old at (before + suc e) (omega (arith, room, row-room .1)) (omega (arith, row-room))
-          ∙ row-read (boundarySize s) (boundaryWith s F) (widthAt s) (with-length s F fits) t (suc e) nan below
-          (omega (arith, with-length s F fits t below, width-kept s t kept))
+          ∙ row-read (boundarySize s) (boundaryWith s F) (widthAt d s) (with-length d s F fits) t (suc e) nan below
+          (omega (arith, with-length d s F fits t below, width-kept d s t kept))
           ∙ ap (λ (row : List Float). getD row (suc e) nan) is-row)
 
-      held-grown : (gain : Vector) → length gain ≡ axes
-          → sets (held s old F) (answerOffset s t + 1) (F t ⊞ gain) ≡ held s old (grown t gain F)
+      held-grown : (gain : Vector) → length gain ≡ d
+          → sets (held d s old F) (answerOffset d s t + 1) (F t ⊞ gain) ≡ held d s old (grown t gain F)
       unfolding answerOffset
       held-grown gain sized =
-          let at = fluidAnswerWidth axes * fluidSize s in
-          let before = sum (table t (widthAt s)) in
+          let at = fluidAnswerWidth d * fluidSize s in
+          let before = sum (table t (widthAt d s)) in
           let rows = flatten (table (boundarySize s) (boundaryWith s F)) in
           let volume = boundaryVolume (boundary s t) in
           let force = F t ⊞ gain in
-          let size : length force ≡ axes = sum-sized (F t) gain (fits t below kept) sized in
+          let size : length force ≡ d = sum-sized (F t) gain (fits t below kept) sized in
           let offset : at + before + 1 ≡ at + (before + 1) = omega arith in
           let is-row : boundaryWith s (grown t gain F) t ≡ sets (boundaryWith s F t) 1 force =
           kept-row s (grown t gain F) t kept
@@ -158,36 +159,36 @@ module _ (s : Scene) (old : List Float) (room : answerOffset s (boundarySize s) 
           (ap (λ (row : List Float). sets row 1 force) (kept-row s F t kept)
           ∙ sets-cons volume (F t) 0 force
           ∙ ap (λ (u : Vector). volume ∷ u) (sets-whole (F t) force (size ∙ sym (fits t below kept)))) in
-          ap (λ (k : ℕ). sets (held s old F) k force) offset
+          ap (λ (k : ℕ). sets (held d s old F) k force) offset
           ∙ sets-inside force rows old at (before + 1) (omega (arith, size, row-room))
           ∙ ap (λ (r : List Float). sets old at r)
-          (row-store (boundarySize s) (boundaryWith s F) (boundaryWith s (grown t gain F)) (widthAt s)
-          (with-length s F fits) t 1 force below
-          (omega (arith, size, with-length s F fits t below, width-kept s t kept)) is-row
+          (row-store (boundarySize s) (boundaryWith s F) (boundaryWith s (grown t gain F)) (widthAt d s)
+          (with-length d s F fits) t 1 force below
+          (omega (arith, size, with-length d s F fits t below, width-kept d s t kept)) is-row
           (λ j l h. row-same s (grown t gain F) F j (λ _. grown-other t gain F j h)))
 
   -- ---- contacts
 
-  module _ (F : ℕ → Vector) (fits : Fits s F) (gain : Contact → Vector) (c : Contact)
+  module _ (F : ℕ → Vector) (fits : Fits d s F) (gain : Contact → Vector) (c : Contact)
       (below : c .target < boundarySize s)
-      (sized : length (gain c) ≡ axes) where
+      (sized : length (gain c) ≡ d) where
     gather-go : (t : Bool) → boundary s (c .target) .keepsForces ≡ t
-        → let k = answerOffset s (c .target) + 1 in
-        choose t (sets (held s old F) k (vectorFrom (held s old F) k ⊞ gain c)) (held s old F)
-        ≡ held s old (grown (c .target) (gain c) F)
+        → let k = answerOffset d s (c .target) + 1 in
+        choose t (sets (held d s old F) k (vectorFrom d (held d s old F) k ⊞ gain c)) (held d s old F)
+        ≡ held d s old (grown (c .target) (gain c) F)
     unfolding choose
     gather-go true e =
-        ap (λ (u : Vector). sets (held s old F) (answerOffset s (c .target) + 1) (u ⊞ gain c))
+        ap (λ (u : Vector). sets (held d s old F) (answerOffset d s (c .target) + 1) (u ⊞ gain c))
         (held-force F fits (c .target) below e)
         ∙ held-grown F fits (c .target) below e (gain c) sized
     gather-go false e =
-        held-same s old F (grown (c .target) (gain c) F)
+        held-same d s old F (grown (c .target) (gain c) F)
         (λ j h k.
         sym
         (grown-other (c .target) (gain c) F j
         (λ q. not-both (sym (ap (λ (i : ℕ). boundary s i .keepsForces) q ∙ e) ∙ k))))
 
-    gather-one : gathered s gain (held s old F) c ≡ held s old (grown (c .target) (gain c) F)
+    gather-one : gathered d s gain (held d s old F) c ≡ held d s old (grown (c .target) (gain c) F)
     unfolding gathered
     gather-one = gather-go (boundary s (c .target) .keepsForces) refl
 
@@ -197,43 +198,43 @@ module _ (s : Scene) (old : List Float) (room : answerOffset s (boundarySize s) 
     grownBy cs F j = fold (λ f c. choose (eqb (c .target) j) (f ⊞ gain c) f) (F j) cs
 
     gather-list : (cs : List Contact)
-        → ((c : Contact) → List·Memᴰ c cs → (c .target < boundarySize s) × (length (gain c) ≡ axes))
-        → (F : ℕ → Vector) → Fits s F
-        → (fold (gathered s gain) (held s old F) cs ≡ held s old (grownBy cs F)) × Fits s (grownBy cs F)
+        → ((c : Contact) → List·Memᴰ c cs → (c .target < boundarySize s) × (length (gain c) ≡ d))
+        → (F : ℕ → Vector) → Fits d s F
+        → (fold (gathered d s gain) (held d s old F) cs ≡ held d s old (grownBy cs F)) × Fits d s (grownBy cs F)
     unfolding fold
     gather-list [] good F fits = (refl, fits)
     gather-list (c ∷ cs) good F fits =
         let g = good c (List·Memᴰ·head refl) in
         let fits′ = grown-fits F fits (c .target) (g .0) (gain c) (g .1) in
-        let next = gather-list cs (λ d m. good d (List·Memᴰ·tail m)) (grown (c .target) (gain c) F) fits′ in
+        let next = gather-list cs (λ c m. good c (List·Memᴰ·tail m)) (grown (c .target) (gain c) F) fits′ in
         let one = gather-one F fits gain c (g .0) (g .1) in
-        (ap (λ (l : List Float). fold (gathered s gain) l cs) one ∙ next .0, next .1)
+        (ap (λ (l : List Float). fold (gathered d s gain) l cs) one ∙ next .0, next .1)
 
   -- ---- fluid particles, whose boundary contacts name boundary particles and have gradients that are vectors
 
   module _ (ps : List Float)
       (good : (i : ℕ) → i < fluidSize s → (c : Contact) → List·Memᴰ c (particle s i .boundaryContacts)
-      → (c .target < boundarySize s) × (length (c .gradient) ≡ axes)) where
-    gain-sized : (i : ℕ) (c : Contact) → length (c .gradient) ≡ axes → length (forceGain s ps i c) ≡ axes
+      → (c .target < boundarySize s) × (length (c .gradient) ≡ d)) where
+    gain-sized : (i : ℕ) (c : Contact) → length (c .gradient) ≡ d → length (forceGain s ps i c) ≡ d
     unfolding boundaryAcceleration
     gain-sized i c h = scaled-sized _ _ (scaled-sized _ _ h)
 
-    gather-from : (i : ℕ) → i < fluidSize s → (F : ℕ → Vector) → Fits s F
-        → (gatheredFrom s ps (held s old F) i ≡ held s old (λ j. forceFrom s (coefficients s) ps j (F j) i))
-        × Fits s (λ j. forceFrom s (coefficients s) ps j (F j) i)
+    gather-from : (i : ℕ) → i < fluidSize s → (F : ℕ → Vector) → Fits d s F
+        → (gatheredFrom d s ps (held d s old F) i ≡ held d s old (λ j. forceFrom s (coefficients s) ps j (F j) i))
+        × Fits d s (λ j. forceFrom s (coefficients s) ps j (F j) i)
     unfolding gatheredFrom forceFrom
     gather-from i h F fits =
         gather-list (forceGain s ps i) (particle s i .boundaryContacts)
         (λ c m. (good i h c m .0, gain-sized i c (good i h c m .1))) F fits
 
-    gather-all : (is : List ℕ) → ((i : ℕ) → List·Memᴰ i is → i < fluidSize s) → (F : ℕ → Vector) → Fits s F
-        → fold (gatheredFrom s ps) (held s old F) is
-        ≡ held s old (λ j. fold (forceFrom s (coefficients s) ps j) (F j) is)
+    gather-all : (is : List ℕ) → ((i : ℕ) → List·Memᴰ i is → i < fluidSize s) → (F : ℕ → Vector) → Fits d s F
+        → fold (gatheredFrom d s ps) (held d s old F) is
+        ≡ held d s old (λ j. fold (forceFrom s (coefficients s) ps j) (F j) is)
     unfolding fold
     gather-all [] h F fits = refl
     gather-all (i ∷ is) h F fits =
         let one = gather-from i (h i (List·Memᴰ·head refl)) F fits in
-        ap (λ (l : List Float). fold (gatheredFrom s ps) l is) (one .0)
+        ap (λ (l : List Float). fold (gatheredFrom d s ps) l is) (one .0)
         ∙ gather-all is (λ k m. h k (List·Memᴰ·tail m)) (λ j. forceFrom s (coefficients s) ps j (F j) i) (one .1)
 
 -- ---- an accepted scene
@@ -241,35 +242,37 @@ module _ (s : Scene) (old : List Float) (room : answerOffset s (boundarySize s) 
 module _ (b : List ℕ) {e : ℕ} (q : checked b ≡ At e) where
   contacts-good : (i : ℕ) → i < fluidSize (sceneOf b) → (c : Contact)
       → List·Memᴰ c (particle (sceneOf b) i .boundaryContacts)
-      → (c .target < boundarySize (sceneOf b)) × (length (c .gradient) ≡ axes)
+      → (c .target < boundarySize (sceneOf b)) × (length (c .gradient) ≡ axesOf b)
   unfolding fluidParticleAt contactList contactAt vectorAt sizeOf
   contacts-good i h c m =
       let ok = fluid-particle-ok b q i h in
       let here = in-table _ _ (subst (λ p. List·Memᴰ c (p .boundaryContacts)) (ok .particle) m) in (
         rw (here .value) (ok .targets Boundary (here .index) (here .below) .below),
-        rw (here .value) (length-table axes _),
+        rw (here .value) (length-table (axesOf b) _),
       )
 
-  force-go : (k at : ℕ) → eqb k 1 ≡ true → length (forceAt k b at) ≡ axes
+  force-go : (k at : ℕ) → eqb k 1 ≡ true → length (forceAt k b at) ≡ axesOf b
   unfolding forceAt vectorAt
   force-go zero at e = absurd (omega (arith, eqb-true 0 1 e))
-  force-go (suc k) at e = length-table axes _
+  force-go (suc k) at e = length-table (axesOf b) _
 
-  pub initial-fits : Fits (sceneOf b) (λ j. boundary (sceneOf b) j .force)
+  pub initial-fits : {d : ℕ} → d ≡ axesOf b → Fits d (sceneOf b) (λ j. boundary (sceneOf b) j .force)
   unfolding boundaryParticleAt
-  initial-fits j h k =
+  initial-fits axes j h k =
       let e = boundary-at b j h in
-      ap (λ p. length (p .force)) e ∙ force-go _ _ (sym (ap (λ p. p .keepsForces) e) ∙ k)
+      ap (λ p. length (p .force)) e ∙ force-go _ _ (sym (ap (λ p. p .keepsForces) e) ∙ k) ∙ sym axes
 
-  pub all-gathered : (ps old : List Float) {n : ℕ} → n ≡ fluidSize (sceneOf b) → answersNeeded (sceneOf b) ≤ length old
+  pub all-gathered : (ps old : List Float) {d n : ℕ} → d ≡ axesOf b → n ≡ fluidSize (sceneOf b)
+      → answersNeeded (sceneOf b) ≤ length old
       → let s = sceneOf b in
-      let at = fluidAnswerWidth axes * n in
-      gatheredAll s ps n (sets old at (flatten (table (boundarySize s) (boundaryInitial s))))
+      let at = fluidAnswerWidth d * n in
+      gatheredAll d s ps n (sets old at (flatten (table (boundarySize s) (boundaryInitial s))))
       ≡ sets old at (flatten (table (boundarySize s) (boundaryAnswer s (coefficients s) ps)))
   unfolding gatheredAll boundaryAnswer boundaryForce boundaryWith
-  all-gathered ps old {n} size room =
+  all-gathered ps old axes size room =
       let s = sceneOf b in
-      let all = gather-all s old (omega (arith, room, offset-all b)) ps contacts-good (table (fluidSize s) (λ i. i))
+      let all = gather-all (axesOf b) s old (omega (arith, room, offset-all b refl)) ps contacts-good
+      (table (fluidSize s) (λ i. i))
       (λ i m. let r = in-table (fluidSize s) (λ i. i) m in rw (r .value) (r .below))
-      (λ j. boundary s j .force) initial-fits in
-      rw size all
+      (λ j. boundary s j .force) (initial-fits refl) in
+      rw (axes, size) all

@@ -6,11 +6,11 @@ use iisph_motion::acceleration::pressure_state_of;
 use iisph_rows::rows::put_vector;
 use iisph_rows::rows::vector_at;
 use scene_format::Kind;
-use scene_format::format::CONTACT_WIDTH;
+use scene_format::format::contact_width;
 use scene_format::read;
 use scene_index::contacts::ContactList;
 use scene_index::contacts::contacts_of;
-use scene_lengths::KEPT_ANSWER_WIDTH;
+use scene_lengths::kept_answer_width;
 ghost use mathlib.Core.Path.{_≡_};
 ghost use Prim.Native.Nat.{_≤_};
 ghost use lib.ListN.{length};
@@ -29,23 +29,24 @@ fn gather(
     scene: &[u8],
     index: &[usize],
     work: &[f64],
+    dim: u8,
     n: usize,
     at: usize,
     state: PressureState,
     forces: &[usize],
     answers: &mut [f64],
 )
-    requires { ⌜ PassOver (now scene) (now index) n × Iterating (sceneOf (now scene)) n (now work) ⌝ }
+    requires { ⌜ PassOver (now scene) (now index) dim n × Iterating (sceneOf (now scene)) dim n (now work) ⌝ }
     requires { ⌜
-        ForceContact (now scene) at
-        × ForcesKnown (now scene) (now forces)
+        ForceContact dim (now scene) at
+        × ForcesKnown dim (now scene) (now forces)
         × (answersNeeded (sceneOf (now scene)) ≤ length (now answers))
         ⌝ }
     ensures { λ _. ⌜
         (let b = now (scene .entry) in
         let s = sceneOf b in
-        let c = contactAt (startsOf Kind.Boundary b) b at in
-        now (answers .exit) ≡ gathered s (stateGain s state) (now (answers .entry)) c)
+        let c = contactAt dim (startsOf Kind.Boundary b) b at in
+        now (answers .exit) ≡ gathered dim s (stateGain s state) (now (answers .entry)) c)
         ⌝ }
 {
     let name = read::contact_name(scene, at);
@@ -53,10 +54,10 @@ fn gather(
     let particle = name.particle.0;
     let first = forces[model];
     if first > 0 {
-        let k = first + KEPT_ANSWER_WIDTH * particle;
-        let a = boundary_acceleration(scene, index, work, n, at, state);
-        let force = vector_at(answers, k).add(a.scale(state.mass));
-        put_vector(answers, k, force);
+        let k = first + kept_answer_width(dim) * particle;
+        let a = boundary_acceleration(scene, index, work, dim, n, at, state);
+        let force = vector_at(answers, k, dim).add(a.scale(state.mass));
+        put_vector(answers, k, force, dim);
     }
 }
 
@@ -65,30 +66,33 @@ fn gather_list(
     scene: &[u8],
     index: &[usize],
     work: &[f64],
+    dim: u8,
     n: usize,
     list: ContactList,
     state: PressureState,
     forces: &[usize],
     answers: &mut [f64],
 )
-    requires { ⌜ PassOver (now scene) (now index) n × Iterating (sceneOf (now scene)) n (now work) ⌝ }
+    requires { ⌜ PassOver (now scene) (now index) dim n × Iterating (sceneOf (now scene)) dim n (now work) ⌝ }
     requires { ⌜
-        ForceContacts (now scene) list
-        × ForcesKnown (now scene) (now forces)
+        ForceContacts dim (now scene) list
+        × ForcesKnown dim (now scene) (now forces)
         × (answersNeeded (sceneOf (now scene)) ≤ length (now answers))
         ⌝ }
     ensures { λ _. ⌜
         (let b = now (scene .entry) in
         let s = sceneOf b in
-        now (answers .exit) ≡ overList Kind.Boundary b list (gathered s (stateGain s state)) (now (answers .entry)))
+        now (answers .exit)
+        ≡ overList Kind.Boundary dim b list (gathered dim s (stateGain s state)) (now (answers .entry)))
         ⌝ }
 {
     let count = list.count;
     let at = list.at;
+    let width = contact_width(dim);
     let mut k = 0usize;
     while k < count {
-        let c = at + CONTACT_WIDTH * k;
-        gather(scene, index, work, n, c, state, forces, answers);
+        let c = at + width * k;
+        gather(scene, index, work, dim, n, c, state, forces, answers);
         k += 1;
     }
 }
@@ -98,22 +102,25 @@ pub fn gather_all(
     scene: &[u8],
     index: &[usize],
     work: &[f64],
+    dim: u8,
     n: usize,
     forces: &[usize],
     answers: &mut [f64],
 )
-    requires { ⌜ PassOver (now scene) (now index) n × Iterating (sceneOf (now scene)) n (now work) ⌝ }
-    requires { ⌜ ForcesKnown (now scene) (now forces) × (answersNeeded (sceneOf (now scene)) ≤ length (now answers)) ⌝ }
+    requires { ⌜ PassOver (now scene) (now index) dim n × Iterating (sceneOf (now scene)) dim n (now work) ⌝ }
+    requires { ⌜
+        ForcesKnown dim (now scene) (now forces) × (answersNeeded (sceneOf (now scene)) ≤ length (now answers))
+        ⌝ }
     ensures { λ _. ⌜
         (let s = sceneOf (now (scene .entry)) in
-        now (answers .exit) ≡ gatheredAll s (pressuresIn n (now (work .entry))) n (now (answers .entry)))
+        now (answers .exit) ≡ gatheredAll dim s (pressuresIn dim n (now (work .entry))) n (now (answers .entry)))
         ⌝ }
 {
     let mut i = 0usize;
     while i < n {
-        let state = pressure_state_of(scene, index, work, n, i);
-        let list = contacts_of(scene, index, Kind::Boundary, i);
-        gather_list(scene, index, work, n, list, state, forces, answers);
+        let state = pressure_state_of(scene, index, work, dim, n, i);
+        let list = contacts_of(scene, index, dim, Kind::Boundary, i);
+        gather_list(scene, index, work, dim, n, list, state, forces, answers);
         i += 1;
     }
 }

@@ -1,14 +1,14 @@
 // The answers of the boundary particles with the forces that the scene has (METHOD 7.4), boundary by boundary, and
 // where the forces of each boundary begin.
-use iisph_rows::rows::VOLUMES;
 use iisph_rows::rows::put_vector;
+use iisph_rows::rows::volume_at;
 use scene_format::Kind;
-use scene_format::format::KEPT_FORCE;
+use scene_format::format::vector_width;
 use scene_format::read;
 use scene_index::records::record_of;
 use scene_layout::Layout;
-use scene_lengths::ANSWER_WIDTH;
-use scene_lengths::KEPT_ANSWER_WIDTH;
+use scene_lengths::fluid_answer_width;
+use scene_lengths::kept_answer_width;
 ghost use mathlib.Core.Path.{_≡_};
 ghost use mathlib.Core.List.{flatten};
 ghost use Prim.Native.Nat.{_+_, _*_, _<_, _≤_};
@@ -19,7 +19,7 @@ ghost use Rattle.iisph_pressures.specs.IterationRows.{Iterating};
 ghost use Rattle.iisph_rows.specs.Passes.{PassOver};
 ghost use Rattle.lists.specs.Lists.{choose, table};
 ghost use Rattle.scene_check.specs.Check.{Passed};
-ghost use Rattle.scene_format.specs.Format.{axes, nameableModels};
+ghost use Rattle.scene_format.specs.Format.{nameableModels};
 ghost use Rattle.scene_format.specs.Scene.{boundarySize, boundary};
 ghost use Rattle.scene_format.specs.SceneOf.{sceneOf};
 ghost use Rattle.scene_index.specs.Runs.{BoundaryRun};
@@ -32,28 +32,32 @@ fn put_particle(
     scene: &[u8],
     index: &[usize],
     work: &[f64],
+    dim: u8,
     n: usize,
     j: usize,
     keeps: usize,
     at: usize,
     answers: &mut [f64],
 ) -> usize
-    requires { ⌜ PassOver (now scene) (now index) n × Iterating (sceneOf (now scene)) n (now work) ⌝ }
+    requires { ⌜ PassOver (now scene) (now index) dim n × Iterating (sceneOf (now scene)) dim n (now work) ⌝ }
     requires { ⌜
         (let s = sceneOf (now scene) in
-        (j < boundarySize s) × (boundary s j .keepsForces ≡ eqb keeps 1) × (at + widthAt s j ≤ length (now answers)))
+        (j < boundarySize s)
+        × (boundary s j .keepsForces ≡ eqb keeps 1)
+        × (at + widthAt dim s j ≤ length (now answers)))
         ⌝ }
     ensures { λ r. ⌜
         (let s = sceneOf (now (scene .entry)) in
-        (r ≡ at + widthAt s j) × (now (answers .exit) ≡ sets (now (answers .entry)) at (boundaryInitial s j)))
+        (r ≡ at + widthAt dim s j) × (now (answers .exit) ≡ sets (now (answers .entry)) at (boundaryInitial s j)))
         ⌝ }
 {
-    answers[at] = work[VOLUMES * n + j];
+    answers[at] = work[volume_at(work, dim, n, j)];
     if keeps == 1 {
         let record = record_of(scene, index, Kind::Boundary, j);
-        let force = read::vector(scene, record + KEPT_FORCE);
-        put_vector(answers, at + 1, force);
-        return at + KEPT_ANSWER_WIDTH;
+        let force = read::vector(scene, record + vector_width(dim), dim);
+        put_vector(answers, at + 1, force, dim);
+        let width = kept_answer_width(dim);
+        return at + width;
     }
     at + 1
 }
@@ -64,6 +68,7 @@ fn put_boundary(
     scene: &[u8],
     index: &[usize],
     work: &[f64],
+    dim: u8,
     n: usize,
     first: usize,
     count: usize,
@@ -71,23 +76,23 @@ fn put_boundary(
     at: usize,
     answers: &mut [f64],
 ) -> usize
-    requires { ⌜ PassOver (now scene) (now index) n × Iterating (sceneOf (now scene)) n (now work) ⌝ }
+    requires { ⌜ PassOver (now scene) (now index) dim n × Iterating (sceneOf (now scene)) dim n (now work) ⌝ }
     requires { ⌜
         (let s = sceneOf (now scene) in
         BoundaryRun (now scene) first count keeps
-        × (at ≡ answerOffset s first)
+        × (at ≡ answerOffset dim s first)
         × (answersNeeded s ≤ length (now answers)))
         ⌝ }
     ensures { λ r. ⌜
         (let s = sceneOf (now (scene .entry)) in
         let initial = flatten (table count (λ p. boundaryInitial s (first + p))) in
-        (r ≡ answerOffset s (first + count)) × (now (answers .exit) ≡ sets (now (answers .entry)) at initial))
+        (r ≡ answerOffset dim s (first + count)) × (now (answers .exit) ≡ sets (now (answers .entry)) at initial))
         ⌝ }
 {
     let mut to = at;
     let mut p = 0usize;
     while p < count {
-        to = put_particle(scene, index, work, n, first + p, keeps, to, answers);
+        to = put_particle(scene, index, work, dim, n, first + p, keeps, to, answers);
         p += 1;
     }
     to
@@ -108,11 +113,12 @@ pub fn put_initial(
     layout: Layout,
     index: &[usize],
     work: &[f64],
+    dim: u8,
     n: usize,
     forces: &mut [usize],
     answers: &mut [f64],
 )
-    requires { ⌜ PassOver (now scene) (now index) n × Iterating (sceneOf (now scene)) n (now work) ⌝ }
+    requires { ⌜ PassOver (now scene) (now index) dim n × Iterating (sceneOf (now scene)) dim n (now work) ⌝ }
     requires { ⌜
         Passed (now scene) layout
         × (nameableModels ≤ length (now forces))
@@ -122,14 +128,14 @@ pub fn put_initial(
         (let b = now (scene .entry) in
         let s = sceneOf b in
         let initial = flatten (table (boundarySize s) (boundaryInitial s)) in
-        (now (forces .exit) ≡ sets (now (forces .entry)) 0 (forceStarts b))
-        × (now (answers .exit) ≡ sets (now (answers .entry)) (fluidAnswerWidth axes * n) initial))
+        (now (forces .exit) ≡ sets (now (forces .entry)) 0 (forceStarts dim b))
+        × (now (answers .exit) ≡ sets (now (answers .entry)) (fluidAnswerWidth dim * n) initial))
         ⌝ }
 {
     let boundaries = layout.boundaries;
     let heads = boundaries.heads;
     let number = boundaries.number;
-    let mut to = ANSWER_WIDTH * n;
+    let mut to = fluid_answer_width(dim) * n;
     let mut first = 0usize;
     let mut m = 0usize;
     while m < number {
@@ -137,7 +143,7 @@ pub fn put_initial(
         let count = read::particles(scene, Kind::Boundary, head);
         let kept = read::keeps(scene, head);
         forces[m] = force_start(kept, to);
-        to = put_boundary(scene, index, work, n, first, count, kept, to, answers);
+        to = put_boundary(scene, index, work, dim, n, first, count, kept, to, answers);
         first += count;
         m += 1;
     }

@@ -20,7 +20,6 @@ ghost use Rattle.iisph_rules.specs.Coefficients.{coefficients};
 ghost use Rattle.iisph_rules.specs.Step.{boundaryAnswer};
 ghost use Rattle.lists.specs.Lists.{table};
 ghost use Rattle.scene_check.specs.Check.{Passed};
-ghost use Rattle.scene_format.specs.Format.{axes};
 ghost use Rattle.scene_format.specs.Scene.{boundarySize};
 ghost use Rattle.scene_format.specs.SceneOf.{sceneOf};
 ghost use Rattle.scene_lengths.specs.Lengths.{fluidAnswerWidth, answersNeeded};
@@ -32,19 +31,20 @@ pub fn boundary_answers(
     layout: Layout,
     index: &[usize],
     work: &[f64],
+    dim: u8,
     n: usize,
     answers: &mut [f64],
 )
-    requires { ⌜ PassOver (now scene) (now index) n × Iterating (sceneOf (now scene)) n (now work) ⌝ }
+    requires { ⌜ PassOver (now scene) (now index) dim n × Iterating (sceneOf (now scene)) dim n (now work) ⌝ }
     requires { ⌜ Passed (now scene) layout × (answersNeeded (sceneOf (now scene)) ≤ length (now answers)) ⌝ }
     ensures { λ _. ⌜
         (let s = sceneOf (now (scene .entry)) in
-        let answer = boundaryAnswer s (coefficients s) (pressuresIn n (now (work .entry))) in
+        let answer = boundaryAnswer s (coefficients s) (pressuresIn dim n (now (work .entry))) in
         now (answers .exit)
-        ≡ sets (now (answers .entry)) (fluidAnswerWidth axes * n) (flatten (table (boundarySize s) answer)))
+        ≡ sets (now (answers .entry)) (fluidAnswerWidth dim * n) (flatten (table (boundarySize s) answer)))
         ⌝ }
 {
     let mut forces = [0usize; NAMEABLE_MODELS];
-    put_initial(scene, layout, index, work, n, &mut forces, answers);
-    gather_all(scene, index, work, n, &forces, answers);
+    put_initial(scene, layout, index, work, dim, n, &mut forces, answers);
+    gather_all(scene, index, work, dim, n, &forces, answers);
 }

@@ -18,5 +18,5 @@ pub record StoppingIs (s : Scene) (stopping : Stopping) : Type 0 where
 -- the header is that of the scene s, with the clock that the step has advanced
 pub record StepHeaderIs (s : Scene) (header : StepHeader) : Type 0 where
   pub clockIs : header .clock ≡ clockOf s
-  pub gravityIs : coordinates (header .gravity) ≡ s .header .gravity
+  pub gravityIs : coordinates (s .header .axes) (header .gravity) ≡ s .header .gravity
   pub stoppingIs : StoppingIs s (header .stopping)

@@ -45,7 +45,7 @@ pub fn step_header(scene: &[u8]) -> StepHeader
         inv_dt: 0.0,
         remaining_time: numbers.remaining_time,
     });
-    let gravity = read::vector(scene, GRAVITY);
+    let gravity = read::vector(scene, GRAVITY, read::axes(scene));
     let stopping = Stopping {
         min_pressure_iter: read::byte(scene, MIN_PRESSURE_ITER),
         max_pressure_iter: read::byte(scene, MAX_PRESSURE_ITER),

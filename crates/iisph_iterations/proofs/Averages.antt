@@ -15,10 +15,12 @@ use lib.Ieee.{Float, nan, binary64}
 use lib.ListN.{length, getD, take, drop}
 use lib.Seq.{drop-drop, drop-cons}
 use Rattle.math.specs.Real.{_⊘_}
+use Rattle.math.specs.Vector.{Axes}
 use Rattle.lists.specs.Lists.{fold, sum}
 use Rattle.lists.proofs.Lists.{table-same, table-map, part-table}
-use Rattle.scene_format.specs.Format.{axes}
-use Rattle.iisph_rows.specs.Rows.{quotientSlot}
+use Rattle.iisph_rows.specs.Rows.{quotientSlot, volumesAt, elementAt}
+use Rattle.iisph_rows.proofs.RowStores.{column-within}
+use Rattle.iisph_passes.proofs.Turns.{quotient-within}
 use Rattle.iisph_rules.specs.Iteration.{termSum, average, averages, noError, firstError, withAverage, errorOf}
 use Rattle.iisph_rules.specs.declared.IterationError.{IterationError}
 use Rattle.scene_format.specs.declared.Criterion.{Criterion}
@@ -28,17 +30,27 @@ use Rattle.iisph_iterations.specs.Errors.{termsFrom, termsIn, joined, wi
 
 -- ---- the terms of a fluid stand one behind the other
 
--- as a part of the list that starts and ends at these elements
-pub terms-part : (work : List Float) (n from count : ℕ) {start : ℕ} → start ≡ quotientSlot axes * n + from
-    → start + count ≤ length work → take (start + count - start) (drop start work) ≡ termsFrom work n from count
-terms-part work n from count {start} e h =
-    let long : start + count - start ≡ count = omega arith in
-    rw long
-    (ap (λ (xs : List Float). take count (drop start xs)) (sym (table-map (λ (x : Float). x) work nan ∙ map-id work))
-    ∙ part-table start count (length work) (λ i. getD work i nan) h
-    ∙ table-same count _ _
-    (λ k m. let at : start + k ≡ quotientSlot axes * n + (from + k) = omega (arith, e) in
-    ap (λ (i : ℕ). getD work i nan) at))
+-- the list has them; k is their column
+pub terms-within : {d : ℕ} → Axes d → (n from count : ℕ) {k m : ℕ} → k ≡ quotientSlot d → from + count ≤ n
+    → volumesAt d n ≤ m → k * n + from + count ≤ m
+terms-within {d} axes n from count {k} e fits room =
+    omega (arith, column-within d n k (quotient-within axes e), fits, room)
+
+module _ (work : List Float) (d n from : ℕ) {start : ℕ} (e : start ≡ quotientSlot d * n + from) where
+  pub term-at : (k : ℕ) → elementAt work (start + k) ≡ elementAt work (quotientSlot d * n + (from + k))
+  term-at k =
+      let at : start + k ≡ quotientSlot d * n + (from + k) = omega (arith, e) in
+      ap (λ (i : ℕ). elementAt work i) at
+
+  -- as a part of the list that starts and ends at these elements
+  pub terms-part : (count : ℕ) → start + count ≤ length work
+      → take (start + count - start) (drop start work) ≡ termsFrom work d n from count
+  terms-part count h =
+      let long : start + count - start ≡ count = omega arith in
+      rw long
+      (ap (λ (xs : List Float). take count (drop start xs)) (sym (table-map (λ (x : Float). x) work nan ∙ map-id work))
+      ∙ part-table start count (length work) (λ i. getD work i nan) h
+      ∙ table-same count _ _ (λ k m. term-at k))
 
 -- ---- one fluid more
 
@@ -98,32 +110,33 @@ with-some criterion w from zero error terms h e q f r = absurd (not-suc-le-zero 
 with-some criterion w from (suc n) error terms h e q f r = rw (r, e, q, f)
 
 -- after m fluids, whose particles end at `from`; `error` is what they came to
-pub record Averaged (criterion : Criterion) (w : Summation) (counts : List ℕ) (n : ℕ) (work : List Float) (m from : ℕ)
+pub record Averaged (criterion : Criterion) (w : Summation) (counts : List ℕ) (d n : ℕ) (work : List Float) (m from : ℕ)
     (error : IterationError) : Type 0 where
   pub within : m ≤ length counts
   pub rows : from + sum (drop m counts) ≡ n
   pub none : from ≡ 0 → error ≡ noError
-  pub rest : errorOn criterion from error (averages w (drop m counts) (drop from (termsIn n work)))
-      ≡ errorOf criterion (averages w counts (termsIn n work))
+  pub rest : errorOn criterion from error (averages w (drop m counts) (drop from (termsIn d n work)))
+      ≡ errorOf criterion (averages w counts (termsIn d n work))
 
-module _ (criterion : Criterion) (w : Summation) (counts : List ℕ) (n : ℕ) (work : List Float) where
-  pub none-averaged : sum counts ≡ n → Averaged criterion w counts n work 0 0 noError
+module _ (criterion : Criterion) (w : Summation) (counts : List ℕ) (d n : ℕ) (work : List Float) where
+  pub none-averaged : sum counts ≡ n → Averaged criterion w counts d n work 0 0 noError
   unfolding errorOn
   none-averaged e = record { within = omega arith; rows = omega (arith, e); none = λ q. refl; rest = refl }
 
-  module _ {m from : ℕ} {error : IterationError} (here : Averaged criterion w counts n work m from error) where
+  module _ {m from : ℕ} {error : IterationError} (here : Averaged criterion w counts d n work m from error) where
     -- the particles of the next fluid
     pub next-rows : m < length counts → from + getD counts m 0 + sum (drop (suc m) counts) ≡ n
     unfolding sum
     next-rows h = omega (arith, rw (drop-cons counts m 0 h) at (here .rows))
 
     pub next-averaged : m < length counts → {count : ℕ} {x : IterationError} → count ≡ getD counts m 0
-        → x ≡ withFluid criterion w from error count (termsFrom work n from count)
-        → Averaged criterion w counts n work (m + 1) (from + count) x
+        → x ≡ withFluid criterion w from error count (termsFrom work d n from count)
+        → Averaged criterion w counts d n work (m + 1) (from + count) x
     next-averaged h {count} {x} e q =
         let rows = next-rows h in
-        let col = termsIn n work in
-        let part : take count (drop from col) ≡ termsFrom work n from count = part-table from count n _ (omega arith) in
+        let col = termsIn d n work in
+        let part : take count (drop from col) ≡ termsFrom work d n from count = part-table from count n _ (omega arith)
+        in
         record {
           within = omega arith;
           rows = rw add-one (omega arith);
@@ -138,7 +151,7 @@ module _ (criterion : Criterion) (w : Summation) (counts : List ℕ) (n : ℕ) (
               ∙ here .rest);
         }
 
-    pub all-averaged : length counts ≤ m → error ≡ errorOf criterion (averages w counts (termsIn n work))
+    pub all-averaged : length counts ≤ m → error ≡ errorOf criterion (averages w counts (termsIn d n work))
     unfolding averages
     all-averaged h =
         let done : drop m counts ≡ [] = drop-all counts m h in

@@ -11,6 +11,7 @@ use lib.Ieee.{Float}
 use lib.ListN.{length}
 use borrow.Author.Tests.{le-leb, lt-leb}
 use Rattle.lists.specs.Lists.{choose}
+use Rattle.scene_format.specs.Format.{axesOf}
 use Rattle.scene_format.specs.Scene.{Scene, fluidSize}
 use Rattle.scene_format.specs.SceneOf.{sceneOf}
 use Rattle.iisph_rules.specs.Coefficients.{coefficients}
@@ -64,19 +65,21 @@ module _ (s : Scene) (k i : ℕ) (ps : List Float) (e : Ending) where
 -- ---- the loop
 
 -- after i of at most `most` iterations, the last with this error; `l` is the list before the first, `work` the list now
-pub record Solving (b : List ℕ) (n : ℕ) (l : List Float) (i : ℕ) (error : IterationError) (work : List Float)
+pub record Solving (b : List ℕ) (d n : ℕ) (l : List Float) (i : ℕ) (error : IterationError) (work : List Float)
     : Type 0 where
   pub within : i ≤ sceneOf b .header .maxPressureIter
   pub long : length work ≡ length l
-  pub list : work ≡ iteratedTimes i (sceneOf b) l
-  pub ready : IterationReady (sceneOf b) (pressuresIn n work) n work
+  pub list : work ≡ iteratedTimes i d (sceneOf b) l
+  pub ready : IterationReady (sceneOf b) (pressuresIn d n work) d n work
   pub rest :
-      iterateFrom (sceneOf b .header .maxPressureIter - i) (sceneOf b) (coefficients (sceneOf b)) i (pressuresIn n work)
+      iterateFrom (sceneOf b .header .maxPressureIter - i) (sceneOf b) (coefficients (sceneOf b)) i
+      (pressuresIn d n work)
       (endingAfter i error) ≡ solution (sceneOf b)
 
-module _ (b : List ℕ) {n : ℕ} (size : n ≡ fluidSize (sceneOf b)) (l : List Float) where
-  pub none-solved : pressuresIn n l ≡ firstPressures (sceneOf b) → IterationReady (sceneOf b) (pressuresIn n l) n l
-      → (error : IterationError) → Solving b n l 0 error l
+module _ (b : List ℕ) {d n : ℕ} (is : d ≡ axesOf b) (size : n ≡ fluidSize (sceneOf b)) (l : List Float) where
+  pub none-solved : pressuresIn d n l ≡ firstPressures (sceneOf b)
+      → IterationReady (sceneOf b) (pressuresIn d n l) d n l
+      → (error : IterationError) → Solving b d n l 0 error l
   unfolding solution iteratedTimes endingAfter
   none-solved e ready error =
       record {
@@ -88,75 +91,76 @@ module _ (b : List ℕ) {n : ℕ} (size : n ≡ fluidSize (sceneOf b)) (l : List
             b .header .maxPressureIter - 0 ≡ sceneOf b .header .maxPressureIter = omega arith in rw (e, z);
       }
 
-  module _ {i : ℕ} {error : IterationError} {work : List Float} (here : Solving b n l i error work)
+  module _ {i : ℕ} {error : IterationError} {work : List Float} (here : Solving b d n l i error work)
       (below : i < sceneOf b .header .maxPressureIter)
-      {x : IterationError} {after : List Float} (made : Iterates (sceneOf b) work x after) where
+      {x : IterationError} {after : List Float} (made : Iterates d (sceneOf b) work x after) where
     -- this iteration, from the pressures that stand there
     abbrev it : IterationError
-    it = iteration (sceneOf b) (coefficients (sceneOf b)) (pressuresIn n work) .error
+    it = iteration (sceneOf b) (coefficients (sceneOf b)) (pressuresIn d n work) .error
 
     error-is : x ≡ it
     error-is = made .error
-        ∙ ap (λ (j : ℕ). iteration (sceneOf b) (coefficients (sceneOf b)) (pressuresIn j work) .error) (sym size)
+        ∙ ap (λ (j : ℕ). iteration (sceneOf b) (coefficients (sceneOf b)) (pressuresIn d j work) .error) (sym size)
 
-    list-next : after ≡ iteratedTimes (i + 1) (sceneOf b) l
+    list-next : after ≡ iteratedTimes (i + 1) d (sceneOf b) l
     unfolding iteratedTimes
     list-next = made .list ∙ rw (add-one i, here .list)
 
     left : sceneOf b .header .maxPressureIter - i ≡ suc (sceneOf b .header .maxPressureIter - suc i)
     left = omega arith
 
-    pub next-solved : isLast (sceneOf b .header) i (x .value) ≡ false → Solving b n l (i + 1) x after
+    pub next-solved : isLast (sceneOf b .header) i (x .value) ≡ false → Solving b d n l (i + 1) x after
     unfolding endingAfter
     next-solved q =
         let on =
-        goes-on (sceneOf b) (sceneOf b .header .maxPressureIter - suc i) i (pressuresIn n work) (endingAfter i error)
+        goes-on (sceneOf b) (sceneOf b .header .maxPressureIter - suc i) i (pressuresIn d n work) (endingAfter i error)
         (rw error-is at q) in
-        let p : pressuresIn n after ≡ iteration (sceneOf b) (coefficients (sceneOf b)) (pressuresIn n work) .pressures =
-        rw (made .list) (again-pressures b size work (here .ready)) in
+        let p : pressuresIn d n after ≡ iteration (sceneOf b) (coefficients (sceneOf b))
+        (pressuresIn d n work) .pressures =
+        rw (made .list) (again-pressures b is size work (here .ready)) in
         record {
           within = omega arith;
-          long = ap length (made .list) ∙ length-iterated b size work ∙ here .long;
+          long = ap length (made .list) ∙ length-iterated b is work ∙ here .long;
           list = list-next;
-          ready = rw (made .list) (again-ready b size work (here .ready));
+          ready = rw (made .list) (again-ready b is size work (here .ready));
           rest = rw (p, error-is, add-one i) (sym on ∙ rw left at (here .rest));
         }
 
     pub solved-early : isLast (sceneOf b .header) i (x .value) ≡ true → {r : Solved} → r .iterations ≡ i + 1
-        → r .ending ≡ settledWith x → Solves (sceneOf b) l r after
+        → r .ending ≡ settledWith x → Solves d (sceneOf b) l r after
     solved-early q {r} ie ee =
         let at-once : solution (sceneOf b)
         ≡ record {
           iterations = suc i;
           ending = settledWith it;
           pressures = iteration (sceneOf b) (coefficients (sceneOf b))
-              (pressuresIn n work) .pressures;
+              (pressuresIn d n work) .pressures;
         } =
         sym (here .rest)
         ∙ rw left
-        (stops (sceneOf b) (sceneOf b .header .maxPressureIter - suc i) i (pressuresIn n work) (endingAfter i error)
+        (stops (sceneOf b) (sceneOf b .header .maxPressureIter - suc i) i (pressuresIn d n work) (endingAfter i error)
         (rw error-is at q)) in
         record {
           iterations = ie ∙ add-one i ∙ sym (ap (λ (w : Solution). w .iterations) at-once);
           ending = ee ∙ ap settledWith error-is ∙ sym (ap (λ (w : Solution). w .ending) at-once);
           list = list-next
-              ∙ ap (λ (j : ℕ). iteratedTimes j (sceneOf b) l)
+              ∙ ap (λ (j : ℕ). iteratedTimes j d (sceneOf b) l)
               (add-one i ∙ sym (ap (λ (w : Solution). w .iterations) at-once));
         }
 
-  module _ {i : ℕ} {error : IterationError} {work : List Float} (here : Solving b n l i error work) where
+  module _ {i : ℕ} {error : IterationError} {work : List Float} (here : Solving b d n l i error work) where
     pub solved : sceneOf b .header .maxPressureIter ≤ i → {r : Solved} → r .iterations ≡ i
-        → r .ending ≡ endingAfter i error → Solves (sceneOf b) l r work
+        → r .ending ≡ endingAfter i error → Solves d (sceneOf b) l r work
     unfolding iterateFrom
     solved h {r} ie ee =
         let none : sceneOf b .header .maxPressureIter - i ≡ 0 = omega arith in
-        let whole : record { iterations = i; ending = endingAfter i error; pressures = pressuresIn n work }
+        let whole : record { iterations = i; ending = endingAfter i error; pressures = pressuresIn d n work }
         ≡ solution (sceneOf b) = rw none at (here .rest) in
         record {
           iterations = ie ∙ ap (λ (w : Solution). w .iterations) whole;
           ending = ee ∙ ap (λ (w : Solution). w .ending) whole;
           list = here .list
-              ∙ ap (λ (j : ℕ). iteratedTimes j (sceneOf b) l) (ap (λ (w : Solution). w .iterations) whole);
+              ∙ ap (λ (j : ℕ). iteratedTimes j d (sceneOf b) l) (ap (λ (w : Solution). w .iterations) whole);
         }
 
 -- ---- the stopping test

@@ -9,17 +9,16 @@ use Rattle.iisph_rows.specs.Rows.{quotientSlot, elementAt, column}
 use Rattle.iisph_rules.specs.Iteration.{average, withAverage, errorOf}
 use Rattle.iisph_rules.specs.declared.IterationError.{IterationError}
 use Rattle.lists.specs.Lists.{fold, table}
-use Rattle.scene_format.specs.Format.{axes}
 use Rattle.scene_format.specs.declared.Criterion.{Criterion}
 use Rattle.scene_format.specs.declared.Criterion.the-variants.{Salva, Ihmsen}
 use Rattle.scene_format.specs.declared.Summation.{Summation}
 
--- of n particles the error terms of `count` from particle `from` on, and of all
-abbrev pub termsFrom : List Float → ℕ → ℕ → ℕ → List Float
-termsFrom work n from count = table count (λ k. elementAt work (quotientSlot axes * n + (from + k)))
+-- of n particles, for d axes, the error terms of `count` from particle `from` on, and of all
+abbrev pub termsFrom : List Float → ℕ → ℕ → ℕ → ℕ → List Float
+termsFrom work d n from count = table count (λ k. elementAt work (quotientSlot d * n + (from + k)))
 
-abbrev pub termsIn : ℕ → List Float → List Float
-termsIn n work = column n (quotientSlot axes) work
+abbrev pub termsIn : ℕ → ℕ → List Float → List Float
+termsIn d n work = column n (quotientSlot d) work
 
 -- the error so far, with one average more, where `first` says that none was before: Ihmsen's is then that average
 unfoldable pub joined : Criterion → Bool → IterationError → Float → IterationError

@@ -16,19 +16,20 @@ use Rattle.iisph_rules.specs.declared.IterationError.{IterationError}
 use Rattle.scene_format.specs.Scene.{Scene, fluidSize}
 use Rattle.iisph_iterations.specs.declared.«pressure_solve».Solved.{Solved}
 
--- the passes of one iteration
-unfoldable pub iterated : Scene → List Float → List Float
-iterated s work = afterPass s Exchange (afterPass s NextPressures (afterPass s DijPjl (afterPass s Quotients work)))
+-- the passes of one iteration, for d axes
+unfoldable pub iterated : ℕ → Scene → List Float → List Float
+iterated d s work =
+    afterPass d s Exchange (afterPass d s NextPressures (afterPass d s DijPjl (afterPass d s Quotients work)))
 
 -- k iterations
-unfoldable pub iteratedTimes : ℕ → Scene → List Float → List Float
-iteratedTimes zero s work = work
-iteratedTimes (suc k) s work = iterated s (iteratedTimes k s work)
+unfoldable pub iteratedTimes : ℕ → ℕ → Scene → List Float → List Float
+iteratedTimes zero d s work = work
+iteratedTimes (suc k) d s work = iterated d s (iteratedTimes k d s work)
 
 -- an iteration from the pressures that stand in the rows: its error and the list afterwards
-pub record Iterates (s : Scene) (work : List Float) (r : IterationError) (after : List Float) : Type 0 where
-  pub error : r ≡ iteration s (coefficients s) (pressuresIn (fluidSize s) work) .error
-  pub list : after ≡ iterated s work
+pub record Iterates (d : ℕ) (s : Scene) (work : List Float) (r : IterationError) (after : List Float) : Type 0 where
+  pub error : r ≡ iteration s (coefficients s) (pressuresIn d (fluidSize s) work) .error
+  pub list : after ≡ iterated d s work
 
 -- the ending after i iterations of which none met the stopping test, the last with this error
 unfoldable pub endingAfter : ℕ → IterationError → Ending
@@ -36,7 +37,7 @@ endingAfter zero error = Unswept
 endingAfter (suc i) error = ranOutWith error
 
 -- `pressure_solve` on a list that is ready for it
-pub record Solves (s : Scene) (work : List Float) (r : Solved) (after : List Float) : Type 0 where
+pub record Solves (d : ℕ) (s : Scene) (work : List Float) (r : Solved) (after : List Float) : Type 0 where
   pub iterations : r .iterations ≡ solution s .iterations
   pub ending : r .ending ≡ solution s .ending
-  pub list : after ≡ iteratedTimes (solution s .iterations) s work
+  pub list : after ≡ iteratedTimes (solution s .iterations) d s work

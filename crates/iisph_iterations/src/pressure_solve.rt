@@ -29,20 +29,21 @@ fn iterate(
     scene: &[u8],
     layout: Layout,
     index: &[usize],
+    dim: u8,
     n: usize,
     dt: f64,
     gravity: Vec3,
     work: &mut [f64],
 ) -> IterationError
-    requires { ⌜ DrivenPass (now scene) (now index) n dt gravity ⌝ }
-    requires { ⌜ Passed (now scene) layout × Iterating (sceneOf (now scene)) n (now work) ⌝ }
-    ensures { λ r. ⌜ Iterates (sceneOf (now (scene .entry))) (now (work .entry)) r (now (work .exit)) ⌝ }
+    requires { ⌜ DrivenPass (now scene) (now index) dim n dt gravity ⌝ }
+    requires { ⌜ Passed (now scene) layout × Iterating (sceneOf (now scene)) dim n (now work) ⌝ }
+    ensures { λ r. ⌜ Iterates dim (sceneOf (now (scene .entry))) (now (work .entry)) r (now (work .exit)) ⌝ }
 {
-    traverse(Pass::Quotients, scene, index, n, dt, gravity, work);
-    traverse(Pass::DijPjl, scene, index, n, dt, gravity, work);
-    traverse(Pass::NextPressures, scene, index, n, dt, gravity, work);
-    traverse(Pass::Exchange, scene, index, n, dt, gravity, work);
-    max_error(scene, layout, work, n)
+    traverse(Pass::Quotients, scene, index, dim, n, dt, gravity, work);
+    traverse(Pass::DijPjl, scene, index, dim, n, dt, gravity, work);
+    traverse(Pass::NextPressures, scene, index, dim, n, dt, gravity, work);
+    traverse(Pass::Exchange, scene, index, dim, n, dt, gravity, work);
+    max_error(scene, layout, work, dim, n)
 }
 
 // The ending after i iterations, the last with this error, if none met the stopping test.
@@ -61,16 +62,17 @@ pub fn pressure_solve(
     scene: &[u8],
     layout: Layout,
     index: &[usize],
+    dim: u8,
     n: usize,
     dt: f64,
     gravity: Vec3,
     stopping: Stopping,
     work: &mut [f64],
 ) -> Solved
-    requires { ⌜ DrivenPass (now scene) (now index) n dt gravity × StoppingIs (sceneOf (now scene)) stopping ⌝ }
-    requires { ⌜ Passed (now scene) layout × Iterating (sceneOf (now scene)) n (now work) ⌝ }
-    requires { ⌜ pressuresIn n (now work) ≡ firstPressures (sceneOf (now scene)) ⌝ }
-    ensures { λ r. ⌜ Solves (sceneOf (now (scene .entry))) (now (work .entry)) r (now (work .exit)) ⌝ }
+    requires { ⌜ DrivenPass (now scene) (now index) dim n dt gravity × StoppingIs (sceneOf (now scene)) stopping ⌝ }
+    requires { ⌜ Passed (now scene) layout × Iterating (sceneOf (now scene)) dim n (now work) ⌝ }
+    requires { ⌜ pressuresIn dim n (now work) ≡ firstPressures (sceneOf (now scene)) ⌝ }
+    ensures { λ r. ⌜ Solves dim (sceneOf (now (scene .entry))) (now (work .entry)) r (now (work .exit)) ⌝ }
 {
     let least = stopping.min_pressure_iter;
     let most = stopping.max_pressure_iter;
@@ -79,7 +81,7 @@ pub fn pressure_solve(
     let mut i = 0usize;
     while i < most {
         let number = i;
-        error = iterate(scene, layout, index, n, dt, gravity, work);
+        error = iterate(scene, layout, index, dim, n, dt, gravity, work);
         i += 1;
         if error.value <= limit {
             if number >= least {

@@ -16,6 +16,7 @@ use iisph_rules::StepAnswer;
 use scene_check::Verdict;
 use scene_check::check;
 use scene_format::Refusal;
+use scene_format::read::axes;
 use scene_index::index::index_needed;
 use scene_layout::Layout;
 use scene_lengths::lengths_of;
@@ -46,14 +47,15 @@ fn finish(
     scene: &[u8],
     layout: Layout,
     index: &[usize],
+    dim: u8,
     n: usize,
     header: StepHeader,
     answers: &mut [f64],
     work: &mut [f64],
 ) -> Report
-    requires { ⌜ PassOver (now scene) (now index) n × StepHeaderIs (sceneOf (now scene)) header ⌝ }
+    requires { ⌜ PassOver (now scene) (now index) dim n × StepHeaderIs (sceneOf (now scene)) header ⌝ }
     requires { ⌜ Passed (now scene) layout × LongEnough (now scene) (length (now answers)) (length (now work)) ⌝ }
-    requires { ⌜ IterationReady (sceneOf (now scene)) (firstPressures (sceneOf (now scene))) n (now work) ⌝ }
+    requires { ⌜ IterationReady (sceneOf (now scene)) (firstPressures (sceneOf (now scene))) dim n (now work) ⌝ }
     ensures { λ r. ⌜
         Finishes (now (scene .entry)) (now (answers .entry)) (now (work .entry)) r (now (answers .exit))
         (now (work .exit))
@@ -63,10 +65,10 @@ fn finish(
     let dt = clock.dt;
     let gravity = header.gravity;
     let stopping = header.stopping;
-    let solved = pressure_solve(scene, layout, index, n, dt, gravity, stopping, work);
-    traverse(Pass::Shares, scene, index, n, dt, gravity, work);
-    update_velocities_and_positions(scene, index, work, n, dt, gravity, answers);
-    boundary_answers(scene, layout, index, work, n, answers);
+    let solved = pressure_solve(scene, layout, index, dim, n, dt, gravity, stopping, work);
+    traverse(Pass::Shares, scene, index, dim, n, dt, gravity, work);
+    update_velocities_and_positions(scene, index, work, dim, n, dt, gravity, answers);
+    boundary_answers(scene, layout, index, work, dim, n, answers);
     let needed = lengths_of(scene, layout).work;
     clear(work, needed);
     let ending = solved.ending;
@@ -102,12 +104,13 @@ pub fn step_long(
         ⌝ }
 {
     let header = step_header(scene);
+    let dim = axes(scene);
     let n = layout.fluids.total;
     let readiness = prepare(scene, layout, header, index, work);
     match readiness {
         Readiness::Refused(refusal) => StepAnswer::Refused(refusal),
         Readiness::Ready => {
-            StepAnswer::Done(finish(scene, layout, index, n, header, answers, work))
+            StepAnswer::Done(finish(scene, layout, index, dim, n, header, answers, work))
         }
     }
 }

@@ -7,7 +7,7 @@ use native.Mathlib.Omega.{arith}
 use lib.ListN.{length, getD, List·getD-append}
 use lib.Ieee.{Float, nan}
 use Rattle.lists.proofs.Lists.{table-same}
-use Rattle.scene_format.specs.Format.{modelNumber, countsOf, keepsOf}
+use Rattle.scene_format.specs.Format.{axesOf, modelNumber, countsOf, keepsOf}
 use Rattle.scene_format.specs.declared.Kind.{Kind}
 use Rattle.scene_lengths.specs.Lengths.{widthIn, answersBefore, answersIn}
 use Rattle.iisph_words.specs.Words.{doubleText, doublesText}
@@ -29,16 +29,17 @@ module _ (xs rest : List Float) where
       (table-same n _ _
       (λ i l. ap (particleLine κ m i) (doubles-behind (k + w * i) w (turn-fits w k l refl h))))
 
-  models-behind : (n : ℕ) (κ : Kind) (keeps counts : List ℕ) (k : ℕ) → k + answersBefore κ keeps counts n ≤ length xs
-      → modelsUpto n κ keeps counts k (xs ++ rest) ≡ modelsUpto n κ keeps counts k xs
+  models-behind : (n d : ℕ) (κ : Kind) (keeps counts : List ℕ) (k : ℕ)
+      → k + answersBefore d κ keeps counts n ≤ length xs
+      → modelsUpto n d κ keeps counts k (xs ++ rest) ≡ modelsUpto n d κ keeps counts k xs
   unfolding modelsUpto
-  models-behind n κ keeps counts k h =
+  models-behind n d κ keeps counts k h =
       ap flatten
       (table-same n _ _
       (λ m l.
-      model-behind κ m (getD counts m 0) (widthIn κ keeps m) (k + answersBefore κ keeps counts m)
-      (model-fits κ keeps counts k m refl refl refl l h)))
+      model-behind κ m (getD counts m 0) (widthIn d κ keeps m) (k + answersBefore d κ keeps counts m)
+      (model-fits d κ keeps counts k m refl refl refl l h)))
 
   pub text-behind : (κ : Kind) (b : List ℕ) (k : ℕ) → k + answersIn κ b ≤ length xs
       → modelsText κ b k (xs ++ rest) ≡ modelsText κ b k xs
-  text-behind κ b k h = models-behind (modelNumber κ b) κ (keepsOf κ b) (countsOf κ b) k h
+  text-behind κ b k h = models-behind (modelNumber κ b) (axesOf b) κ (keepsOf κ b) (countsOf κ b) k h

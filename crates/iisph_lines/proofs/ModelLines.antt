@@ -46,41 +46,41 @@ module _ (κ : Kind) (m w k : ℕ) (xs : List Float) where
 
 -- ---- the models of a kind
 
-module _ (κ : Kind) (keeps counts : List ℕ) where
+module _ (d : ℕ) (κ : Kind) (keeps counts : List ℕ) where
   abbrev count : ℕ → ℕ
   count m = getD counts m 0
 
   -- the answers of model m end where those of the next begin, and are there
-  module _ (k m : ℕ) {from w c : ℕ} (e : from ≡ k + answersBefore κ keeps counts m) (v : w ≡ widthIn κ keeps m)
+  module _ (k m : ℕ) {from w c : ℕ} (e : from ≡ k + answersBefore d κ keeps counts m) (v : w ≡ widthIn d κ keeps m)
       (u : c ≡ count m) where
-    pub model-next : from + w * c ≡ k + answersBefore κ keeps counts (m + 1)
-    model-next = rw (v, u, answers-next κ keeps counts m) (omega (arith, e))
+    pub model-next : from + w * c ≡ k + answersBefore d κ keeps counts (m + 1)
+    model-next = rw (v, u, answers-next d κ keeps counts m) (omega (arith, e))
 
-    pub model-fits : {n l : ℕ} → m < n → k + answersBefore κ keeps counts n ≤ l → from + w * c ≤ l
+    pub model-fits : {n l : ℕ} → m < n → k + answersBefore d κ keeps counts n ≤ l → from + w * c ≤ l
     unfolding answersBefore
     model-fits {n} h r =
-        let f : ℕ → ℕ = λ j. widthIn κ keeps j * count j in
+        let f : ℕ → ℕ = λ j. widthIn d κ keeps j * count j in
         let q : suc m + (n - suc m) ≡ n = omega arith in
         rw (v, u) (omega (arith, e, sum-next m f, sum-more f (suc m) (n - suc m), ap (λ j. sum (table j f)) q))
 
   module _ (k : ℕ) (xs : List Float) where
     model : ℕ → List ℕ
-    model m = modelText κ m (count m) (widthIn κ keeps m) (k + answersBefore κ keeps counts m) xs
+    model m = modelText κ m (count m) (widthIn d κ keeps m) (k + answersBefore d κ keeps counts m) xs
 
     module _ {out : List ℕ} {at : ℕ} where
-      pub none-modelled : at ≤ length out → Writes out at (modelsUpto 0 κ keeps counts k xs) out at
+      pub none-modelled : at ≤ length out → Writes out at (modelsUpto 0 d κ keeps counts k xs) out at
       unfolding modelsUpto table flatten
       none-modelled h = none-written h
 
-      module _ (m : ℕ) {from w c next : ℕ} {o : List ℕ} (e : from ≡ k + answersBefore κ keeps counts m)
-          (v : w ≡ widthIn κ keeps m) (u : c ≡ count m)
-          (here : Writes out at (modelsUpto m κ keeps counts k xs) o next) where
-        pub model-room : {n : ℕ} → m < n → at + length (modelsUpto n κ keeps counts k xs) ≤ length out
+      module _ (m : ℕ) {from w c next : ℕ} {o : List ℕ} (e : from ≡ k + answersBefore d κ keeps counts m)
+          (v : w ≡ widthIn d κ keeps m) (u : c ≡ count m)
+          (here : Writes out at (modelsUpto m d κ keeps counts k xs) o next) where
+        pub model-room : {n : ℕ} → m < n → at + length (modelsUpto n d κ keeps counts k xs) ≤ length out
             → next + length (modelText κ m c w from xs) ≤ length o
         unfolding modelsUpto model
         model-room {n} h r = rw (e, v, u) (omega (arith, room-upto model n m h, here .ends, here .long))
 
         pub model-written : {next′ : ℕ} {o′ : List ℕ} → Writes o next (modelText κ m c w from xs) o′ next′
-            → Writes out at (modelsUpto (m + 1) κ keeps counts k xs) o′ next′
+            → Writes out at (modelsUpto (m + 1) d κ keeps counts k xs) o′ next′
         unfolding modelsUpto model
         model-written q = next-written model here (rw (e, v, u) at q)

@@ -6,7 +6,7 @@ use lib.ListN.{getD}
 use lib.Ieee.{Float}
 use Rattle.lists.specs.Lists.{table}
 use Rattle.timestep_manager.specs.declared.Clock.{Clock}
-use Rattle.scene_format.specs.Format.{axes, modelNumber, countsOf, keepsOf}
+use Rattle.scene_format.specs.Format.{axesOf, modelNumber, countsOf, keepsOf}
 use Rattle.scene_format.specs.Refusals.{numberOf, placeOf}
 use Rattle.scene_format.specs.Scene.{fluidSize}
 use Rattle.scene_format.specs.SceneOf.{sceneOf}
@@ -62,21 +62,21 @@ particleLine κ m i answers = kindWord κ ++ pairText m i ++ answers ++ newline
 unfoldable pub modelText : Kind → ℕ → ℕ → ℕ → ℕ → List Float → List ℕ
 modelText κ m n w k xs = flatten (table n (λ i. particleLine κ m i (doublesText xs (k + w * i) w)))
 
--- the first n models of a kind, one after the other, by whether each keeps forces and how many particles each has; the
--- answers begin at the k-th element of a list
-unfoldable pub modelsUpto : ℕ → Kind → List ℕ → List ℕ → ℕ → List Float → List ℕ
-modelsUpto n κ keeps counts k xs =
+-- the first n models of a kind, one after the other, for d axes, by whether each keeps forces and how many particles
+-- each has; the answers begin at the k-th element of a list
+unfoldable pub modelsUpto : ℕ → ℕ → Kind → List ℕ → List ℕ → ℕ → List Float → List ℕ
+modelsUpto n d κ keeps counts k xs =
     flatten
-    (table n (λ m. modelText κ m (getD counts m 0) (widthIn κ keeps m) (k + answersBefore κ keeps counts m) xs))
+    (table n (λ m. modelText κ m (getD counts m 0) (widthIn d κ keeps m) (k + answersBefore d κ keeps counts m) xs))
 
 -- all models of a kind of the packed scene b
 abbrev pub modelsText : Kind → List ℕ → ℕ → List Float → List ℕ
-modelsText κ b k xs = modelsUpto (modelNumber κ b) κ (keepsOf κ b) (countsOf κ b) k xs
+modelsText κ b k xs = modelsUpto (modelNumber κ b) (axesOf b) κ (keepsOf κ b) (countsOf κ b) k xs
 
 -- of that scene, whose answers are xs: the fluids, then the boundaries
 unfoldable pub particlesText : List ℕ → List Float → List ℕ
 particlesText b xs =
-    modelsText Fluid b 0 xs ++ modelsText Boundary b (fluidAnswerWidth axes * fluidSize (sceneOf b)) xs
+    modelsText Fluid b 0 xs ++ modelsText Boundary b (fluidAnswerWidth (axesOf b) * fluidSize (sceneOf b)) xs
 
 -- ---- the only line of a step that is refused
 

@@ -14,6 +14,7 @@ use scene_format::Kind;
 use scene_format::Refusal;
 use scene_format::number;
 use scene_format::place;
+use scene_format::read::axes;
 use scene_format::read::keeps;
 use scene_format::read::particles;
 use scene_layout::Models;
@@ -157,6 +158,7 @@ pub fn put_models(
         Writes (now (out .entry)) at lines (now (out .exit)) r)
         ⌝ }
 {
+    let dim = axes(scene);
     let number = models.number;
     let heads = models.heads;
     let mut next = at;
@@ -165,7 +167,7 @@ pub fn put_models(
     while m < number {
         let head = heads[m];
         let n = particles(scene, kind, head);
-        let w = answer_width(kind, keeps(scene, head));
+        let w = answer_width(dim, kind, keeps(scene, head));
         next = put_model(out, next, kind, m, n, w, xs, from);
         from += w * n;
         m += 1;

@@ -15,29 +15,35 @@ use Rattle.iisph_rules.specs.Coefficients.{boundaryMass, coefficients}
 use Rattle.iisph_rules.specs.Iteration.{pressure}
 use Rattle.iisph_rules.specs.Step.{pressureShare, boundaryAcceleration}
 use Rattle.math.specs.Real.{_⊗_, _⊘_}
-use Rattle.math.specs.Vector.{Vector, _⊡_}
+use Rattle.math.specs.Vector.{Axes, Vector, _⊡_}
 use Rattle.scene_check.specs.Accepted.{FluidParticleOk}
 use Rattle.scene_format.specs.Bytes.{doubleAt, vectorAt}
-use Rattle.scene_format.specs.Format.{axes, density0Offset, gradientOffset, startsOf, Location}
+use Rattle.scene_format.specs.Format.{density0Offset, gradientOffset, startsOf, Location}
 use Rattle.scene_format.specs.Scene.{Scene, Contact, fluidSize, particle}
 use Rattle.scene_format.specs.SceneOf.{targetAt, contactAt, fluidParticleAt, sceneOf}
 use Rattle.scene_format.specs.declared.Kind.the-variants.{Boundary}
+use Rattle.scene_format.proofs.Forms.{axes-of}
 use Rattle.scene_index.specs.Contacts.{ContactReady}
 use Rattle.scene_index.proofs.Targets.{boundary-named}
 use Rattle.iisph_motion.specs.Changes.{PressureStateIs, accelerationOf}
 use Rattle.iisph_motion.specs.declared.acceleration.PressureState.{PressureState}
+
+-- ---- the number of axes
+
+pub pass-axes : {b index : List ℕ} {d n : ℕ} → PassOver b index d n → Axes d
+pass-axes {b} pass = rw (pass .axes) (axes-of b)
 
 -- ---- p / (rho × rho)
 
 share-same : {p p′ r r′ : Float} → p ≡ p′ → r ≡ r′ → p ⊘ (r ⊗ r) ≡ p′ ⊘ (r′ ⊗ r′)
 share-same e q = rw (e, q)
 
-pub share-made : {s : Scene} {ps : List Float} {n : ℕ} {work : List Float} → IterationReady s ps n work
+pub share-made : {s : Scene} {ps : List Float} {d n : ℕ} {work : List Float} → IterationReady s ps d n work
     → n ≡ fluidSize s
-    → (i : ℕ) → i < n → rowShare work n i ≡ pressureShare (coefficients s) ps i
+    → (i : ℕ) → i < n → rowShare d work n i ≡ pressureShare (coefficients s) ps i
 unfolding pressureShare
-share-made {s} {ps} q size i h =
-    share-same (row-value (pressure ps) (q .pressure) (omega arith) i h) (density-in q size i h)
+share-made {s} {ps} {d} q size i h =
+    share-same (row-value d (pressure ps) (q .pressure) (omega arith) i h) (density-in q size i h)
 
 -- ---- the particle itself
 
@@ -46,28 +52,33 @@ density0-at : {b : List ℕ} {p : Location} {i : ℕ} → FluidParticleOk b p i
 unfolding fluidParticleAt
 density0-at h = rw (h .particle)
 
--- the state as the code makes it, from what stands there of particle i of n
-abbrev stateOf : List Float → ℕ → ℕ → Float → PressureState
-stateOf work n i density0 =
-    let rho = elementAt work (densitySlot axes * n + i) in
-    let p = elementAt work (rowAt i + pressureSlot axes) in
+-- the state as the code makes it, where the particle's row begins at an element, and its pressure and its density
+-- stand at these
+abbrev stateOf : List Float → ℕ → ℕ → ℕ → Float → PressureState
+stateOf work row p density density0 =
+    let rho = elementAt work density in
     record {
       density0 = density0;
-      pressure = p;
+      pressure = elementAt work (row + p);
       square = rho ⊗ rho;
-      mass = elementAt work (rowAt i + massSlot);
+      mass = elementAt work (row + massSlot);
     }
 
-pub state-made : {b index : List ℕ} {n : ℕ} → PassOver b index n → {work : List Float} → Iterating (sceneOf b) n work
-    → {p : Location} {i : ℕ} → FluidParticleOk b p i → i < n → {d : Float} → d ≡ doubleAt b (p .head + density0Offset)
-    → PressureStateIs (sceneOf b) (pressuresIn n work) i (stateOf work n i d)
-state-made pass {work} q {i = i} here h e =
-    record {
+pub state-made : {b index : List ℕ} {d n : ℕ} → PassOver b index d n → {work : List Float}
+    → Iterating (sceneOf b) d n work
+    → {p : Location} {i : ℕ} → FluidParticleOk b p i → i < n
+    → {density0 : Float} → density0 ≡ doubleAt b (p .head + density0Offset)
+    → {row slot column density : ℕ} → row ≡ rowAt d i → slot ≡ pressureSlot d → column ≡ densitySlot d
+    → density ≡ column * n + i
+    → PressureStateIs (sceneOf b) (pressuresIn d n work) i (stateOf work row slot density density0)
+state-made {d = d} {n} pass {work} q {i = i} here h e re pe ce de =
+    rw (de, ce, re, pe)
+    (record {
       density0 = e ∙ density0-at here;
-      pressure = pressure-in work i h;
+      pressure = pressure-in d work i h;
       square = ap (λ r. r ⊗ r) (density-in q (pass .size) i h);
       mass = mass-in q (pass .size) i h;
-    }
+    })
 
 -- ---- a of METHOD 7.2
 
@@ -79,14 +90,14 @@ unfolding accelerationOf boundaryAcceleration
 acceleration-is h c = rw (h .density0, h .pressure, h .square)
 
 -- from the results of the code's calls: the contact at an offset names boundary particle j and has the gradient g
-pub acceleration-made : {b : List ℕ} {n : ℕ} {work : List Float} → Iterating (sceneOf b) n work
-    → {at j : ℕ} → ContactReady Boundary b at → j ≡ targetAt (startsOf Boundary b) b at
-    → (state : PressureState) {g x : Vector} → g ≡ vectorAt axes b (at + gradientOffset)
-    → x ≡ g ⊡ (elementAt work (volumesAt n + j) ⊗ state .density0 ⊗ state .pressure ⊘ state .square)
-    → x ≡ accelerationOf (sceneOf b) state (contactAt (startsOf Boundary b) b at)
+pub acceleration-made : {b : List ℕ} {d n : ℕ} {work : List Float} → Iterating (sceneOf b) d n work
+    → {at j k : ℕ} → ContactReady Boundary d b at → j ≡ targetAt (startsOf Boundary b) b at → k ≡ volumesAt d n + j
+    → (state : PressureState) {g x : Vector} → g ≡ vectorAt d b (at + gradientOffset)
+    → x ≡ g ⊡ (elementAt work k ⊗ state .density0 ⊗ state .pressure ⊘ state .square)
+    → x ≡ accelerationOf (sceneOf b) state (contactAt d (startsOf Boundary b) b at)
 unfolding accelerationOf boundaryMass contactAt
-acceleration-made {b} {n} q {j = j} ready named state {g} ge xe =
+acceleration-made {b} {d} {n} {work} q {j = j} ready named ke state {g} ge xe =
     xe
     ∙ ap (λ v. g ⊡ (v ⊗ state .density0 ⊗ state .pressure ⊘ state .square))
-    (volume-behind (sceneOf b) n (q .volume) j (boundary-named ready named refl))
+    (ap (elementAt work) ke ∙ volume-behind (sceneOf b) d n (q .volume) j (boundary-named (ready .target) named refl))
     ∙ rw (ge, named)

@@ -12,7 +12,6 @@ use Rattle.iisph_rules.specs.Iteration.{pressure}
 use Rattle.iisph_rules.specs.Step.{pressureShare}
 use Rattle.math.specs.Real.{_⊕_, _⊗_, _⊘_}
 use Rattle.math.specs.Vector.{Vector, _⊟_, _⊡_}
-use Rattle.scene_format.specs.Format.{axes}
 use Rattle.scene_format.specs.Scene.{Scene, Contact, particle}
 use Rattle.iisph_motion.specs.declared.acceleration.PressureState.{PressureState}
 
@@ -51,6 +50,6 @@ lessBy taken change c = change ⊟ taken c
 
 -- ---- what the pass finds: the iterations' work list with the last pressures, and the share of each
 
-pub record ChangesReady (s : Scene) (n : ℕ) (work : List Float) : Type 0 where
-  pub iteration : Iterating s n work
-  pub share : Rows n (quotientSlot axes) (shareRow s (pressuresIn n work)) work
+pub record ChangesReady (s : Scene) (d n : ℕ) (work : List Float) : Type 0 where
+  pub iteration : Iterating s d n work
+  pub share : Rows d n (quotientSlot d) (shareRow s (pressuresIn d n work)) work

@@ -9,7 +9,7 @@ use Rattle.iisph_rules.specs.Coefficients.{coefficients}
 use Rattle.iisph_rules.specs.Step.{newVelocity, newPosition}
 use Rattle.iisph_motion.specs.declared.answers.Motion.{Motion}
 
--- the code's motion is that of fluid particle i, where ps are the pressures
-pub record MotionIs (s : Scene) (ps : List Float) (i : ℕ) (motion : Motion) : Type 0 where
-  pub position : coordinates (motion .position) ≡ newPosition s (coefficients s) ps i
-  pub velocity : coordinates (motion .velocity) ≡ newVelocity s (coefficients s) ps i
+-- the code's motion, on d axes, is that of fluid particle i, where ps are the pressures
+pub record MotionIs (s : Scene) (d : ℕ) (ps : List Float) (i : ℕ) (motion : Motion) : Type 0 where
+  pub position : coordinates d (motion .position) ≡ newPosition s (coefficients s) ps i
+  pub velocity : coordinates d (motion .velocity) ≡ newVelocity s (coefficients s) ps i

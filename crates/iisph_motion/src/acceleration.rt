@@ -1,10 +1,11 @@
 // What the terms of a fluid particle's contacts take of the particle itself, and a of METHOD 7.2 for a boundary
 // contact.
-use iisph_rows::rows::DENSITY;
 use iisph_rows::rows::MASS;
-use iisph_rows::rows::PRESSURE;
-use iisph_rows::rows::ROW;
-use iisph_rows::rows::VOLUMES;
+use iisph_rows::rows::column_at;
+use iisph_rows::rows::density_column;
+use iisph_rows::rows::pressure_slot;
+use iisph_rows::rows::row_at;
+use iisph_rows::rows::volume_at;
 use math::Vec3;
 use scene_format::Kind;
 use scene_format::format::CONTACT_GRADIENT;
@@ -35,18 +36,19 @@ pub fn pressure_state_of(
     scene: &[u8],
     index: &[usize],
     work: &[f64],
+    dim: u8,
     n: usize,
     i: usize,
 ) -> PressureState
-    requires { ⌜ PassOver (now scene) (now index) n × (i < n) ⌝ }
-    requires { ⌜ Iterating (sceneOf (now scene)) n (now work) ⌝ }
-    ensures { λ r. ⌜ PressureStateIs (sceneOf (now (scene .entry))) (pressuresIn n (now (work .entry))) i r ⌝ }
+    requires { ⌜ PassOver (now scene) (now index) dim n × (i < n) ⌝ }
+    requires { ⌜ Iterating (sceneOf (now scene)) dim n (now work) ⌝ }
+    ensures { λ r. ⌜ PressureStateIs (sceneOf (now (scene .entry))) (pressuresIn dim n (now (work .entry))) i r ⌝ }
 {
     let head = head_of(scene, index, i);
     let density0 = read::double(scene, head + DENSITY0);
-    let row = ROW * i;
-    let rho = work[DENSITY * n + i];
-    let pressure = work[row + PRESSURE];
+    let row = row_at(work, dim, i);
+    let rho = work[column_at(work, dim, n, density_column(dim), i)];
+    let pressure = work[row + pressure_slot(dim)];
     let mass = work[row + MASS];
     let square = rho * rho;
     PressureState {
@@ -63,18 +65,19 @@ pub fn boundary_acceleration(
     scene: &[u8],
     index: &[usize],
     work: &[f64],
+    dim: u8,
     n: usize,
     at: usize,
     state: PressureState,
 ) -> Vec3
-    requires { ⌜ PassOver (now scene) (now index) n × Iterating (sceneOf (now scene)) n (now work) ⌝ }
-    requires { ⌜ ContactReady Kind.Boundary (now scene) at ⌝ }
+    requires { ⌜ PassOver (now scene) (now index) dim n × Iterating (sceneOf (now scene)) dim n (now work) ⌝ }
+    requires { ⌜ ContactReady Kind.Boundary dim (now scene) at ⌝ }
     ensures { λ r. ⌜
         (let b = now (scene .entry) in
-        coordinates r ≡ accelerationOf (sceneOf b) state (contactAt (startsOf Kind.Boundary b) b at))
+        coordinates dim r ≡ accelerationOf (sceneOf b) state (contactAt dim (startsOf Kind.Boundary b) b at))
         ⌝ }
 {
     let j = target_of(scene, index, Kind::Boundary, at);
-    let m = work[VOLUMES * n + j] * state.density0;
-    read::vector(scene, at + CONTACT_GRADIENT).scale(m * state.pressure / state.square)
+    let m = work[volume_at(work, dim, n, j)] * state.density0;
+    read::vector(scene, at + CONTACT_GRADIENT, dim).scale(m * state.pressure / state.square)
 }

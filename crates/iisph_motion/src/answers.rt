@@ -1,17 +1,16 @@
 // Velocities, positions and the answers of the fluid particles (METHOD 7.3; the Rust's
 // update_velocities_and_positions).
 use crate::changes::final_change_of;
-use iisph_rows::rows::PRESSURE;
-use iisph_rows::rows::ROW;
+use iisph_rows::rows::pressure_slot;
 use iisph_rows::rows::put_vector;
+use iisph_rows::rows::row_at;
 use math::Vec3;
 use scene_format::Kind;
-use scene_format::format::VELOCITY;
+use scene_format::format::vector_width;
+use scene_format::format::wide;
 use scene_format::read;
 use scene_index::records::record_of;
-use scene_lengths::ANSWER_PRESSURE;
-use scene_lengths::ANSWER_VELOCITY;
-use scene_lengths::ANSWER_WIDTH;
+use scene_lengths::fluid_answer_width;
 ghost use mathlib.Core.Path.{_≡_};
 ghost use Prim.Native.Nat.{_+_, _*_, _<_, _≤_};
 ghost use lib.ListN.{length};
@@ -21,7 +20,6 @@ ghost use Rattle.iisph_rows.specs.Passes.{DrivenPass};
 ghost use Rattle.iisph_rules.specs.Coefficients.{coefficients};
 ghost use Rattle.iisph_rules.specs.Step.{fluidAnswer};
 ghost use Rattle.lists.specs.Stores.{stored};
-ghost use Rattle.scene_format.specs.Format.{axes};
 ghost use Rattle.scene_format.specs.SceneOf.{sceneOf};
 ghost use Rattle.scene_lengths.specs.Lengths.{fluidAnswerWidth};
 ghost use Rattle.iisph_motion.specs.Changes.{ChangesReady};
@@ -39,20 +37,21 @@ fn motion_of(
     scene: &[u8],
     index: &[usize],
     work: &[f64],
+    dim: u8,
     n: usize,
     dt: f64,
     gravity: Vec3,
     i: usize,
 ) -> Motion
-    requires { ⌜ DrivenPass (now scene) (now index) n dt gravity × (i < n) ⌝ }
-    requires { ⌜ ChangesReady (sceneOf (now scene)) n (now work) ⌝ }
-    ensures { λ r. ⌜ MotionIs (sceneOf (now (scene .entry))) (pressuresIn n (now (work .entry))) i r ⌝ }
+    requires { ⌜ DrivenPass (now scene) (now index) dim n dt gravity × (i < n) ⌝ }
+    requires { ⌜ ChangesReady (sceneOf (now scene)) dim n (now work) ⌝ }
+    ensures { λ r. ⌜ MotionIs (sceneOf (now (scene .entry))) dim (pressuresIn dim n (now (work .entry))) i r ⌝ }
 {
-    let change = final_change_of(scene, index, work, n, dt, gravity, i);
+    let change = final_change_of(scene, index, work, dim, n, dt, gravity, i);
     let at = record_of(scene, index, Kind::Fluid, i);
-    let before = read::vector(scene, at + VELOCITY);
+    let before = read::vector(scene, at + vector_width(dim), dim);
     let velocity = before.add(change);
-    let position = read::vector(scene, at).add(velocity.scale(dt));
+    let position = read::vector(scene, at, dim).add(velocity.scale(dt));
     Motion { position, velocity }
 }
 
@@ -61,6 +60,7 @@ fn put_answer(
     scene: &[u8],
     index: &[usize],
     work: &[f64],
+    dim: u8,
     n: usize,
     dt: f64,
     gravity: Vec3,
@@ -68,23 +68,25 @@ fn put_answer(
     i: usize,
 )
     requires { ⌜
-        DrivenPass (now scene) (now index) n dt gravity × ChangesReady (sceneOf (now scene)) n (now work)
+        DrivenPass (now scene) (now index) dim n dt gravity × ChangesReady (sceneOf (now scene)) dim n (now work)
         ⌝ }
-    requires { ⌜ (i < n) × (fluidAnswerWidth axes * i + fluidAnswerWidth axes ≤ length (now answers)) ⌝ }
+    requires { ⌜ (i < n) × (fluidAnswerWidth dim * i + fluidAnswerWidth dim ≤ length (now answers)) ⌝ }
     ensures { λ _. ⌜
         (let s = sceneOf (now (scene .entry)) in
-        let ps = pressuresIn n (now (work .entry)) in
+        let ps = pressuresIn dim n (now (work .entry)) in
         now (answers .exit)
-        ≡ sets (now (answers .entry)) (fluidAnswerWidth axes * i) (fluidAnswer s (coefficients s) ps i))
+        ≡ sets (now (answers .entry)) (fluidAnswerWidth dim * i) (fluidAnswer s (coefficients s) ps i))
         ⌝ }
 {
-    let motion = motion_of(scene, index, work, n, dt, gravity, i);
+    let motion = motion_of(scene, index, work, dim, n, dt, gravity, i);
     let position = motion.position;
     let velocity = motion.velocity;
-    let pressure = work[ROW * i + PRESSURE];
-    put_vector(answers, ANSWER_WIDTH * i, position);
-    put_vector(answers, ANSWER_WIDTH * i + ANSWER_VELOCITY, velocity);
-    answers[ANSWER_WIDTH * i + ANSWER_PRESSURE] = pressure;
+    let pressure = work[row_at(work, dim, i) + pressure_slot(dim)];
+    let axes = wide(dim);
+    let at = fluid_answer_width(dim) * i;
+    put_vector(answers, at, position, dim);
+    put_vector(answers, at + axes, velocity, dim);
+    answers[at + 2 * axes] = pressure;
 }
 
 // The answers of all fluid particles, in the order of their numbers.
@@ -92,25 +94,26 @@ pub fn update_velocities_and_positions(
     scene: &[u8],
     index: &[usize],
     work: &[f64],
+    dim: u8,
     n: usize,
     dt: f64,
     gravity: Vec3,
     answers: &mut [f64],
 )
     requires { ⌜
-        DrivenPass (now scene) (now index) n dt gravity × ChangesReady (sceneOf (now scene)) n (now work)
+        DrivenPass (now scene) (now index) dim n dt gravity × ChangesReady (sceneOf (now scene)) dim n (now work)
         ⌝ }
-    requires { ⌜ fluidAnswerWidth axes * n ≤ length (now answers) ⌝ }
+    requires { ⌜ fluidAnswerWidth dim * n ≤ length (now answers) ⌝ }
     ensures { λ _. ⌜
         (let s = sceneOf (now (scene .entry)) in
-        let ps = pressuresIn n (now (work .entry)) in
+        let ps = pressuresIn dim n (now (work .entry)) in
         now (answers .exit)
-        ≡ stored (fluidAnswerWidth axes) n 0 (fluidAnswer s (coefficients s) ps) (now (answers .entry)))
+        ≡ stored (fluidAnswerWidth dim) n 0 (fluidAnswer s (coefficients s) ps) (now (answers .entry)))
         ⌝ }
 {
     let mut i = 0usize;
     while i < n {
-        put_answer(scene, index, work, n, dt, gravity, answers, i);
+        put_answer(scene, index, work, dim, n, dt, gravity, answers, i);
         i += 1;
     }
 }

@@ -5,12 +5,13 @@ use crate::acceleration::boundary_acceleration;
 use crate::acceleration::pressure_state_of;
 use iisph_rows::records::velocity_change_of;
 use iisph_rows::rows::MASS;
-use iisph_rows::rows::ROW;
-use iisph_rows::rows::SHARE;
+use iisph_rows::rows::column_at;
+use iisph_rows::rows::quotient_column;
+use iisph_rows::rows::row_at;
 use math::Vec3;
 use scene_format::Kind;
 use scene_format::format::CONTACT_GRADIENT;
-use scene_format::format::CONTACT_WIDTH;
+use scene_format::format::contact_width;
 use scene_format::read;
 use scene_index::contacts::ContactList;
 use scene_index::contacts::contacts_of;
@@ -31,31 +32,34 @@ fn fluid_changes(
     scene: &[u8],
     index: &[usize],
     work: &[f64],
+    dim: u8,
     n: usize,
     list: ContactList,
     own: f64,
     dt: f64,
     from: Vec3,
 ) -> Vec3
-    requires { ⌜ PassOver (now scene) (now index) n × ChangesReady (sceneOf (now scene)) n (now work) ⌝ }
-    requires { ⌜ ContactsReady Kind.Fluid (now scene) list ⌝ }
+    requires { ⌜ PassOver (now scene) (now index) dim n × ChangesReady (sceneOf (now scene)) dim n (now work) ⌝ }
+    requires { ⌜ ContactsReady Kind.Fluid dim (now scene) list ⌝ }
     ensures { λ r. ⌜
         (let b = now (scene .entry) in
-        let ps = pressuresIn n (now (work .entry)) in
-        coordinates r ≡ overList Kind.Fluid b list (lessBy (fluidChange (sceneOf b) ps dt own)) (coordinates from))
+        let ps = pressuresIn dim n (now (work .entry)) in
+        coordinates dim r
+        ≡ overList Kind.Fluid dim b list (lessBy (fluidChange (sceneOf b) ps dt own)) (coordinates dim from))
         ⌝ }
 {
     let count = list.count;
     let at = list.at;
+    let width = contact_width(dim);
+    let shares = quotient_column(dim);
     let mut change = from;
     let mut k = 0usize;
     while k < count {
-        let c = at + CONTACT_WIDTH * k;
+        let c = at + width * k;
         let j = target_of(scene, index, Kind::Fluid, c);
-        let row = ROW * j;
-        let m = work[row + MASS];
-        let share = work[SHARE * n + j];
-        change = change.sub(read::vector(scene, c + CONTACT_GRADIENT).scale(
+        let m = work[row_at(work, dim, j) + MASS];
+        let share = work[column_at(work, dim, n, shares, j)];
+        change = change.sub(read::vector(scene, c + CONTACT_GRADIENT, dim).scale(
             dt * m * (own + share),
         ));
         k += 1;
@@ -68,26 +72,29 @@ fn boundary_changes(
     scene: &[u8],
     index: &[usize],
     work: &[f64],
+    dim: u8,
     n: usize,
     list: ContactList,
     state: PressureState,
     dt: f64,
     from: Vec3,
 ) -> Vec3
-    requires { ⌜ PassOver (now scene) (now index) n × Iterating (sceneOf (now scene)) n (now work) ⌝ }
-    requires { ⌜ ContactsReady Kind.Boundary (now scene) list ⌝ }
+    requires { ⌜ PassOver (now scene) (now index) dim n × Iterating (sceneOf (now scene)) dim n (now work) ⌝ }
+    requires { ⌜ ContactsReady Kind.Boundary dim (now scene) list ⌝ }
     ensures { λ r. ⌜
         (let b = now (scene .entry) in
-        coordinates r ≡ overList Kind.Boundary b list (lessBy (boundaryChange (sceneOf b) dt state)) (coordinates from))
+        coordinates dim r
+        ≡ overList Kind.Boundary dim b list (lessBy (boundaryChange (sceneOf b) dt state)) (coordinates dim from))
         ⌝ }
 {
     let count = list.count;
     let at = list.at;
+    let width = contact_width(dim);
     let mut change = from;
     let mut k = 0usize;
     while k < count {
-        let c = at + CONTACT_WIDTH * k;
-        change = change.sub(boundary_acceleration(scene, index, work, n, c, state).scale(dt));
+        let c = at + width * k;
+        change = change.sub(boundary_acceleration(scene, index, work, dim, n, c, state).scale(dt));
         k += 1;
     }
     change
@@ -98,23 +105,24 @@ pub(crate) fn final_change_of(
     scene: &[u8],
     index: &[usize],
     work: &[f64],
+    dim: u8,
     n: usize,
     dt: f64,
     gravity: Vec3,
     i: usize,
 ) -> Vec3
-    requires { ⌜ DrivenPass (now scene) (now index) n dt gravity × (i < n) ⌝ }
-    requires { ⌜ ChangesReady (sceneOf (now scene)) n (now work) ⌝ }
+    requires { ⌜ DrivenPass (now scene) (now index) dim n dt gravity × (i < n) ⌝ }
+    requires { ⌜ ChangesReady (sceneOf (now scene)) dim n (now work) ⌝ }
     ensures { λ r. ⌜
         (let s = sceneOf (now (scene .entry)) in
-        coordinates r ≡ finalVelocityChange s (coefficients s) (pressuresIn n (now (work .entry))) i)
+        coordinates dim r ≡ finalVelocityChange s (coefficients s) (pressuresIn dim n (now (work .entry))) i)
         ⌝ }
 {
-    let fluid = contacts_of(scene, index, Kind::Fluid, i);
-    let boundary = contacts_of(scene, index, Kind::Boundary, i);
-    let state = pressure_state_of(scene, index, work, n, i);
-    let share = work[SHARE * n + i];
-    let first = velocity_change_of(scene, index, n, dt, gravity, i);
-    let part = fluid_changes(scene, index, work, n, fluid, share, dt, first);
-    boundary_changes(scene, index, work, n, boundary, state, dt, part)
+    let fluid = contacts_of(scene, index, dim, Kind::Fluid, i);
+    let boundary = contacts_of(scene, index, dim, Kind::Boundary, i);
+    let state = pressure_state_of(scene, index, work, dim, n, i);
+    let share = work[column_at(work, dim, n, quotient_column(dim), i)];
+    let first = velocity_change_of(scene, index, dim, n, dt, gravity, i);
+    let part = fluid_changes(scene, index, work, dim, n, fluid, share, dt, first);
+    boundary_changes(scene, index, work, dim, n, boundary, state, dt, part)
 }

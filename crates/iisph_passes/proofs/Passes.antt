@@ -8,7 +8,8 @@ use native.Mathlib.Omega.{arith}
 use lib.Ieee.{Float, nan}
 use lib.ListN.{length, getD, drop, length-drop}
 use lib.Seq.{ext-getD, getD-drop}
-use Rattle.scene_format.specs.Format.{axes}
+use Rattle.math.specs.Vector.{Axes}
+use Rattle.scene_format.specs.Format.{axesOf}
 use Rattle.scene_format.specs.Scene.{Scene, fluidSize}
 use Rattle.scene_format.specs.SceneOf.{sceneOf}
 use Rattle.scene_lengths.specs.Lengths.{workWidth}
@@ -29,42 +30,46 @@ drop-same k x y l h =
     ext-getD nan (drop k x) (drop k y) (simp length-drop (omega arith))
     (λ j m. rw (getD-drop k x, getD-drop k y) (h (k + j) (omega arith)))
 
-module _ (b : List ℕ) {n : ℕ} (size : n ≡ fluidSize (sceneOf b)) (pass : Pass) (l : List Float) where
-  pub pass-rows : volumesAt n ≤ length l
-      → Rows n (slotOf pass) (rowOf (sceneOf b) l pass) (stored n (slotOf pass) (rowOf (sceneOf b) l pass) l)
+module _ (b : List ℕ) {d n : ℕ} (is : d ≡ axesOf b) (axes : Axes d) (size : n ≡ fluidSize (sceneOf b)) (pass : Pass)
+    (l : List Float) where
+  pub pass-rows : volumesAt d n ≤ length l
+      → Rows d n (slotOf d pass) (rowOf d (sceneOf b) l pass)
+      (stored d n (slotOf d pass) (rowOf d (sceneOf b) l pass) l)
   pass-rows room =
-      stored-rows nan (slotAt n) (slotOf pass) (rowOf (sceneOf b) l pass) l n (workWidth axes) (slots-apart n)
-      (rowLength pass) (row-length b size l pass) (row-fits pass) room
+      stored-rows nan (slotAt d n) (slotOf d pass) (rowOf d (sceneOf b) l pass) l n (workWidth d) (slots-apart d n)
+      (rowLength d pass) (row-length b is axes size l pass) (row-fits axes pass) room
 
-  pub pass-keeps : (k c : ℕ) {g : ℕ → List Float} → ((i : ℕ) → i < n → length (g i) ≡ c) → k + c ≤ workWidth axes
-      → (k + c ≤ slotOf pass) ⊎ (slotOf pass + rowLength pass ≤ k) → Rows n k g l
-      → Rows n k g (stored n (slotOf pass) (rowOf (sceneOf b) l pass) l)
-  pass-keeps k c wide fits apart q = pass-kept b size pass n (omega arith) l k c wide fits apart q
+  pub pass-keeps : (k c : ℕ) {g : ℕ → List Float} → ((i : ℕ) → i < n → length (g i) ≡ c) → k + c ≤ workWidth d
+      → (k + c ≤ slotOf d pass) ⊎ (slotOf d pass + rowLength d pass ≤ k) → Rows d n k g l
+      → Rows d n k g (stored d n (slotOf d pass) (rowOf d (sceneOf b) l pass) l)
+  pass-keeps k c wide fits apart q = pass-kept b is axes size pass n (omega arith) l k c wide fits apart q
 
-  pub pass-part : {xs : List Float} → Behind n xs l
-      → Behind n xs (stored n (slotOf pass) (rowOf (sceneOf b) l pass) l)
-  pass-part q = volumes-kept b size pass n (omega arith) l q
+  pub pass-part : {xs : List Float} → Behind d n xs l
+      → Behind d n xs (stored d n (slotOf d pass) (rowOf d (sceneOf b) l pass) l)
+  pass-part q = volumes-kept b is axes size pass n (omega arith) l q
 
-  pub pass-beyond : (j : ℕ) → volumesAt n ≤ j → getD (stored n (slotOf pass) (rowOf (sceneOf b) l pass) l) j nan
+  pub pass-beyond : (j : ℕ) → volumesAt d n ≤ j → getD (stored d n (slotOf d pass) (rowOf d (sceneOf b) l pass) l) j nan
       ≡ getD l j nan
   pass-beyond j h =
-      stored-beyond nan (slotAt n) (slotOf pass) (rowOf (sceneOf b) l pass) l n (workWidth axes) (slots-apart n)
-      (rowLength pass) (row-length b size l pass) (row-fits pass) n (omega arith) j h
+      stored-beyond nan (slotAt d n) (slotOf d pass) (rowOf d (sceneOf b) l pass) l n (workWidth d) (slots-apart d n)
+      (rowLength d pass) (row-length b is axes size l pass) (row-fits axes pass) n (omega arith) j h
 
-  pub pass-drop : (k : ℕ) → volumesAt n ≤ k → drop k (stored n (slotOf pass) (rowOf (sceneOf b) l pass) l) ≡ drop k l
-  pass-drop k h = drop-same k _ l (length-kept b size pass n (omega arith) l) (λ j m. pass-beyond j (omega arith))
+  pub pass-drop : (k : ℕ) → volumesAt d n ≤ k → drop k (stored d n (slotOf d pass) (rowOf d (sceneOf b) l pass) l)
+      ≡ drop k l
+  pass-drop k h =
+      drop-same k _ l (length-kept b is axes size pass n (omega arith) l) (λ j m. pass-beyond j (omega arith))
 
 -- ---- of the pass at hand
 
-module _ (s : Scene) {pass : Pass} (n : ℕ) (work : List Float) (q : Ready s n work pass) where
-  pub coefficients-ready : pass ≡ Coefficients → CoefficientsReady s n work
+module _ (s : Scene) {pass : Pass} (d n : ℕ) (work : List Float) (q : Ready s d n work pass) where
+  pub coefficients-ready : pass ≡ Coefficients → CoefficientsReady s d n work
   unfolding Ready
-  coefficients-ready e = subst (Ready s n work) e q
+  coefficients-ready e = subst (Ready s d n work) e q
 
-  pub dij-ready : pass ≡ DijPjl → DijReady s n work
+  pub dij-ready : pass ≡ DijPjl → DijReady s d n work
   unfolding Ready
-  dij-ready e = subst (Ready s n work) e q
+  dij-ready e = subst (Ready s d n work) e q
 
-  pub next-ready : pass ≡ NextPressures → Iterating s n work
+  pub next-ready : pass ≡ NextPressures → Iterating s d n work
   unfolding Ready
-  next-ready e = subst (Ready s n work) e q
+  next-ready e = subst (Ready s d n work) e q

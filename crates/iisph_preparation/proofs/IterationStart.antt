@@ -2,7 +2,7 @@
 -- and volumes. What the coefficients' pass stores is taken apart slot by slot; all else stays while it is stored.
 -- Assumes nothing.
 use Prim.Native.Nat.{ℕ, suc, _+_, _<_, _≤_}
-use mathlib.Core.Path.{_≡_, refl, sym}
+use mathlib.Core.Path.{_≡_, refl, sym, subst}
 use mathlib.Core.List.{List, [], _∷_}
 use mathlib.Core.Logic.{inl}
 use native.Mathlib.Omega.{arith}
@@ -17,7 +17,8 @@ use Rattle.iisph_rules.specs.Coefficients.{density, coefficientsOf}
 use Rattle.iisph_rules.specs.Iteration.{pressure}
 use Rattle.iisph_rows.specs.Passes.{firstPressure, massRow, volumes, CoefficientsReady}
 use Rattle.iisph_coefficients.specs.Neighbours.{coefficientRow}
-use Rattle.scene_format.specs.Format.{axes}
+use Rattle.scene_format.specs.Format.{axesOf}
+use Rattle.scene_format.proofs.Forms.{axes-of}
 use Rattle.iisph_preparation.specs.Prepare.{rowsFilled, prepared}
 use Rattle.iisph_pressures.specs.IterationRows.{IterationReady}
 use Rattle.iisph_rules.specs.Step.{firstPressures}
@@ -55,52 +56,60 @@ module _ (b : List ℕ) (i : ℕ) (h : i < fluidSize (sceneOf b)) where
       (omega (arith, length-append d columnsOf), rw e (List·getD-append d columnsOf nan a c))
 
   column-in-row : (a : ℕ) → a < 3
-      → (1 + axes + a < length (coefficientRow (sceneOf b) i))
-      × (getD (coefficientRow (sceneOf b) i) (1 + axes + a) nan ≡ getD columnsOf a nan)
+      → (1 + axesOf b + a < length (coefficientRow (sceneOf b) i))
+      × (getD (coefficientRow (sceneOf b) i) (1 + axesOf b + a) nan ≡ getD columnsOf a nan)
   unfolding coefficientRow coefficientsOf
   column-in-row a c =
       let d = coefficientsOf (sceneOf b) (particle (sceneOf b) i) .dii in
-      let long : length d ≡ axes = length-dii b i h (density (sceneOf b) (particle (sceneOf b) i)) in
-      let e : 1 + axes + a ≡ suc (length d + a) = omega arith in
+      let long : length d ≡ axesOf b = length-dii b i h (density (sceneOf b) (particle (sceneOf b) i)) in
+      let e : 1 + axesOf b + a ≡ suc (length d + a) = omega arith in
       (omega (arith, length-append d columnsOf, long), rw e (getD-append-add d columnsOf a nan))
 
 -- ---- the whole list
 
+rows-at : (d : ℕ) {n k slot : ℕ} {f : ℕ → List Float} {l : List Float} → k ≡ slot → Rows d n k f l → Rows d n slot f l
+rows-at d {n} {f = f} {l} e q = subst (λ (j : ℕ). Rows d n j f l) e q
+
 module _ (b : List ℕ) (l : List Float)
-    (room : volumesAt (fluidSize (sceneOf b)) + boundarySize (sceneOf b) ≤ length l) where
-  coefficients-find : CoefficientsReady (sceneOf b) (fluidSize (sceneOf b)) (afterAdvection b l)
+    (room : volumesAt (axesOf b) (fluidSize (sceneOf b)) + boundarySize (sceneOf b) ≤ length l) where
+  coefficients-find : CoefficientsReady (sceneOf b) (axesOf b) (fluidSize (sceneOf b)) (afterAdvection b l)
   coefficients-find =
       let v : length (volumes (sceneOf b)) ≡ boundarySize (sceneOf b) = length-table (boundarySize (sceneOf b)) _ in
-      let m = length-sets l (volumesAt (fluidSize (sceneOf b))) (volumes (sceneOf b)) in
-      advected-ready b refl (start b l) (omega arith)
-      (part-stored (volumesAt (fluidSize (sceneOf b))) (volumes (sceneOf b)) l (omega arith)) refl
+      let m = length-sets l (volumesAt (axesOf b) (fluidSize (sceneOf b))) (volumes (sceneOf b)) in
+      advected-ready b refl (axes-of b) refl (start b l) (omega arith)
+      (part-stored (volumesAt (axesOf b) (fluidSize (sceneOf b))) (volumes (sceneOf b)) l (omega arith)) refl
 
-  mass-kept : Rows (fluidSize (sceneOf b)) massSlot (massRow (sceneOf b)) (prepared (sceneOf b) l)
+  mass-kept : Rows (axesOf b) (fluidSize (sceneOf b)) massSlot (massRow (sceneOf b)) (prepared (axesOf b) (sceneOf b) l)
   unfolding prepared rowsFilled slotOf
   mass-kept =
-      pass-keeps b refl Coefficients (afterAdvection b l) massSlot 1 (λ j h. refl) (omega arith) (inl (omega arith))
+      pass-keeps b refl (axes-of b) refl Coefficients (afterAdvection b l) massSlot 1 (λ j h. refl) (omega arith)
+      (inl (omega arith))
       (coefficients-find .mass)
 
-  volume-kept : Behind (fluidSize (sceneOf b)) (volumes (sceneOf b)) (prepared (sceneOf b) l)
+  volume-kept : Behind (axesOf b) (fluidSize (sceneOf b)) (volumes (sceneOf b)) (prepared (axesOf b) (sceneOf b) l)
   unfolding prepared rowsFilled
-  volume-kept = pass-part b refl Coefficients (afterAdvection b l) (coefficients-find .volume)
+  volume-kept = pass-part b refl (axes-of b) refl Coefficients (afterAdvection b l) (coefficients-find .volume)
 
-  pub iteration-ready : IterationReady (sceneOf b) (firstPressures (sceneOf b)) (fluidSize (sceneOf b))
-      (prepared (sceneOf b) l)
+  pub iteration-ready : IterationReady (sceneOf b) (firstPressures (sceneOf b)) (axesOf b) (fluidSize (sceneOf b))
+      (prepared (axesOf b) (sceneOf b) l)
   unfolding coefficientRow
   iteration-ready =
+      let d = axesOf b in
       let rows = coefficient-rows b l room in
       record {
         room = rw (length-prepared b l) room;
-        density = rows-one rows (1 + axes) (λ i. coefficientsOf (sceneOf b) (particle (sceneOf b) i) .density)
-            (λ i h. column-in-row b i h 0 (omega arith));
-        predictedDensity =
-            rows-one rows (1 + axes + 1) (λ i. coefficientsOf (sceneOf b) (particle (sceneOf b) i) .predictedDensity)
-            (λ i h. column-in-row b i h 1 (omega arith));
-        aii = rows-one rows (1 + axes + 2) (λ i. coefficientsOf (sceneOf b) (particle (sceneOf b) i) .aii)
-            (λ i h. column-in-row b i h 2 (omega arith));
+        density = rows-at d (omega arith)
+            (rows-one rows (1 + d + 0) (λ i. coefficientsOf (sceneOf b) (particle (sceneOf b) i) .density)
+            (λ i h. column-in-row b i h 0 (omega arith)));
+        predictedDensity = rows-at d (omega arith)
+            (rows-one rows (1 + d + 1) (λ i. coefficientsOf (sceneOf b) (particle (sceneOf b) i) .predictedDensity)
+            (λ i h. column-in-row b i h 1 (omega arith)));
+        aii = rows-at d (omega arith)
+            (rows-one rows (1 + d + 2) (λ i. coefficientsOf (sceneOf b) (particle (sceneOf b) i) .aii)
+            (λ i h. column-in-row b i h 2 (omega arith)));
         dii = rows-part rows 1 (λ i. coefficientsOf (sceneOf b) (particle (sceneOf b) i) .dii) (dii-in-row b);
-        pressure = rows-one rows 0 (pressure (firstPressures (sceneOf b))) (pressure-in-row b);
+        pressure =
+            rows-at d (omega arith) (rows-one rows 0 (pressure (firstPressures (sceneOf b))) (pressure-in-row b));
         mass = mass-kept;
         volume = volume-kept;
       }

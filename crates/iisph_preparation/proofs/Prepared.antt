@@ -9,7 +9,8 @@ use lib.ListN.{length, drop, replicate, length-replicate}
 use lib.Seq.{sets, drop-at}
 use Rattle.math.specs.Real.{+0}
 use Rattle.scene_format.specs.Scene.{fluidSize}
-use Rattle.scene_format.specs.SceneOf.{sceneOf}
+use Rattle.scene_format.specs.Format.{axesOf}
+use Rattle.scene_format.specs.SceneOf.{sceneOf, headerOf}
 use Rattle.scene_check.specs.Check.{Passed}
 use Rattle.scene_layout.specs.declared.Layout.{Layout}
 use Rattle.scene_index.specs.Index.{indexNeeded, indexOf}
@@ -29,14 +30,21 @@ use Rattle.iisph_preparation.proofs.IterationStart.{iteration-ready}
 use Rattle.iisph_preparation.proofs.RowsFilled.{length-prepared, drop-prepared}
 
 -- the filled index and the layout's number of fluid particles are what a pass goes over
-pub indexed-over : {b : List ℕ} {layout : Layout} → Passed b layout → (l : List ℕ) {index : List ℕ}
-    → indexNeeded b ≤ length l → index ≡ sets l 0 (indexOf b) → PassOver b index (layout .fluids .total)
-indexed-over passed l room e = record { indexed = rw e (indexed passed l room); size = fluid-total passed }
+pub indexed-over : {b : List ℕ} {layout : Layout} {d : ℕ} → Passed b layout → d ≡ axesOf b
+    → (l : List ℕ) {index : List ℕ}
+    → indexNeeded b ≤ length l → index ≡ sets l 0 (indexOf b) → PassOver b index d (layout .fluids .total)
+indexed-over passed is l room e =
+    record { indexed = rw e (indexed passed l room); axes = is; size = fluid-total passed }
 
 -- what a pass may rely on, with the header's dt and gravity
-pub driven : {b index : List ℕ} {n : ℕ} {header : StepHeader} → PassOver b index n → StepHeaderIs (sceneOf b) header
-    → DrivenPass b index n (header .clock .dt) (header .gravity)
-driven over h = record { timed = record { over = over; dtIs = ap (λ c. c .dt) (h .clockIs) }; gravityIs = h .gravityIs }
+pub driven : {b index : List ℕ} {d n : ℕ} {header : StepHeader} → PassOver b index d n
+    → StepHeaderIs (sceneOf b) header → DrivenPass b index d n (header .clock .dt) (header .gravity)
+unfolding sceneOf headerOf
+driven {b} {header = header} over h =
+    record {
+      timed = record { over = over; dtIs = ap (λ c. c .dt) (h .clockIs) };
+      gravityIs = rw (over .axes) (h .gravityIs);
+    }
 
 -- behind the needed part the passes leave the list as it was
 pub beyond : (b : List ℕ) (work : List Float) (r : Readiness) → drop (workNeeded (sceneOf b)) (workPrepared b r work)
@@ -47,12 +55,12 @@ beyond b work (Refused r) = drop-at (replicate (workNeeded (sceneOf b)) +0) (dro
     (workNeeded (sceneOf b)) (length-replicate (workNeeded (sceneOf b)) +0)
 
 -- what the iterations find, once the passes before them have refused nothing
-pub prepared-ready : (b : List ℕ) {n : ℕ} → n ≡ fluidSize (sceneOf b) → (work : List Float)
+pub prepared-ready : (b : List ℕ) {d n : ℕ} → d ≡ axesOf b → n ≡ fluidSize (sceneOf b) → (work : List Float)
     → workNeeded (sceneOf b) ≤ length work
     → {r : Readiness} {x : List Float} → r ≡ Ready → x ≡ workPrepared b r work
-    → IterationReady (sceneOf b) (firstPressures (sceneOf b)) n x
+    → IterationReady (sceneOf b) (firstPressures (sceneOf b)) d n x
 unfolding workPrepared
-prepared-ready b size work h e q = rw (q, e, size) (iteration-ready b work (omega (arith, work-least b)))
+prepared-ready b is size work h e q = rw (q, e, size, is) (iteration-ready b work (omega (arith, work-least b)))
 
 pub prepared-long : (b : List ℕ) (work : List Float) {r : Readiness} {x : List Float} → r ≡ Ready
     → x ≡ workPrepared b r work → length x ≡ length work

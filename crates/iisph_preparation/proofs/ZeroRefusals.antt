@@ -12,7 +12,7 @@ use lib.Seq.{sets, length-sets}
 use Rattle.math.specs.Real.{+0}
 use Rattle.lists.specs.Lists.{choose}
 use Rattle.lists.proofs.Lists.{length-table, map-table}
-use Rattle.scene_format.specs.Format.{axes, locationOf}
+use Rattle.scene_format.specs.Format.{axesOf, locationOf}
 use Rattle.scene_format.specs.Scene.{Scene, fluidSize, boundarySize, particle}
 use Rattle.scene_format.specs.SceneOf.{sceneOf}
 use Rattle.scene_lengths.specs.Lengths.{workNeeded}
@@ -35,27 +35,33 @@ use Rattle.iisph_preparation.proofs.IterationStart.{iteration-ready}
 
 -- ---- the list, call by call
 
-module _ (b : List ℕ) {n : ℕ} (size : n ≡ fluidSize (sceneOf b)) (l : List Float) where
+module _ (b : List ℕ) {d n : ℕ} (is : d ≡ axesOf b) (size : n ≡ fluidSize (sceneOf b)) (l : List Float) where
+  pub room-of : volumesAt (axesOf b) (fluidSize (sceneOf b)) + boundarySize (sceneOf b) ≤ length l
+      → volumesAt d n + boundarySize (sceneOf b) ≤ length l
+  room-of h = rw (is, size) h
+
   -- the volumes, then the rows
-  pub prepared-made : {x z : List Float} → x ≡ sets l (volumesAt n) (volumes (sceneOf b)) → z ≡ rowsFilled (sceneOf b) x
-      → z ≡ prepared (sceneOf b) l
+  pub prepared-made : {x z : List Float} → x ≡ sets l (volumesAt d n) (volumes (sceneOf b))
+      → z ≡ rowsFilled d (sceneOf b) x
+      → z ≡ prepared (axesOf b) (sceneOf b) l
   unfolding prepared
-  prepared-made e q = rw (q, e, size)
+  prepared-made e q = rw (q, e, size, is)
 
   -- the volumes are there
-  pub volumes-there : {x : List Float} → volumesAt n + boundarySize (sceneOf b) ≤ length l
-      → x ≡ sets l (volumesAt n) (volumes (sceneOf b))
-      → (volumesAt n + boundarySize (sceneOf b) ≤ length x) × Behind n (volumes (sceneOf b)) x
+  pub volumes-there : {x : List Float} → volumesAt d n + boundarySize (sceneOf b) ≤ length l
+      → x ≡ sets l (volumesAt d n) (volumes (sceneOf b))
+      → (volumesAt d n + boundarySize (sceneOf b) ≤ length x) × Behind d n (volumes (sceneOf b)) x
   volumes-there room e =
       let v : length (volumes (sceneOf b)) ≡ boundarySize (sceneOf b) = length-table (boundarySize (sceneOf b)) _ in
       rw e (
-        omega (arith, length-sets l (volumesAt n) (volumes (sceneOf b))),
-        part-stored (volumesAt n) (volumes (sceneOf b)) l
+        omega (arith, length-sets l (volumesAt d n) (volumes (sceneOf b))),
+        part-stored (volumesAt d n) (volumes (sceneOf b)) l
             (omega arith),
       )
 
   -- a refused scene
-  pub work-cleared : {k : ℕ} (r : Refusal) {y z : List Float} → k ≡ workNeeded (sceneOf b) → z ≡ prepared (sceneOf b) l
+  pub work-cleared : {k : ℕ} (r : Refusal) {y z : List Float} → k ≡ workNeeded (sceneOf b)
+      → z ≡ prepared (axesOf b) (sceneOf b) l
       → y ≡ replicate k +0 ++ drop k z → y ≡ workPrepared b (Refused r) l
   unfolding workPrepared
   work-cleared r needed e q =
@@ -64,36 +70,38 @@ module _ (b : List ℕ) {n : ℕ} (size : n ≡ fluidSize (sceneOf b)) (l : List
 -- ---- columns
 
 module _ (b : List ℕ) (l : List Float)
-    (room : volumesAt (fluidSize (sceneOf b)) + boundarySize (sceneOf b) ≤ length l) where
-  coefficient-column : (e : ℕ) (x : Coefficients → Float) → rowWidth axes ≤ e
-      → Rows (fluidSize (sceneOf b)) e (λ i. x (coefficientsOf (sceneOf b) (particle (sceneOf b) i)) ∷ [])
-      (prepared (sceneOf b) l)
-      → column (fluidSize (sceneOf b)) e (prepared (sceneOf b) l) ≡ map x (coefficients (sceneOf b))
+    (room : volumesAt (axesOf b) (fluidSize (sceneOf b)) + boundarySize (sceneOf b) ≤ length l) where
+  coefficient-column : (e : ℕ) (x : Coefficients → Float) → rowWidth (axesOf b) ≤ e
+      → Rows (axesOf b) (fluidSize (sceneOf b)) e (λ i. x (coefficientsOf (sceneOf b) (particle (sceneOf b) i)) ∷ [])
+      (prepared (axesOf b) (sceneOf b) l)
+      → column (fluidSize (sceneOf b)) e (prepared (axesOf b) (sceneOf b) l) ≡ map x (coefficients (sceneOf b))
   unfolding coefficients
   coefficient-column e x h q =
-      column-values (λ i. x (coefficientsOf (sceneOf b) (particle (sceneOf b) i))) q h
+      column-values (axesOf b) (λ i. x (coefficientsOf (sceneOf b) (particle (sceneOf b) i))) q h
       ∙ sym (map-table x (fluidSize (sceneOf b)) (λ i. coefficientsOf (sceneOf b) (particle (sceneOf b) i)))
 
   -- the two that refusals look at
-  columns : (column (fluidSize (sceneOf b)) (densitySlot axes) (prepared (sceneOf b) l)
+  columns : (column (fluidSize (sceneOf b)) (densitySlot (axesOf b)) (prepared (axesOf b) (sceneOf b) l)
       ≡ map (λ k. k .density) (coefficients (sceneOf b)))
-      × (column (fluidSize (sceneOf b)) (predictedSlot axes) (prepared (sceneOf b) l)
+      × (column (fluidSize (sceneOf b)) (predictedSlot (axesOf b)) (prepared (axesOf b) (sceneOf b) l)
       ≡ map (λ k. k .predictedDensity) (coefficients (sceneOf b)))
   columns =
       let ready = iteration-ready b l room in (
-        coefficient-column (densitySlot axes) (λ k. k .density) (omega arith) (ready .density),
-        coefficient-column (predictedSlot axes) (λ k. k .predictedDensity) (omega arith) (ready .predictedDensity),
+        coefficient-column (densitySlot (axesOf b)) (λ k. k .density) (omega arith) (ready .density),
+        coefficient-column (predictedSlot (axesOf b)) (λ k. k .predictedDensity) (omega arith)
+            (ready .predictedDensity),
       )
 
   -- refusals 9 and 10 over the columns are the step's
-  pub answer-made : {n : ℕ} {z : List Float} {r : Readiness} → n ≡ fluidSize (sceneOf b) → z ≡ prepared (sceneOf b) l
+  pub answer-made : {d n : ℕ} {z : List Float} {r : Readiness} → d ≡ axesOf b
+      → n ≡ fluidSize (sceneOf b) → z ≡ prepared (axesOf b) (sceneOf b) l
       → ((report : Report)
       → r ≡ readiness
-      (zeroAnswer (λ i. locationOf Fluid b i .at) (column n (densitySlot axes) z)
-      (column n (predictedSlot axes) z) report))
+      (zeroAnswer (λ i. locationOf Fluid b i .at) (column n (densitySlot d) z)
+      (column n (predictedSlot d) z) report))
       → r ≡ readiness (sceneAnswer (λ i. locationOf Fluid b i .at) (sceneOf b))
   unfolding sceneAnswer
-  answer-made size e h = rw (size, e, columns .0, columns .1) at (h (reportOf (sceneOf b)))
+  answer-made is size e h = rw (size, is, e, columns .0, columns .1) at (h (reportOf (sceneOf b)))
 
 -- ---- what the answer says of the step's
 

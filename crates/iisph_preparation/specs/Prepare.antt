@@ -16,7 +16,7 @@ use Rattle.iisph_rules.specs.declared.StepAnswer.the-variants as answer
 use Rattle.math.specs.Real.{+0}
 use Rattle.scene_format.specs.Scene.{Scene, fluidSize}
 use Rattle.scene_format.specs.SceneOf.{sceneOf}
-use Rattle.scene_format.specs.Format.{locationOf}
+use Rattle.scene_format.specs.Format.{axesOf, locationOf}
 use Rattle.scene_format.specs.declared.Kind.the-variants.{Fluid}
 use Rattle.scene_format.specs.declared.Refusal.the-variants.{ZeroDensity, ZeroPredictedDensity}
 use Rattle.scene_index.specs.Index.{Indexed}
@@ -28,17 +28,17 @@ use Rattle.iisph_preparation.specs.declared.Readiness.the-variants.{Read
 
 -- ---- the list
 
--- masses and advected velocities, then coefficients and first pressures
-unfoldable pub rowsFilled : Scene → List Float → List Float
-rowsFilled s work = afterPass s pass.Coefficients (afterPass s pass.Advection work)
+-- for d axes: masses and advected velocities, then coefficients and first pressures
+unfoldable pub rowsFilled : ℕ → Scene → List Float → List Float
+rowsFilled d s work = afterPass d s pass.Coefficients (afterPass d s pass.Advection work)
 
 -- behind rows and columns the boundary volumes
-unfoldable pub prepared : Scene → List Float → List Float
-prepared s work = rowsFilled s (sets work (volumesAt (fluidSize s)) (volumes s))
+unfoldable pub prepared : ℕ → Scene → List Float → List Float
+prepared d s work = rowsFilled d s (sets work (volumesAt d (fluidSize s)) (volumes s))
 
 -- a refused scene leaves +0 in the needed front part
 unfoldable pub workPrepared : List ℕ → Readiness → List Float → List Float
-workPrepared b Ready work = prepared (sceneOf b) work
+workPrepared b Ready work = prepared (axesOf b) (sceneOf b) work
 workPrepared b (Refused r) work = replicate (workNeeded (sceneOf b)) +0 ++ drop (workNeeded (sceneOf b)) work
 
 -- ---- refusals 9 and 10

@@ -5,14 +5,15 @@ use iisph_header::StepHeader;
 use iisph_passes::traverse::Pass;
 use iisph_passes::traverse::traverse;
 use iisph_rows::boundary_volumes::compute_boundary_volumes;
-use iisph_rows::rows::DENSITY;
-use iisph_rows::rows::PREDICTED_DENSITY;
+use iisph_rows::rows::density_column;
+use iisph_rows::rows::predicted_column;
 use iisph_rows::zeros::Found;
 use iisph_rows::zeros::clear;
 use iisph_rows::zeros::first_zero;
 use math::Vec3;
 use scene_format::Kind;
 use scene_format::Refusal;
+use scene_format::read::axes;
 use scene_index::index::fill;
 use scene_index::records::record_of;
 use scene_layout::Layout;
@@ -26,7 +27,7 @@ ghost use Rattle.iisph_rows.specs.Rows.{densitySlot, predictedSlot, volumesAt, 
 ghost use Rattle.iisph_rules.specs.Step.{sceneAnswer};
 ghost use Rattle.iisph_rules.specs.declared.Report.{Report};
 ghost use Rattle.scene_check.specs.Check.{Passed};
-ghost use Rattle.scene_format.specs.Format.{axes, locationOf};
+ghost use Rattle.scene_format.specs.Format.{locationOf};
 ghost use Rattle.scene_format.specs.SceneOf.{sceneOf};
 ghost use Rattle.scene_format.specs.declared.Kind.the-variants.{Fluid};
 ghost use Rattle.scene_index.specs.Index.{indexNeeded};
@@ -40,27 +41,37 @@ pub enum Readiness {
 }
 
 // The masses, advected velocities, coefficients and first pressures of every particle. The boundary volumes are there.
-fn fill_rows(scene: &[u8], index: &[usize], n: usize, dt: f64, gravity: Vec3, work: &mut [f64])
-    requires { ⌜ DrivenPass (now scene) (now index) n dt gravity ⌝ }
-    requires { ⌜ Room (sceneOf (now scene)) n (now work) × Behind n (volumes (sceneOf (now scene))) (now work) ⌝ }
-    ensures { λ _. ⌜ now (work .exit) ≡ rowsFilled (sceneOf (now (scene .entry))) (now (work .entry)) ⌝ }
+fn fill_rows(
+    scene: &[u8],
+    index: &[usize],
+    dim: u8,
+    n: usize,
+    dt: f64,
+    gravity: Vec3,
+    work: &mut [f64],
+)
+    requires { ⌜ DrivenPass (now scene) (now index) dim n dt gravity ⌝ }
+    requires { ⌜
+        Room (sceneOf (now scene)) dim n (now work) × Behind dim n (volumes (sceneOf (now scene))) (now work)
+        ⌝ }
+    ensures { λ _. ⌜ now (work .exit) ≡ rowsFilled dim (sceneOf (now (scene .entry))) (now (work .entry)) ⌝ }
 {
-    traverse(Pass::Advection, scene, index, n, dt, gravity, work);
-    traverse(Pass::Coefficients, scene, index, n, dt, gravity, work);
+    traverse(Pass::Advection, scene, index, dim, n, dt, gravity, work);
+    traverse(Pass::Coefficients, scene, index, dim, n, dt, gravity, work);
 }
 
 // Two searches, one after the other: refusal 9 in the densities, 10 in the predicted ones. Each gives the offset of the
 // particle's record.
-fn zero_refusal(scene: &[u8], index: &[usize], n: usize, work: &[f64]) -> Readiness
-    requires { ⌜ PassOver (now scene) (now index) n × (volumesAt n ≤ length (now work)) ⌝ }
+fn zero_refusal(scene: &[u8], index: &[usize], dim: u8, n: usize, work: &[f64]) -> Readiness
+    requires { ⌜ PassOver (now scene) (now index) dim n × (volumesAt dim n ≤ length (now work)) ⌝ }
     ensures { λ r. ⌜
         ((report : Report) →
         (let at : ℕ → ℕ = λ i. locationOf Fluid (now (scene .entry)) i .at in
         let l = now (work .entry) in
-        r ≡ readiness (zeroAnswer at (column n (densitySlot axes) l) (column n (predictedSlot axes) l) report)))
+        r ≡ readiness (zeroAnswer at (column n (densitySlot dim) l) (column n (predictedSlot dim) l) report)))
         ⌝ }
 {
-    let density = first_zero(work, n, DENSITY);
+    let density = first_zero(work, dim, n, density_column(dim));
     match density {
         Found::At(i) => Readiness::Refused(Refusal::ZeroDensity(record_of(
             scene,
@@ -69,7 +80,7 @@ fn zero_refusal(scene: &[u8], index: &[usize], n: usize, work: &[f64]) -> Readin
             i,
         ))),
         Found::Nothing => {
-            let predicted = first_zero(work, n, PREDICTED_DENSITY);
+            let predicted = first_zero(work, dim, n, predicted_column(dim));
             match predicted {
                 Found::At(j) => Readiness::Refused(Refusal::ZeroPredictedDensity(record_of(
                     scene,
@@ -88,12 +99,13 @@ fn prepare_rows(
     scene: &[u8],
     layout: Layout,
     index: &[usize],
+    dim: u8,
     n: usize,
     dt: f64,
     gravity: Vec3,
     work: &mut [f64],
 ) -> Readiness
-    requires { ⌜ DrivenPass (now scene) (now index) n dt gravity ⌝ }
+    requires { ⌜ DrivenPass (now scene) (now index) dim n dt gravity ⌝ }
     requires { ⌜ Passed (now scene) layout × (workNeeded (sceneOf (now scene)) ≤ length (now work)) ⌝ }
     ensures { λ r. ⌜
         (let b = now (scene .entry) in
@@ -101,9 +113,9 @@ fn prepare_rows(
         × (now (work .exit) ≡ workPrepared b r (now (work .entry))))
         ⌝ }
 {
-    compute_boundary_volumes(scene, layout, index, n, work);
-    fill_rows(scene, index, n, dt, gravity, work);
-    let answer = zero_refusal(scene, index, n, work);
+    compute_boundary_volumes(scene, layout, index, dim, n, work);
+    fill_rows(scene, index, dim, n, dt, gravity, work);
+    let answer = zero_refusal(scene, index, dim, n, work);
     match answer {
         Readiness::Ready => Readiness::Ready,
         Readiness::Refused(refusal) => {
@@ -131,7 +143,8 @@ pub fn prepare(
     let clock = header.clock;
     let dt = clock.dt;
     let gravity = header.gravity;
+    let dim = axes(scene);
     let n = layout.fluids.total;
     fill(scene, layout, index);
-    prepare_rows(scene, layout, index, n, dt, gravity, work)
+    prepare_rows(scene, layout, index, dim, n, dt, gravity, work)
 }

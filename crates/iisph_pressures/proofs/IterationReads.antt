@@ -18,7 +18,7 @@ use Rattle.iisph_rules.specs.Iteration.{pressure, dijPjl, dijPjls, dij}
 use Rattle.iisph_pressures.specs.IterationRows.{IterationReady, pressuresIn, dijsIn, rowQuotient, quotient}
 use Rattle.iisph_rows.specs.Rows.{rowAt, elementAt, vectorFrom, Rows, massSlot, pressureSlot, dijSlot, densitySlot}
 use Rattle.iisph_rows.specs.Rows.{predictedSlot, aiiSlot}
-use Rattle.scene_format.specs.Format.{axes}
+use Rattle.scene_format.specs.Format.{axesOf}
 use Rattle.iisph_rules.proofs.Sizes.{length-dij}
 use Rattle.iisph_rows.proofs.RowReads.{row-value, row-vector, column-value}
 
@@ -29,65 +29,67 @@ pub coefficient-at : (s : Scene) (j : ℕ) → j < fluidSize s
 unfolding coefficients
 coefficient-at s j h = table-at (fluidSize s) (λ i. coefficientsOf s (particle s i)) j noCoefficients h
 
-pub pressure-in : {n : ℕ} (work : List Float) (j : ℕ) → j < n → elementAt work (rowAt j + pressureSlot axes)
-    ≡ pressure (pressuresIn n work) j
+pub pressure-in : (d : ℕ) {n : ℕ} (work : List Float) (j : ℕ) → j < n → elementAt work (rowAt d j + pressureSlot d)
+    ≡ pressure (pressuresIn d n work) j
 unfolding pressuresIn
-pressure-in {n} work j h = sym (table-at n (λ i. elementAt work (rowAt i + pressureSlot axes)) j +0 h)
+pressure-in d {n} work j h = sym (table-at n (λ i. elementAt work (rowAt d i + pressureSlot d)) j +0 h)
 
-pub dij-in : {n : ℕ} (work : List Float) (j : ℕ) → j < n
-    → vectorFrom work (rowAt j + dijSlot) ≡ dij (dijsIn n work) j
+pub dij-in : (d : ℕ) {n : ℕ} (work : List Float) (j : ℕ) → j < n
+    → vectorFrom d work (rowAt d j + dijSlot) ≡ dij (dijsIn d n work) j
 unfolding dijsIn
-dij-in {n} work j h = sym (table-at n (λ i. vectorFrom work (rowAt i + dijSlot)) j [] h)
+dij-in d {n} work j h = sym (table-at n (λ i. vectorFrom d work (rowAt d i + dijSlot)) j [] h)
 
-module _ {s : Scene} {ps : List Float} {n : ℕ} {work : List Float} (q : IterationReady s ps n work)
+module _ {s : Scene} {ps : List Float} {d n : ℕ} {work : List Float} (q : IterationReady s ps d n work)
     (size : n ≡ fluidSize s) (j : ℕ) (h : j < n) where
-  pub density-in : elementAt work (densitySlot axes * n + j) ≡ coefficient (coefficients s) j .density
+  pub density-in : elementAt work (densitySlot d * n + j) ≡ coefficient (coefficients s) j .density
   density-in =
-      column-value (λ i. coefficientsOf s (particle s i) .density) (q .density) (omega arith) j h
+      column-value d (λ i. coefficientsOf s (particle s i) .density) (q .density) (omega arith) j h
       ∙ sym (ap (λ k. k .density) (coefficient-at s j (omega arith)))
 
-  pub predicted-in : elementAt work (predictedSlot axes * n + j) ≡ coefficient (coefficients s) j .predictedDensity
+  pub predicted-in : elementAt work (predictedSlot d * n + j) ≡ coefficient (coefficients s) j .predictedDensity
   predicted-in =
-      column-value (λ i. coefficientsOf s (particle s i) .predictedDensity) (q .predictedDensity) (omega arith) j h
+      column-value d (λ i. coefficientsOf s (particle s i) .predictedDensity) (q .predictedDensity) (omega arith) j h
       ∙ sym (ap (λ k. k .predictedDensity) (coefficient-at s j (omega arith)))
 
-  pub aii-in : elementAt work (aiiSlot axes * n + j) ≡ coefficient (coefficients s) j .aii
-  aii-in = column-value (λ i. coefficientsOf s (particle s i) .aii) (q .aii) (omega arith) j h
+  pub aii-in : elementAt work (aiiSlot d * n + j) ≡ coefficient (coefficients s) j .aii
+  aii-in = column-value d (λ i. coefficientsOf s (particle s i) .aii) (q .aii) (omega arith) j h
       ∙ sym (ap (λ k. k .aii) (coefficient-at s j (omega arith)))
 
-  pub mass-in : elementAt work (rowAt j + massSlot) ≡ particleMass (particle s j)
-  mass-in = row-value (λ i. particleMass (particle s i)) (q .mass) (omega arith) j h
+  pub mass-in : elementAt work (rowAt d j + massSlot) ≡ particleMass (particle s j)
+  mass-in = row-value d (λ i. particleMass (particle s i)) (q .mass) (omega arith) j h
 
 -- ---- quotients
 
 quotient-same : {m m′ p p′ r r′ : Float} → m ≡ m′ → p ≡ p′ → r ≡ r′ → ⊝ m ⊗ p ⊘ (r ⊗ r) ≡ ⊝ m′ ⊗ p′ ⊘ (r′ ⊗ r′)
 quotient-same e q s = rw (e, q, s)
 
-pub quotient-made : {s : Scene} {ps : List Float} {n : ℕ} {work : List Float} → IterationReady s ps n work
+pub quotient-made : {s : Scene} {ps : List Float} {d n : ℕ} {work : List Float} → IterationReady s ps d n work
     → n ≡ fluidSize s → (i : ℕ) → i < n
-    → rowQuotient work n i ≡ quotient s ps i
+    → rowQuotient d work n i ≡ quotient s ps i
 unfolding quotient
-quotient-made {s} {ps} q size i h =
-    quotient-same (mass-in q size i h) (row-value (pressure ps) (q .pressure) (omega arith) i h) (density-in q size i h)
+quotient-made {s} {ps} {d} q size i h =
+    quotient-same (mass-in q size i h) (row-value d (pressure ps) (q .pressure) (omega arith) i h)
+    (density-in q size i h)
 
 -- ---- of all particles
 
-pub pressures-are : {s : Scene} {ps : List Float} {n : ℕ} {work : List Float} → IterationReady s ps n work
-    → length ps ≡ n → pressuresIn n work ≡ ps
+pub pressures-are : {s : Scene} {ps : List Float} {d n : ℕ} {work : List Float} → IterationReady s ps d n work
+    → length ps ≡ n → pressuresIn d n work ≡ ps
 unfolding pressuresIn
-pressures-are {s} {ps} {n} {work} q l =
-    let size = length-table n (λ i. elementAt work (rowAt i + pressureSlot axes)) in
-    ext-getD +0 (pressuresIn n work) ps (size ∙ sym l)
+pressures-are {s} {ps} {d} {n} {work} q l =
+    let size = length-table n (λ i. elementAt work (rowAt d i + pressureSlot d)) in
+    ext-getD +0 (pressuresIn d n work) ps (size ∙ sym l)
     (λ i m.
     let h : i < n = omega (arith, size) in
-    sym (pressure-in work i h) ∙ row-value (pressure ps) (q .pressure) (omega arith) i h)
+    sym (pressure-in d work i h) ∙ row-value d (pressure ps) (q .pressure) (omega arith) i h)
 
-pub dijs-are : (b : List ℕ) (ps : List Float) {n : ℕ} {work : List Float} → n ≡ fluidSize (sceneOf b)
-    → Rows n dijSlot (λ i. dijPjl (sceneOf b) (coefficients (sceneOf b)) ps (particle (sceneOf b) i)) work
-    → dijsIn n work ≡ dijPjls (sceneOf b) (coefficients (sceneOf b)) ps
+pub dijs-are : (b : List ℕ) (ps : List Float) {d n : ℕ} {work : List Float} → d ≡ axesOf b → n ≡ fluidSize (sceneOf b)
+    → Rows d n dijSlot (λ i. dijPjl (sceneOf b) (coefficients (sceneOf b)) ps (particle (sceneOf b) i)) work
+    → dijsIn d n work ≡ dijPjls (sceneOf b) (coefficients (sceneOf b)) ps
 unfolding dijsIn dijPjls
-dijs-are b ps {n} {work} size q =
+dijs-are b ps {d} {n} {work} axes size q =
     let f : ℕ → Vector = λ i. dijPjl (sceneOf b) (coefficients (sceneOf b)) ps (particle (sceneOf b) i) in
-    table-same n (λ i. vectorFrom work (rowAt i + dijSlot)) f
-    (λ i h. row-vector f q (omega arith) i h (length-dij b i (omega arith) (coefficients (sceneOf b)) ps))
+    table-same n (λ i. vectorFrom d work (rowAt d i + dijSlot)) f
+    (λ i h.
+    row-vector d f q (omega arith) i h (length-dij b i (omega arith) (coefficients (sceneOf b)) ps ∙ sym axes))
     ∙ ap (λ (k : ℕ). table k f) size

@@ -1,7 +1,7 @@
 -- What an iteration computes of a particle is the rules': a term is that of the row which the contact names, and a sum
 -- over a list of contacts is one over the particle's. Each law is over variables for the results of the code's calls.
 -- Assumes nothing.
-use Prim.Native.Nat.{ℕ, _+_, _*_, _<_}
+use Prim.Native.Nat.{ℕ, _+_, _*_, _<_, _≤_}
 use mathlib.Core.Path.{_≡_, refl, sym, ap, _∙_, subst}
 use mathlib.Core.Bool.{Bool, true, false, cond}
 use mathlib.Core.List.{List}
@@ -10,9 +10,8 @@ use lib.Ieee
 use lib.Ieee.{Float}
 use lib.ListN.{length}
 use Rattle.math.specs.Real.{_⊕_, _⊖_, _⊗_, _⊘_, +0, half, magnitude}
-use Rattle.math.specs.Vector.{Vector, coordinates, origin, _⊞_, _⊟_, _⊡_, _·_}
+use Rattle.math.specs.Vector.{Axes, plane, Vector, coordinates, origin, _⊞_, _⊟_, _⊡_, _·_}
 use Rattle.lists.specs.Lists.{fold, choose}
-use Rattle.math.specs.declared.Vec3.{Vec3}
 use Rattle.scene_format.specs.Bytes.{vectorAt}
 use Rattle.scene_format.specs.Scene.{Scene, FluidParticle, Contact, fluidSize, particle}
 use Rattle.scene_format.specs.SceneOf.{targetAt, contactAt, sceneOf}
@@ -23,23 +22,34 @@ use Rattle.iisph_rules.specs.Coefficients.{dt, overContacts, particleMass, flui
 use Rattle.iisph_rules.specs.Coefficients.{coefficientsOf, coefficients, coefficient}
 use Rattle.iisph_rules.specs.Iteration.{pressure, dijSum, dijPjl, dij, pressureSum, relaxed, errorTerm, noPressure}
 use Rattle.iisph_rules.specs.Iteration.{clamped, aiiLimit, nextPressure}
-use Rattle.iisph_pressures.specs.IterationRows.{IterationReady, pressuresIn, dijsIn, quotient, withDij, rowTerm}
-use Rattle.iisph_pressures.specs.IterationRows.{fluidTerm, boundaryTerm, withTerm, nextFrom, NextIs}
-use Rattle.scene_index.specs.Contacts.{ContactReady, overFirst, overList}
+use Rattle.iisph_pressures.specs.IterationRows.{IterationReady, pressuresIn, dijsIn, quotient, quotientRow}
+use Rattle.iisph_pressures.specs.IterationRows.{withDij}
+use Rattle.iisph_pressures.specs.IterationRows.{OwnerIs, rowTerm, fluidTerm, boundaryTerm, withTerm, nextFrom}
+use Rattle.iisph_pressures.specs.IterationRows.{NextIs}
+use Rattle.scene_index.specs.Contacts.{TargetReady, overFirst, overList}
 use Rattle.iisph_rows.specs.Rows.{rowAt, volumesAt, elementAt, vectorFrom, massSlot, pressureSlot, dijSlot}
-use Rattle.iisph_rows.specs.Rows.{densitySlot, predictedSlot, aiiSlot}
-use Rattle.scene_format.specs.Format.{axes, ruleOf, criterionOf, contactWidth, gradientOffset, startsOf}
+use Rattle.iisph_rows.specs.Rows.{diiSlot, densitySlot, predictedSlot, aiiSlot, quotientSlot, Rows}
+use Rattle.scene_format.specs.Format.{axesOf, ruleOf, criterionOf, contactWidth, gradientOffset, startsOf}
 use Rattle.scene_index.specs.declared.contacts.ContactList.{ContactList}
 use Rattle.iisph_pressures.specs.declared.iteration.Next.{Next}
 use Rattle.iisph_pressures.specs.declared.iteration.Owner.{Owner}
 use Rattle.iisph_rows.proofs.Particles.{zero-is}
+use Rattle.scene_format.proofs.Forms.{axes-of}
 use Rattle.scene_layout.proofs.Locations.{scene-criterion}
 use Rattle.scene_index.proofs.ContactLists.{contactsOf, ContactsAre, over-list, fold-next}
 use Rattle.iisph_pressures.proofs.IterationReads.{coefficient-at, pressure-in, dij-in, density-in, predicted-in}
 use Rattle.iisph_pressures.proofs.IterationReads.{aii-in, mass-in}
 use Rattle.iisph_rules.proofs.Sizes.{length-dii}
 use Rattle.scene_index.proofs.Targets.{fluid-named, boundary-named}
-use Rattle.iisph_rows.proofs.RowReads.{row-vector, volume-behind}
+use Rattle.iisph_rows.proofs.RowReads.{row-vector, column-value, volume-behind}
+
+-- ---- the number of axes that the code has
+
+pub axes-are : (b : List ℕ) {d : ℕ} → d ≡ axesOf b → Axes d
+axes-are b e = rw e (axes-of b)
+
+pub many-axes : (b : List ℕ) {d : ℕ} → d ≡ axesOf b → plane ≤ d
+many-axes b e = axes-are b e .least
 
 -- ---- dij_pjl
 
@@ -47,73 +57,91 @@ pub dij-step : (s : Scene) (ps : List Float) (c : Contact) (x : Vector) {y v g :
     → y ≡ x ⊞ v → v ≡ g ⊡ w → g ≡ c .gradient → w ≡ quotient s ps (c .target) → y ≡ withDij s ps x c
 dij-step s ps c x ye ve ge we = rw (ye, ve, ge, we)
 
-pub dij-made : {b : List ℕ} {p : FluidParticle} {list : ContactList} → ContactsAre b Fluid p list
+-- the quotient of particle j, at the place that the code found in the column
+pub quotient-there : (s : Scene) (ps : List Float) (d : ℕ) {n j column place : ℕ} {work : List Float}
+    → Rows d n (quotientSlot d) (quotientRow s ps) work → column ≡ quotientSlot d → j < n → place ≡ column * n + j
+    → elementAt work place ≡ quotient s ps j
+quotient-there s ps d {j = j} q ce h pe = rw (pe, ce) (column-value d (quotient s ps) q (omega arith) j h)
+
+pub dij-made : {b : List ℕ} {d : ℕ} {p : FluidParticle} {list : ContactList} → d ≡ axesOf b → ContactsAre b Fluid p list
     → (ps : List Float) {t : Float} {x y : Vector}
-    → t ≡ dt (sceneOf b) → x ≡ overList Fluid b list (withDij (sceneOf b) ps) (origin axes) → y ≡ x ⊡ (t ⊗ t)
+    → t ≡ dt (sceneOf b) → x ≡ overList Fluid d b list (withDij (sceneOf b) ps) (origin d) → y ≡ x ⊡ (t ⊗ t)
     → y ≡ dijPjl (sceneOf b) (coefficients (sceneOf b)) ps p
 unfolding dijPjl dijSum quotient fluidMass contactsOf
-dij-made {b} {p} h ps {t} te xe ye =
+dij-made {b} {d} {p} axes h ps {t} te xe ye =
     ye
     ∙ ap (λ (x : Vector). x ⊡ (t ⊗ t))
-    (xe ∙ over-list h (withDij (sceneOf b) ps) (origin axes)
-    ∙ ap (λ (z : Vector). fold (withDij (sceneOf b) ps) z (p .fluidContacts)) (zero-is b))
+    (xe ∙ over-list axes h (withDij (sceneOf b) ps) (origin d)
+    ∙ ap (λ (z : Vector). fold (withDij (sceneOf b) ps) z (p .fluidContacts)) (ap origin axes ∙ zero-is b))
     ∙ ap (λ (t : Float). dijSum (sceneOf b) (coefficients (sceneOf b)) ps p ⊡ (t ⊗ t)) te
 
 -- ---- terms of the pressure sum
+
+-- a row's term, from the results of the code's calls, the last first
+pub row-term-made : (d : ℕ) (work : List Float) (j : ℕ) (owner : Owner) (g : Vector) {row slot second : ℕ}
+    {v u x y z w t : Vector} {r : Float}
+    → row ≡ rowAt d j → slot ≡ diiSlot d → second ≡ pressureSlot d
+    → r ≡ t · g → t ≡ x ⊟ w → w ≡ y ⊟ z ⊡ owner .pressure → z ≡ g ⊡ owner .factor
+    → y ≡ vectorFrom d work (row + dijSlot)
+    → x ≡ coordinates d (owner .dij) ⊟ u → u ≡ v ⊡ elementAt work (row + second) → v ≡ vectorFrom d work (row + slot)
+    → elementAt work (row + massSlot) ⊗ r ≡ rowTerm d work j owner g
+row-term-made d work j owner g e₁ e₂ e₃ e₄ e₅ e₆ e₇ e₈ e₉ e₁₀ e₁₁ =
+    rw (e₄, e₅, e₆, e₇, e₈, e₉, e₁₀, e₁₁, e₁, e₂, e₃)
 
 term-same : {m m′ q q′ : Float} {d d′ x x′ : Vector} (own g : Vector) (e p : Float) → m ≡ m′ → q ≡ q′ → d ≡ d′ → x ≡ x′
     → m ⊗ (((own ⊟ d ⊡ q) ⊟ (x ⊟ (g ⊡ e) ⊡ p)) · g) ≡ m′ ⊗ (((own ⊟ d′ ⊡ q′) ⊟ (x′ ⊟ (g ⊡ e) ⊡ p)) · g)
 term-same own g e p me qe de xe = rw (me, qe, de, xe)
 
-module _ (b : List ℕ) {n : ℕ} {work : List Float} (size : n ≡ fluidSize (sceneOf b))
-    (q : IterationReady (sceneOf b) (pressuresIn n work) n work) where
+module _ (b : List ℕ) {d n : ℕ} {work : List Float} (axes : d ≡ axesOf b) (size : n ≡ fluidSize (sceneOf b))
+    (q : IterationReady (sceneOf b) (pressuresIn d n work) d n work) where
   length-row : (j : ℕ) → j < fluidSize (sceneOf b) → length (coefficientsOf (sceneOf b) (particle (sceneOf b) j) .dii)
-      ≡ axes
+      ≡ d
   unfolding coefficientsOf
-  length-row j h = length-dii b j h (density (sceneOf b) (particle (sceneOf b) j))
+  length-row j h = length-dii b j h (density (sceneOf b) (particle (sceneOf b) j)) ∙ sym axes
 
   row-term-is : (j : ℕ) → j < n → (owner : Owner) (g : Vector)
-      → rowTerm work j owner g
+      → rowTerm d work j owner g
       ≡ particleMass (particle (sceneOf b) j)
-      ⊗ (((coordinates (owner .dij) ⊟ coefficient (coefficients (sceneOf b)) j .dii ⊡ pressure (pressuresIn n work) j)
-      ⊟ (dij (dijsIn n work) j ⊟ (g ⊡ owner .factor) ⊡ owner .pressure))
+      ⊗ (((coordinates d (owner .dij) ⊟ coefficient (coefficients (sceneOf b)) j .dii ⊡ pressure (pressuresIn d n work)
+      j)
+      ⊟ (dij (dijsIn d n work) j ⊟ (g ⊡ owner .factor) ⊡ owner .pressure))
       · g)
   row-term-is j h owner g =
-      term-same (coordinates (owner .dij)) g (owner .factor) (owner .pressure)
+      term-same (coordinates d (owner .dij)) g (owner .factor) (owner .pressure)
       (mass-in q size j h)
-      (pressure-in work j h)
-      (row-vector (λ i. coefficientsOf (sceneOf b) (particle (sceneOf b) i) .dii) (q .dii) (omega arith) j h
+      (pressure-in d work j h)
+      (row-vector d (λ i. coefficientsOf (sceneOf b) (particle (sceneOf b) i) .dii) (q .dii) (omega arith) j h
       (length-row j (omega arith))
       ∙ sym (ap (λ k. k .dii) (coefficient-at (sceneOf b) j (omega arith))))
-      (dij-in work j h)
+      (dij-in d work j h)
 
   -- the contact at an offset names j and has the gradient g
-  module _ {at j : ℕ} {g : Vector} (ge : g ≡ vectorAt axes b (at + gradientOffset)) where
-    pub fluid-term : ContactReady Fluid b at → j ≡ targetAt (startsOf Fluid b) b at → (owner : Owner)
-        → rowTerm work j owner g
-        ≡ fluidTerm (sceneOf b) (pressuresIn n work) (dijsIn n work) owner (contactAt (startsOf Fluid b) b at)
+  module _ {at j : ℕ} {g : Vector} (ge : g ≡ vectorAt d b (at + gradientOffset)) where
+    pub fluid-term : TargetReady Fluid b at → j ≡ targetAt (startsOf Fluid b) b at → (owner : Owner)
+        → rowTerm d work j owner g
+        ≡ fluidTerm d (sceneOf b) (pressuresIn d n work) (dijsIn d n work) owner (contactAt d (startsOf Fluid b) b at)
     unfolding fluidTerm fluidMass contactAt
     fluid-term ready named owner =
-        let h = fluid-named ready named refl in
+        let h = fluid-named (ready .0) named refl in
         row-term-is j (omega arith) owner g ∙ rw (ge, named)
 
-    pub boundary-term : ContactReady Boundary b at → j ≡ targetAt (startsOf Boundary b) b at
-        → (density0 : Float) (d : Vector) {r : Float} → r ≡ d · g
-        → elementAt work (volumesAt n + j) ⊗ density0 ⊗ r
-        ≡ boundaryTerm (sceneOf b) density0 d (contactAt (startsOf Boundary b) b at)
+    pub boundary-term : TargetReady Boundary b at → j ≡ targetAt (startsOf Boundary b) b at
+        → (density0 : Float) (u : Vector) {r : Float} → r ≡ u · g
+        → elementAt work (volumesAt d n + j) ⊗ density0 ⊗ r
+        ≡ boundaryTerm (sceneOf b) density0 u (contactAt d (startsOf Boundary b) b at)
     unfolding boundaryTerm boundaryMass contactAt
-    boundary-term ready named density0 d {r} re =
-        ap (λ v. v ⊗ density0 ⊗ r) (volume-behind (sceneOf b) n (q .volume) j (boundary-named ready named refl))
+    boundary-term ready named density0 u {r} re =
+        ap (λ v. v ⊗ density0 ⊗ r) (volume-behind (sceneOf b) d n (q .volume) j (boundary-named (ready .0) named refl))
         ∙ rw (re, ge, named)
 
 -- ---- the pressure sum
 
 -- a turn of a loop: k contacts were passed, t is the term of the next
-pub term-next : (κ : Kind) (b : List ℕ) (term : Contact → Float) (at k : ℕ) (a : Float) {x t : Float}
-    → x ≡ overFirst κ b at (withTerm term) a k
-    → t ≡ term (contactAt (startsOf κ b) b (at + contactWidth axes * k))
-    → x ⊕ t ≡ overFirst κ b at (withTerm term) a (k + 1)
-term-next κ b term at k a {x} xe te = fold-next (withTerm term) a κ b at k xe (ap (λ t. x ⊕ t) te)
+pub term-next : (κ : Kind) (d : ℕ) (b : List ℕ) (term : Contact → Float) (at k : ℕ) (a : Float) {w : ℕ} {x t : Float}
+    → w ≡ contactWidth d → x ≡ overFirst κ d b at (withTerm term) a k
+    → t ≡ term (contactAt d (startsOf κ b) b (at + w * k))
+    → x ⊕ t ≡ overFirst κ d b at (withTerm term) a (k + 1)
+term-next κ d b term at k a {x = x} we xe te = fold-next (withTerm term) a κ d b at k we xe (ap (λ t. x ⊕ t) te)
 
 -- the rule's sum, of what it takes of particle i itself
 abbrev sumWith : Scene → List Float → List Vector → FluidParticle → Float → Vector → Float → Float → Float
@@ -133,27 +161,27 @@ sum-same : (s : Scene) (ps : List Float) (ds : List Vector) (p : FluidParticle) 
     → r ≡ r′ → d ≡ d′ → e ≡ e′ → q ≡ q′ → sumWith s ps ds p r d e q ≡ sumWith s ps ds p r′ d′ e′ q′
 sum-same s ps ds p re de ee qe = cc
 
-module _ {b : List ℕ} (i : ℕ) {fluid boundary : ContactList}
+module _ {b : List ℕ} {d : ℕ} (axes : d ≡ axesOf b) (i : ℕ) {fluid boundary : ContactList}
     (fs : ContactsAre b Fluid (particle (sceneOf b) i) fluid)
     (bs : ContactsAre b Boundary (particle (sceneOf b) i) boundary)
     (ps : List Float) (ds : List Vector) (owner : Owner) {x y : Float}
-    (xe : x ≡ overList Fluid b fluid (withTerm (fluidTerm (sceneOf b) ps ds owner)) +0)
+    (xe : x ≡ overList Fluid d b fluid (withTerm (fluidTerm d (sceneOf b) ps ds owner)) +0)
     (ye : y
-    ≡ overList Boundary b boundary
-    (withTerm (boundaryTerm (sceneOf b) (boundary .density0) (coordinates (owner .dij)))) x) where
-  sum-both : y ≡ sumWith (sceneOf b) ps ds (particle (sceneOf b) i) (boundary .density0) (coordinates (owner .dij))
+    ≡ overList Boundary d b boundary
+    (withTerm (boundaryTerm (sceneOf b) (boundary .density0) (coordinates d (owner .dij)))) x) where
+  sum-both : y ≡ sumWith (sceneOf b) ps ds (particle (sceneOf b) i) (boundary .density0) (coordinates d (owner .dij))
       (owner .factor)
       (owner .pressure)
   unfolding overContacts fluidTerm boundaryTerm contactsOf
   sum-both =
       let p = particle (sceneOf b) i in
-      let term : Contact → Float = boundaryTerm (sceneOf b) (boundary .density0) (coordinates (owner .dij)) in
+      let term : Contact → Float = boundaryTerm (sceneOf b) (boundary .density0) (coordinates d (owner .dij)) in
       ye
-      ∙ over-list bs (withTerm term) x
+      ∙ over-list axes bs (withTerm term) x
       ∙ ap (λ (x : Float). fold (withTerm term) x (p .boundaryContacts))
-      (xe ∙ over-list fs (withTerm (fluidTerm (sceneOf b) ps ds owner)) +0)
+      (xe ∙ over-list axes fs (withTerm (fluidTerm d (sceneOf b) ps ds owner)) +0)
 
-  sum-made : coordinates (owner .dij) ≡ dij ds i
+  sum-made : coordinates d (owner .dij) ≡ dij ds i
       → owner .factor
       ≡ djiFactor (sceneOf b) (particle (sceneOf b) i) (coefficient (coefficients (sceneOf b)) i .density)
       → owner .pressure ≡ pressure ps i
@@ -221,41 +249,31 @@ factor-made : (b : List ℕ) (p : FluidParticle) {t m r rho : Float} → t ≡ d
 unfolding djiFactor
 factor-made b p te me re = factor-same te me re
 
--- the owner as the code makes it, from what stands there of particle i of n
-abbrev ownerOf : List Float → ℕ → ℕ → Float → Vec3 → Owner
-ownerOf work n i t d =
-    let rho = elementAt work (densitySlot axes * n + i) in
-    record {
-      dij = d;
-      factor = t ⊗ t ⊗ elementAt work (rowAt i + massSlot) ⊘ (rho ⊗ rho);
-      pressure = elementAt work (rowAt i + pressureSlot axes);
-    }
-
 -- from the results of the code's calls, in their order
-pub next-made : (b : List ℕ) {n : ℕ} {work : List Float} → n ≡ fluidSize (sceneOf b)
-    → IterationReady (sceneOf b) (pressuresIn n work) n work
+pub next-made : (b : List ℕ) {a n : ℕ} {work : List Float} → a ≡ axesOf b → n ≡ fluidSize (sceneOf b)
+    → IterationReady (sceneOf b) (pressuresIn a n work) a n work
     → (i : ℕ) → i < n → {fluid boundary : ContactList}
     → ContactsAre b Fluid (particle (sceneOf b) i) fluid → ContactsAre b Boundary (particle (sceneOf b) i) boundary
-    → (t : Float) → t ≡ dt (sceneOf b) → (d : Vec3) → coordinates d ≡ vectorFrom work (rowAt i + dijSlot)
-    → {x y : Float} {c : Criterion} {r : Next}
-    → let ps = pressuresIn n work in
-    let ds = dijsIn n work in
-    x ≡ overList Fluid b fluid (withTerm (fluidTerm (sceneOf b) ps ds (ownerOf work n i t d))) +0
-    → y ≡ overList Boundary b boundary (withTerm (boundaryTerm (sceneOf b) (boundary .density0) (coordinates d))) x
+    → (t : Float) → t ≡ dt (sceneOf b) → (owner : Owner) → OwnerIs a work n i t owner
+    → {x y aii predicted : Float} {c : Criterion} {r : Next}
+    → let ps = pressuresIn a n work in
+    let ds = dijsIn a n work in
+    x ≡ overList Fluid a b fluid (withTerm (fluidTerm a (sceneOf b) ps ds owner)) +0
+    → y
+    ≡ overList Boundary a b boundary
+    (withTerm (boundaryTerm (sceneOf b) (boundary .density0) (coordinates a (owner .dij)))) x
     → c ≡ criterionOf (ruleOf b)
-    → NextIs r
-    (nextFrom c (fluid .density0) (elementAt work (aiiSlot axes * n + i))
-    (elementAt work (predictedSlot axes * n + i))
-    y
-    (elementAt work (rowAt i + pressureSlot axes)))
+    → aii ≡ elementAt work (aiiSlot a * n + i) → predicted ≡ elementAt work (predictedSlot a * n + i)
+    → NextIs r (nextFrom c (fluid .density0) aii predicted y (owner .pressure))
     → NextIs r (nextPressure (sceneOf b) (coefficients (sceneOf b)) ps ds i)
-next-made b {n} {work} size q i h fs bs t te d de {r = r} xe ye ce re =
+next-made b {a} {n} {work} axes size q i h fs bs t te owner is {r = r} xe ye ce ae pe re =
+    let p = is .pressure ∙ pressure-in a work i h in
     let sum =
-    sum-made i fs bs (pressuresIn n work) (dijsIn n work) (ownerOf work n i t d) xe ye (de ∙ dij-in work i h)
-    (factor-made b (particle (sceneOf b) i) te (mass-in q size i h) (density-in q size i h))
-    (pressure-in work i h) in
+    sum-made axes i fs bs (pressuresIn a n work) (dijsIn a n work) owner xe ye (is .dij ∙ dij-in a work i h)
+    (is .factor ∙ factor-made b (particle (sceneOf b) i) te (mass-in q size i h) (density-in q size i h))
+    p in
     subst (NextIs r)
-    (next-same (ce ∙ sym (scene-criterion b)) (fs .density0) (aii-in q size i h) (predicted-in q size i h) sum
-    (pressure-in work i h)
-    ∙ next-whole (sceneOf b) (pressuresIn n work) (dijsIn n work) i)
+    (next-same (ce ∙ sym (scene-criterion b)) (fs .density0) (ae ∙ aii-in q size i h) (pe ∙ predicted-in q size i h) sum
+    p
+    ∙ next-whole (sceneOf b) (pressuresIn a n work) (dijsIn a n work) i)
     re

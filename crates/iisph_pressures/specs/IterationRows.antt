@@ -16,44 +16,43 @@ use Rattle.iisph_rules.specs.Iteration.{pressure, dij, relaxed, errorTerm, Next
 use Rattle.lists.specs.Lists.{choose, table}
 use Rattle.math.specs.Real.{_⊕_, _⊖_, _⊗_, _⊘_, ⊝, magnitude}
 use Rattle.math.specs.Vector.{Vector, coordinates, _⊞_, _⊟_, _⊡_, _·_}
-use Rattle.scene_format.specs.Format.{axes}
 use Rattle.scene_format.specs.Scene.{Scene, Contact, particle}
 use Rattle.scene_format.specs.declared.Criterion.{Criterion}
 use Rattle.iisph_pressures.specs.declared.iteration.Next.{Next}
 use Rattle.iisph_pressures.specs.declared.iteration.Owner.{Owner}
 
--- ---- what stands in the rows of n particles
+-- ---- what stands in the rows of n particles, for d axes
 
-unfoldable pub pressuresIn : ℕ → List Float → List Float
-pressuresIn n work = table n (λ i. elementAt work (rowAt i + pressureSlot axes))
+unfoldable pub pressuresIn : ℕ → ℕ → List Float → List Float
+pressuresIn d n work = table n (λ i. elementAt work (rowAt d i + pressureSlot d))
 
-unfoldable pub dijsIn : ℕ → List Float → List Vector
-dijsIn n work = table n (λ i. vectorFrom work (rowAt i + dijSlot))
+unfoldable pub dijsIn : ℕ → ℕ → List Float → List Vector
+dijsIn d n work = table n (λ i. vectorFrom d work (rowAt d i + dijSlot))
 
 -- ---- what the iterations find: the coefficients of the scene s, the pressures ps, masses and volumes, of n
 -- particles
 
-pub record IterationReady (s : Scene) (ps : List Float) (n : ℕ) (work : List Float) : Type 0 where
-  pub room : Room s n work
-  pub density : Rows n (densitySlot axes) (λ i. coefficientsOf s (particle s i) .density ∷ []) work
-  pub predictedDensity : Rows n (predictedSlot axes) (λ i. coefficientsOf s (particle s i) .predictedDensity ∷ []) work
-  pub aii : Rows n (aiiSlot axes) (λ i. coefficientsOf s (particle s i) .aii ∷ []) work
-  pub dii : Rows n (diiSlot axes) (λ i. coefficientsOf s (particle s i) .dii) work
-  pub pressure : Rows n (pressureSlot axes) (λ i. pressure ps i ∷ []) work
-  pub mass : Rows n massSlot (massRow s) work
-  pub volume : Behind n (volumes s) work
+pub record IterationReady (s : Scene) (ps : List Float) (d n : ℕ) (work : List Float) : Type 0 where
+  pub room : Room s d n work
+  pub density : Rows d n (densitySlot d) (λ i. coefficientsOf s (particle s i) .density ∷ []) work
+  pub predictedDensity : Rows d n (predictedSlot d) (λ i. coefficientsOf s (particle s i) .predictedDensity ∷ []) work
+  pub aii : Rows d n (aiiSlot d) (λ i. coefficientsOf s (particle s i) .aii ∷ []) work
+  pub dii : Rows d n (diiSlot d) (λ i. coefficientsOf s (particle s i) .dii) work
+  pub pressure : Rows d n (pressureSlot d) (λ i. pressure ps i ∷ []) work
+  pub mass : Rows d n massSlot (massRow s) work
+  pub volume : Behind d n (volumes s) work
 
 -- with the pressures that stand in the rows
-abbrev pub Iterating : Scene → ℕ → List Float → Type 0
-Iterating s n work = IterationReady s (pressuresIn n work) n work
+abbrev pub Iterating : Scene → ℕ → ℕ → List Float → Type 0
+Iterating s d n work = IterationReady s (pressuresIn d n work) d n work
 
 -- ---- dij_pjl: ((-m) × p) / (rho × rho), which no contact changes
 
 -- of particle i of n, as it stands in the list
-abbrev pub rowQuotient : List Float → ℕ → ℕ → Float
-rowQuotient work n i =
-    let rho = elementAt work (densitySlot axes * n + i) in
-    ⊝ (elementAt work (rowAt i + massSlot)) ⊗ elementAt work (rowAt i + pressureSlot axes) ⊘ (rho ⊗ rho)
+abbrev pub rowQuotient : ℕ → List Float → ℕ → ℕ → Float
+rowQuotient d work n i =
+    let rho = elementAt work (densitySlot d * n + i) in
+    ⊝ (elementAt work (rowAt d i + massSlot)) ⊗ elementAt work (rowAt d i + pressureSlot d) ⊘ (rho ⊗ rho)
 
 -- of fluid particle i
 unfoldable pub quotient : Scene → List Float → ℕ → Float
@@ -69,26 +68,34 @@ abbrev pub quotientRow : Scene → List Float → ℕ → List Float
 quotientRow s ps i = quotient s ps i ∷ []
 
 -- what dij_pjl finds: room for n particles, and the quotients of the pressures that stand there
-pub record DijReady (s : Scene) (n : ℕ) (work : List Float) : Type 0 where
-  pub room : Room s n work
-  pub quotients : Rows n (quotientSlot axes) (quotientRow s (pressuresIn n work)) work
+pub record DijReady (s : Scene) (d n : ℕ) (work : List Float) : Type 0 where
+  pub room : Room s d n work
+  pub quotients : Rows d n (quotientSlot d) (quotientRow s (pressuresIn d n work)) work
 
 -- ---- next pressures
 
 -- m_j × (((dij_i - dii_j × p_j) - (dij_j - (g × e) × p_i)) · g), where the contact names row j and has the gradient g
-abbrev pub rowTerm : List Float → ℕ → Owner → Vector → Float
-rowTerm work j owner g =
-    let own = coordinates (owner .dij)
-    ⊟ vectorFrom work (rowAt j + diiSlot axes) ⊡ elementAt work (rowAt j + pressureSlot axes) in
-    let other = vectorFrom work (rowAt j + dijSlot) ⊟ (g ⊡ owner .factor) ⊡ owner .pressure in
-    elementAt work (rowAt j + massSlot) ⊗ ((own ⊟ other) · g)
+abbrev pub rowTerm : ℕ → List Float → ℕ → Owner → Vector → Float
+rowTerm d work j owner g =
+    let own = coordinates d (owner .dij)
+    ⊟ vectorFrom d work (rowAt d j + diiSlot d) ⊡ elementAt work (rowAt d j + pressureSlot d) in
+    let other = vectorFrom d work (rowAt d j + dijSlot) ⊟ (g ⊡ owner .factor) ⊡ owner .pressure in
+    elementAt work (rowAt d j + massSlot) ⊗ ((own ⊟ other) · g)
+
+-- the owner is particle i of n, as it stands in the list, where t is dt
+pub record OwnerIs (d : ℕ) (work : List Float) (n i : ℕ) (t : Float) (owner : Owner) : Type 0 where
+  pub dij : coordinates d (owner .dij) ≡ vectorFrom d work (rowAt d i + dijSlot)
+  pub factor : owner .factor
+      ≡ (let rho = elementAt work (densitySlot d * n + i) in
+      t ⊗ t ⊗ elementAt work (rowAt d i + massSlot) ⊘ (rho ⊗ rho))
+  pub pressure : owner .pressure ≡ elementAt work (rowAt d i + pressureSlot d)
 
 -- what a contact of each kind adds to the pressure sum of its owner
 
-unfoldable pub fluidTerm : Scene → List Float → List Vector → Owner → Contact → Float
-fluidTerm s ps ds owner c =
+unfoldable pub fluidTerm : ℕ → Scene → List Float → List Vector → Owner → Contact → Float
+fluidTerm d s ps ds owner c =
     let j = c .target in
-    let own = coordinates (owner .dij) ⊟ coefficient (coefficients s) j .dii ⊡ pressure ps j in
+    let own = coordinates d (owner .dij) ⊟ coefficient (coefficients s) j .dii ⊡ pressure ps j in
     let other = dij ds j ⊟ (c .gradient ⊡ owner .factor) ⊡ owner .pressure in
     fluidMass s c ⊗ ((own ⊟ other) · c .gradient)
 
@@ -113,7 +120,7 @@ pub record NextIs (r : Next) (k : NextPressure) : Type 0 where
 
 -- ---- p / (rho × rho) of particle i of n, which the velocity changes take
 
-abbrev pub rowShare : List Float → ℕ → ℕ → Float
-rowShare work n i =
-    let rho = elementAt work (densitySlot axes * n + i) in
-    elementAt work (rowAt i + pressureSlot axes) ⊘ (rho ⊗ rho)
+abbrev pub rowShare : ℕ → List Float → ℕ → ℕ → Float
+rowShare d work n i =
+    let rho = elementAt work (densitySlot d * n + i) in
+    elementAt work (rowAt d i + pressureSlot d) ⊘ (rho ⊗ rho)

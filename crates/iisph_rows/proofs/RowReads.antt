@@ -11,7 +11,6 @@ use lib.Seq.{ext-getD}
 use Rattle.iisph_rules.specs.Coefficients.{boundaryVolume, particleMass, advectedVelocity}
 use Rattle.lists.specs.Lists.{table}
 use Rattle.lists.proofs.Lists.{length-table, table-at, table-same}
-use Rattle.scene_format.specs.Format.{axes}
 use Rattle.scene_format.specs.Scene.{Scene, boundarySize, particle, boundary}
 use Rattle.iisph_rows.specs.Passes.{volumes, CoefficientsReady}
 use Rattle.iisph_rows.specs.Rows.{dijSlot, massSlot, rowAt, rowWidth, volumesAt, slotAt}
@@ -19,45 +18,46 @@ use Rattle.iisph_rows.specs.Rows.{elementAt, vectorFrom, column, Rows, B
 use Rattle.iisph_rows.proofs.RowStores.{in-row, in-column}
 
 -- one value of each particle, in its row
-pub row-value : {n k : ℕ} {l : List Float} (x : ℕ → Float) → Rows n k (λ i. x i ∷ []) l → k < rowWidth axes → (j : ℕ)
-    → j < n → elementAt l (rowAt j + k) ≡ x j
-row-value {n} {k} {l} x q h j m =
-    ap (elementAt l) (sym (in-row n j k h) ∙ ap (slotAt n j) (sym (add-zero k))) ∙ q .holds j m 0 (omega arith)
+pub row-value : (d : ℕ) {n k : ℕ} {l : List Float} (x : ℕ → Float) → Rows d n k (λ i. x i ∷ []) l → k < rowWidth d
+    → (j : ℕ)
+    → j < n → elementAt l (rowAt d j + k) ≡ x j
+row-value d {n} {k} {l} x q h j m =
+    ap (elementAt l) (sym (in-row d n j k h) ∙ ap (slotAt d n j) (sym (add-zero k))) ∙ q .holds j m 0 (omega arith)
 
 -- in a column
-pub column-value : {n k : ℕ} {l : List Float} (x : ℕ → Float) → Rows n k (λ i. x i ∷ []) l → rowWidth axes ≤ k
+pub column-value : (d : ℕ) {n k : ℕ} {l : List Float} (x : ℕ → Float) → Rows d n k (λ i. x i ∷ []) l → rowWidth d ≤ k
     → (j : ℕ) → j < n → elementAt l (k * n + j) ≡ x j
-column-value {n} {k} {l} x q h j m =
-    ap (elementAt l) (sym (in-column n j k h) ∙ ap (slotAt n j) (sym (add-zero k))) ∙ q .holds j m 0 (omega arith)
+column-value d {n} {k} {l} x q h j m =
+    ap (elementAt l) (sym (in-column d n j k h) ∙ ap (slotAt d n j) (sym (add-zero k))) ∙ q .holds j m 0 (omega arith)
 
-pub column-values : {n k : ℕ} {l : List Float} (x : ℕ → Float) → Rows n k (λ i. x i ∷ []) l → rowWidth axes ≤ k
+pub column-values : (d : ℕ) {n k : ℕ} {l : List Float} (x : ℕ → Float) → Rows d n k (λ i. x i ∷ []) l → rowWidth d ≤ k
     → column n k l ≡ table n x
-column-values {n} x q h = table-same n _ x (column-value x q h)
+column-values d {n} x q h = table-same n _ x (column-value d x q h)
 
 -- one vector of each particle, in its row
-pub row-vector : {n k : ℕ} {l : List Float} (f : ℕ → List Float) → Rows n k f l → k + axes ≤ rowWidth axes → (j : ℕ)
-    → j < n → length (f j) ≡ axes → vectorFrom l (rowAt j + k) ≡ f j
-row-vector {n} {k} {l} f q h j m sized =
-    let size = length-table axes (λ e. elementAt l (rowAt j + k + e)) in
+pub row-vector : (d : ℕ) {n k : ℕ} {l : List Float} (f : ℕ → List Float) → Rows d n k f l → k + d ≤ rowWidth d → (j : ℕ)
+    → j < n → length (f j) ≡ d → vectorFrom d l (rowAt d j + k) ≡ f j
+row-vector d {n} {k} {l} f q h j m sized =
+    let size = length-table d (λ e. elementAt l (rowAt d j + k + e)) in
     ext-getD nan _ _ (size ∙ sym sized)
     (λ e u.
-    table-at axes (λ e. elementAt l (rowAt j + k + e)) e nan (omega (arith, size))
-    ∙ ap (elementAt l) (add-assoc (rowAt j) k e ∙ sym (in-row n j (k + e) (omega (arith, size))))
+    table-at d (λ e. elementAt l (rowAt d j + k + e)) e nan (omega (arith, size))
+    ∙ ap (elementAt l) (add-assoc (rowAt d j) k e ∙ sym (in-row d n j (k + e) (omega (arith, size))))
     ∙ q .holds j m e (omega (arith, size)))
 
-pub volume-behind : (s : Scene) (n : ℕ) {l : List Float} → Behind n (volumes s) l → (j : ℕ) → j < boundarySize s
-    → elementAt l (volumesAt n + j) ≡ boundaryVolume (boundary s j)
-volume-behind s n q j h =
+pub volume-behind : (s : Scene) (d n : ℕ) {l : List Float} → Behind d n (volumes s) l → (j : ℕ) → j < boundarySize s
+    → elementAt l (volumesAt d n + j) ≡ boundaryVolume (boundary s j)
+volume-behind s d n q j h =
     q .holds j (rw (length-table (boundarySize s)) h)
     ∙ table-at (boundarySize s) (λ j. boundaryVolume (boundary s j)) j nan h
 
-module _ {s : Scene} {n : ℕ} {work : List Float} (p : CoefficientsReady s n work) where
-  pub mass-at : (j : ℕ) → j < n → elementAt work (rowAt j + massSlot) ≡ particleMass (particle s j)
-  mass-at = row-value (λ i. particleMass (particle s i)) (p .mass) (omega arith)
+module _ {s : Scene} {d n : ℕ} {work : List Float} (p : CoefficientsReady s d n work) where
+  pub mass-at : (j : ℕ) → j < n → elementAt work (rowAt d j + massSlot) ≡ particleMass (particle s j)
+  mass-at = row-value d (λ i. particleMass (particle s i)) (p .mass) (omega arith)
 
-  pub volume-at : (j : ℕ) → j < boundarySize s → elementAt work (volumesAt n + j) ≡ boundaryVolume (boundary s j)
-  volume-at = volume-behind s n (p .volume)
+  pub volume-at : (j : ℕ) → j < boundarySize s → elementAt work (volumesAt d n + j) ≡ boundaryVolume (boundary s j)
+  volume-at = volume-behind s d n (p .volume)
 
-  pub advected-at : (j : ℕ) → j < n → length (advectedVelocity s (particle s j)) ≡ axes
-      → vectorFrom work (rowAt j + dijSlot) ≡ advectedVelocity s (particle s j)
-  advected-at = row-vector (λ i. advectedVelocity s (particle s i)) (p .advected) (omega arith)
+  pub advected-at : (j : ℕ) → j < n → length (advectedVelocity s (particle s j)) ≡ d
+      → vectorFrom d work (rowAt d j + dijSlot) ≡ advectedVelocity s (particle s j)
+  advected-at = row-vector d (λ i. advectedVelocity s (particle s i)) (p .advected) (omega arith)

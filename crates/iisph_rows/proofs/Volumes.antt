@@ -1,6 +1,6 @@
 -- Boundary volumes as the code finds them: a sum of weights taken one by one, the volume of one record, and one
 -- boundary's run of volumes behind those done. By what the scene says of a record. Assumes nothing.
-use Prim.Native.Nat.{ℕ, suc, _+_, _<_, _≤_}
+use Prim.Native.Nat.{ℕ, suc, _+_, _*_, _<_, _≤_}
 use mathlib.Core.Path.{_≡_, refl, sym, ap, _∙_}
 use mathlib.Core.Bool.{Bool, true, false, cond}
 use mathlib.Core.List.{List}
@@ -16,7 +16,9 @@ use Rattle.lists.proofs.Fills.{sets-append}
 use Rattle.lists.proofs.Lists.{fold-table, length-table, table-add}
 use Rattle.math.specs.Real.{_⊕_, _⊘_, +0, one, isZero, total}
 use Rattle.scene_check.proofs.Records.{boundary-particle-ok}
-use Rattle.scene_format.specs.Format.{axes, modelNumber, boundaryRecordWidth, boundaryContactCount, countsOf}
+use Rattle.scene_format.specs.Bytes.{byteAt, FiniteAt}
+use Rattle.scene_format.specs.Format.{axesOf, modelNumber, boundaryContactWidth, weightOffset, boundaryCountOffset}
+use Rattle.scene_format.specs.Format.{countsOf}
 use Rattle.scene_format.specs.Format.{locationOf}
 use Rattle.scene_format.specs.Scene.{Scene, sizeOf, boundary}
 use Rattle.scene_format.specs.SceneOf.{boundaryWeights, boundaryParticleAt, sceneOf}
@@ -38,12 +40,18 @@ pub sum-all : (w : ℕ → Float) {n j : ℕ} {sum : Float} → sum ≡ total +0
     → sum ≡ total +0 (table n w)
 sum-all w e h l = e ∙ ap (λ (i : ℕ). total +0 (table i w)) (le-antisymm h l)
 
+-- the weights of a record are finite, where the code has found how many there are
+pub weights-here : {b : List ℕ} {k at n count j : ℕ} → BoundaryRecordOk b k at
+    → count ≡ boundaryCountOffset (axesOf b) k → n ≡ byteAt b (at + count) → j < n
+    → FiniteAt b (at + (count + 1) + boundaryContactWidth * j + weightOffset)
+weights-here {j = j} h ce ne l = rw ce (h .weights j (rw (ne, ce) at l))
+
 -- 1 / the sum, or 0
-module _ (b : List ℕ) (k at : ℕ) {n : ℕ} {sum : Float} (contacts : n ≡ boundaryContactCount b k at)
-    (e : sum ≡ total +0 (boundaryWeights b n (at + boundaryRecordWidth axes k))) where
+module _ (b : List ℕ) (k at : ℕ) {n count : ℕ} {sum : Float} (ce : count ≡ boundaryCountOffset (axesOf b) k)
+    (contacts : n ≡ byteAt b (at + count)) (e : sum ≡ total +0 (boundaryWeights b n (at + (count + 1)))) where
   volume-is : cond (isZero sum) +0 (one ⊘ sum) ≡ volumeAt b k at
   unfolding volumeAt volumeFrom
-  volume-is = rw (e, contacts)
+  volume-is = rw (e, contacts, ce)
 
   pub volume-zero : true ≡ isZero sum → +0 ≡ volumeAt b k at
   volume-zero z = ap (λ (t : Bool). cond t +0 (one ⊘ sum)) z ∙ volume-is

@@ -11,7 +11,7 @@ use Rattle.lists.specs.Lists.{choose, table}
 use Rattle.math.specs.Real.{_⊗_, half}
 use Rattle.math.specs.Vector.{coordinates}
 use Rattle.math.specs.declared.Vec3.{Vec3}
-use Rattle.scene_format.specs.Format.{axes, boundaryRecordWidth, boundaryContactCount}
+use Rattle.scene_format.specs.Format.{axesOf, boundaryRecordWidth, boundaryContactCount}
 use Rattle.scene_format.specs.Scene.{Scene, fluidSize, boundarySize, particle, boundary}
 use Rattle.scene_format.specs.SceneOf.{boundaryWeights, sceneOf}
 use Rattle.scene_index.specs.Index.{Indexed}
@@ -21,24 +21,25 @@ use Rattle.iisph_rows.specs.declared.zeros.Found.the-variants.{At, Nothi
 
 -- ---- what a pass may rely on
 
--- an accepted packed scene b with its index, and the number n of its fluid particles
-pub record PassOver (b index : List ℕ) (n : ℕ) : Type 0 where
+-- an accepted packed scene b with its index, the number d of its axes and the number n of its fluid particles
+pub record PassOver (b index : List ℕ) (d n : ℕ) : Type 0 where
   pub indexed : Indexed b index
+  pub axes : d ≡ axesOf b
   pub size : n ≡ fluidSize (sceneOf b)
 
 -- what a pass that needs dt may rely on besides: t is that of the clock which the step has advanced
-pub record TimedPass (b index : List ℕ) (n : ℕ) (t : Float) : Type 0 where
-  pub over : PassOver b index n
+pub record TimedPass (b index : List ℕ) (d n : ℕ) (t : Float) : Type 0 where
+  pub over : PassOver b index d n
   pub dtIs : t ≡ dt (sceneOf b)
 
 -- what a pass that needs gravity too may rely on besides
-pub record DrivenPass (b index : List ℕ) (n : ℕ) (t : Float) (gravity : Vec3) : Type 0 where
-  pub timed : TimedPass b index n t
-  pub gravityIs : coordinates gravity ≡ sceneOf b .header .gravity
+pub record DrivenPass (b index : List ℕ) (d n : ℕ) (t : Float) (gravity : Vec3) : Type 0 where
+  pub timed : TimedPass b index d n t
+  pub gravityIs : coordinates d gravity ≡ sceneOf b .header .gravity
 
--- room for rows and columns of n particles and for the volumes
-abbrev pub Room : Scene → ℕ → List Float → Type 0
-Room s n work = volumesAt n + boundarySize s ≤ length work
+-- room for rows and columns of n particles, for d axes, and for the volumes
+abbrev pub Room : Scene → ℕ → ℕ → List Float → Type 0
+Room s d n work = volumesAt d n + boundarySize s ≤ length work
 
 -- ---- what is stored of a particle
 
@@ -57,15 +58,15 @@ volumes s = table (boundarySize s) (λ j. boundaryVolume (boundary s j))
 
 -- the volume of a boundary particle whose record is at an offset; k is 1 where forces are kept
 unfoldable pub volumeAt : List ℕ → ℕ → ℕ → Float
-volumeAt b k at = volumeFrom (boundaryWeights b (boundaryContactCount b k at) (at + boundaryRecordWidth axes k))
+volumeAt b k at = volumeFrom (boundaryWeights b (boundaryContactCount b k at) (at + boundaryRecordWidth (axesOf b) k))
 
 -- ---- what the coefficients find: masses, advected velocities and volumes
 
-pub record CoefficientsReady (s : Scene) (n : ℕ) (work : List Float) : Type 0 where
-  pub room : Room s n work
-  pub mass : Rows n massSlot (massRow s) work
-  pub advected : Rows n dijSlot (advectedRow s) work
-  pub volume : Behind n (volumes s) work
+pub record CoefficientsReady (s : Scene) (d n : ℕ) (work : List Float) : Type 0 where
+  pub room : Room s d n work
+  pub mass : Rows d n massSlot (massRow s) work
+  pub advected : Rows d n dijSlot (advectedRow s) work
+  pub volume : Behind d n (volumes s) work
 
 -- ---- a number below n, or none
 

@@ -1,17 +1,18 @@
 // The volumes of the boundary particles (the Rust's `compute_boundary_volumes`), stored behind rows and columns of the
 // work list.
-use crate::rows::VOLUMES;
 use math::is_zero;
 use scene_format::Kind;
 use scene_format::format::BOUNDARY_CONTACT_WIDTH;
 use scene_format::format::CONTACT_WEIGHT;
-use scene_format::format::VECTOR_WIDTH;
+use scene_format::format::boundary_count;
+use scene_format::read::axes;
 use scene_format::read::byte;
 use scene_format::read::double;
 use scene_format::read::keeps;
 use scene_format::read::particles;
 use scene_index::records::record_of;
 use scene_layout::Layout;
+use scene_lengths::work_width;
 ghost use mathlib.Core.Path.{_≡_};
 ghost use Prim.Native.Nat.{ℕ, _+_, _*_, _≤_, _<_};
 ghost use lib.ListN.{length};
@@ -49,8 +50,9 @@ fn volume(scene: &[u8], keeps: usize, at: usize) -> f64
     requires { ⌜ (keeps < 2) × BoundaryRecordOk (now scene) keeps at ⌝ }
     ensures { λ r. ⌜ r ≡ volumeAt (now (scene .entry)) keeps at ⌝ }
 {
-    let n = byte(scene, at + (VECTOR_WIDTH + VECTOR_WIDTH * keeps));
-    let denominator = weight_sum(scene, n, at + (VECTOR_WIDTH + VECTOR_WIDTH * keeps + 1));
+    let count = boundary_count(axes(scene), keeps);
+    let n = byte(scene, at + count);
+    let denominator = weight_sum(scene, n, at + (count + 1));
     if is_zero(denominator) {
         0.0
     } else {
@@ -88,15 +90,17 @@ pub fn compute_boundary_volumes(
     scene: &[u8],
     layout: Layout,
     index: &[usize],
+    dim: u8,
     n: usize,
     work: &mut [f64],
 )
     requires { ⌜ Indexed (now scene) (now index) × Passed (now scene) layout ⌝ }
-    requires { ⌜ (n ≡ fluidSize (sceneOf (now scene))) × Room (sceneOf (now scene)) n (now work) ⌝ }
+    requires { ⌜ (n ≡ fluidSize (sceneOf (now scene))) × Room (sceneOf (now scene)) dim n (now work) ⌝ }
     ensures { λ _. ⌜
-        now (work .exit) ≡ sets (now (work .entry)) (volumesAt n) (volumes (sceneOf (now (scene .entry))))
+        now (work .exit) ≡ sets (now (work .entry)) (volumesAt dim n) (volumes (sceneOf (now (scene .entry))))
         ⌝ }
 {
+    let behind = work_width(dim) * n;
     let boundaries = layout.boundaries;
     let heads = boundaries.heads;
     let number = boundaries.number;
@@ -111,7 +115,7 @@ pub fn compute_boundary_volumes(
             first,
             count,
             keeps(scene, head),
-            VOLUMES * n + first,
+            behind + first,
             work,
         );
         first += count;

@@ -6,7 +6,6 @@ ghost use Prim.Native.Nat.{_≤_, _<_};
 ghost use lib.ListN.{length, drop, replicate};
 ghost use Rattle.iisph_rules.specs.Step.{firstZero};
 ghost use Rattle.math.specs.Real.{+0};
-ghost use Rattle.scene_format.specs.Format.{axes};
 ghost use Rattle.scene_lengths.specs.Lengths.{workWidth};
 ghost use Rattle.iisph_rows.specs.Passes.{foundBelow};
 ghost use Rattle.iisph_rows.specs.Rows.{volumesAt, column};
@@ -18,8 +17,8 @@ pub enum Found {
 }
 
 // The number of the first of n fluid particles that has a zero of either sign in a column.
-pub fn first_zero(work: &[f64], n: usize, number: usize) -> Found
-    requires { ⌜ (number < workWidth axes) × (volumesAt n ≤ length (now work)) ⌝ }
+pub fn first_zero(work: &[f64], dim: u8, n: usize, number: usize) -> Found
+    requires { ⌜ (number < workWidth dim) × (volumesAt dim n ≤ length (now work)) ⌝ }
     ensures { λ r. ⌜ r ≡ foundBelow n (firstZero (column n number (now (work .entry)))) ⌝ }
 {
     let mut i = 0usize;

@@ -8,7 +8,7 @@ use mathlib.Core.List.{List, [], List·Memᴰ, List·Memᴰ·not-nil}
 use lib.Dec.{ltb}
 use borrow.Author.Tests.{ltb-true, ltb-false}
 use Rattle.lists.proofs.Lists.{in-table, table-in}
-use Rattle.scene_format.specs.Format.{axes, contactWidth, contactCount, contactsStart, startsOf, locationOf}
+use Rattle.scene_format.specs.Format.{axesOf, contactWidth, contactCount, contactsStart, startsOf, locationOf}
 use Rattle.scene_format.specs.Scene.{Contact, FluidParticle, noFluidParticle, fluidSize}
 use Rattle.scene_format.specs.SceneOf.{contactAt, contactList, fluidParticleAt, sceneOf}
 use Rattle.scene_format.specs.declared.Kind.{Kind}
@@ -24,7 +24,7 @@ module _ (b : List ℕ) where
   listedAt : Kind → ℕ → List Contact
   listedAt κ i =
       let at = locationOf Fluid b i .at in
-      contactList (startsOf κ b) b (contactCount κ b at) (contactsStart κ b at)
+      contactList (axesOf b) (startsOf κ b) b (contactCount κ b at) (contactsStart κ b at)
 
   recorded-contacts : (κ : Kind) (i : ℕ) → contactsWith κ (recorded i) ≡ listedAt κ i
   unfolding recorded fluidParticleAt listedAt
@@ -60,7 +60,7 @@ module _ (b : List ℕ) where
       let at = locationOf Fluid b i .at in
       let e = ap (contactsWith κ) (particle-at b i (w .there)) ∙ recorded-contacts κ i in
       record {
-        contact = contactAt (startsOf κ b) b (contactsStart κ b at + contactWidth axes * w .contact);
+        contact = contactAt (axesOf b) (startsOf κ b) b (contactsStart κ b at + contactWidth (axesOf b) * w .contact);
         listed = subst (List·Memᴰ _) (sym e) (table-in _ _ (w .contact) (w .listed));
         target = w .target;
       }

@@ -8,7 +8,7 @@ use native.Mathlib.Omega.{arith}
 use lib.Ieee.{Float}
 use Rattle.lists.proofs.Numbering.{sum-same}
 use Rattle.lists.proofs.Rows.{row-at}
-use Rattle.scene_format.specs.Format.{axes}
+use Rattle.scene_format.specs.Format.{axesOf}
 use Rattle.scene_format.specs.Scene.{fluidSize}
 use Rattle.scene_format.specs.SceneOf.{headerOf, sceneOf}
 use Rattle.scene_lengths.specs.Lengths.{fluidAnswerWidth, answersNeeded, workNeeded}
@@ -69,12 +69,12 @@ same-number-locality b b′ m e = fluid-locality _ b b′ (record { matched = m;
 -- what the rules yield for fluid particle i stands in its part of the answer list
 answers-for : (b : List ℕ) (a : Accepted b) (answers work : ℕ) → LongEnough b answers work → (old : List Float) (i : ℕ)
     → i < fluidSize (sceneOf b)
-    → answersFor i (answersAfter b answers work old)
+    → answersFor b i (answersAfter b answers work old)
     ≡ fluidAnswer (sceneOf b) (coefficients (sceneOf b)) (solution (sceneOf b) .pressures) i
 unfolding answersOf answersFrom
 answers-for b a answers work h old i l =
-    rw (accepted-answered b a answers work h old .1, append-assoc, ← sum-same (fluidAnswerWidth axes) i)
-    (row-at (fluidSize (sceneOf b)) _ (λ _. fluidAnswerWidth axes) (length-fluid b _ _) _ i l)
+    rw (accepted-answered b a answers work h old .1, append-assoc, ← sum-same (fluidAnswerWidth (axesOf b)) i)
+    (row-at (fluidSize (sceneOf b)) _ (λ _. fluidAnswerWidth (axesOf b)) (length-fluid b _ _) _ i l)
 
 pub fluid-answer-locality : FluidAnswerLocality
 unfolding fluidAnswer

@@ -1,6 +1,6 @@
--- How long the answers are: in a scene that bytes stand for every vector has a double for each axis, so a fluid
--- particle has 7 answers, a boundary particle 1 or 4, and all of them are as many as are needed, so that nothing beyond
--- is touched. Every operation on vectors, and so every sum, keeps the length. Assumes nothing.
+-- How long the answers are: in a scene that bytes stand for every vector has a double for each axis, so each particle
+-- has as many answers as its width says, and all of them are as many as are needed, so that nothing beyond is touched.
+-- Every operation on vectors, and so every sum, keeps the length. Assumes nothing.
 use Prim.Native.Nat.{ℕ, zero, suc, _*_, _<_}
 use mathlib.Core.Path.{_≡_, refl, sym, ap, subst, _∙_}
 use mathlib.Core.Bool.{Bool, true, false, true≢false}
@@ -16,7 +16,7 @@ use Rattle.lists.specs.Lists.{table, choose, sum}
 use Rattle.lists.proofs.Lists.{length-table, in-table, table-map, fold-keeps}
 use Rattle.math.proofs.Vectors.{Sized, sum-sized, difference-sized, scaled-sized}
 use Rattle.scene_format.specs.Bytes.{vectorAt}
-use Rattle.scene_format.specs.Format.{axes}
+use Rattle.scene_format.specs.Format.{axesOf}
 use Rattle.scene_format.specs.declared.Kind.the-variants.{Boundary}
 use Rattle.scene_format.specs.Scene.{Scene, FluidParticle, noBoundaryParticle, Contact, fluidSize, boundarySize}
 use Rattle.scene_format.specs.Scene.{particle, boundary}
@@ -47,29 +47,29 @@ vector-sized : (d : ℕ) (b : List ℕ) (at : ℕ) → Sized d (vectorAt d b at)
 unfolding vectorAt
 vector-sized d b at = length-table d _
 
-contacts-sized : (starts b : List ℕ) (n at : ℕ) (c : Contact) → List·Memᴰ c (contactList starts b n at)
-    → Sized axes (c .gradient)
+contacts-sized : (d : ℕ) (starts b : List ℕ) (n at : ℕ) (c : Contact) → List·Memᴰ c (contactList d starts b n at)
+    → Sized d (c .gradient)
 unfolding contactList contactAt
-contacts-sized starts b n at c m =
+contacts-sized d starts b n at c m =
     let r = in-table n _ m in
-    ap (λ c. length (c .gradient)) (r .value) ∙ vector-sized axes b _
+    ap (λ c. length (c .gradient)) (r .value) ∙ vector-sized d b _
 
 module _ (b : List ℕ) where
-  particle-sized : (i : ℕ) → i < fluidSize (sceneOf b) → ParticleSized axes (particle (sceneOf b) i)
+  particle-sized : (i : ℕ) → i < fluidSize (sceneOf b) → ParticleSized (axesOf b) (particle (sceneOf b) i)
   unfolding fluidParticleAt
   particle-sized i h =
       rw (particle-at b i h)
       record {
-        position = vector-sized axes b _;
-        velocity = vector-sized axes b _;
-        acceleration = vector-sized axes b _;
-        fluidContacts = contacts-sized _ b _ _;
-        boundaryContacts = contacts-sized _ b _ _;
+        position = vector-sized (axesOf b) b _;
+        velocity = vector-sized (axesOf b) b _;
+        acceleration = vector-sized (axesOf b) b _;
+        fluidContacts = contacts-sized _ _ b _ _;
+        boundaryContacts = contacts-sized _ _ b _ _;
       }
 
-  gravity-sized : Sized axes (sceneOf b .header .gravity)
+  gravity-sized : Sized (axesOf b) (sceneOf b .header .gravity)
   unfolding sceneOf headerOf
-  gravity-sized = vector-sized axes b _
+  gravity-sized = vector-sized (axesOf b) b _
 
 -- ---- velocities before the pressures
 
@@ -100,17 +100,17 @@ module _ (s : Scene) (p : FluidParticle) (gravity : Sized (s .header .axes) (s .
       (λ c m u q. sum-sized u _ q (scaled-sized _ _ (h .fluidContacts c m))))
 
 pub length-advected : (b : List ℕ) (i : ℕ) → i < fluidSize (sceneOf b)
-    → length (advectedVelocity (sceneOf b) (particle (sceneOf b) i)) ≡ axes
+    → length (advectedVelocity (sceneOf b) (particle (sceneOf b) i)) ≡ (axesOf b)
 unfolding sceneOf headerOf
 length-advected b i h = advected-sized (sceneOf b) (particle (sceneOf b) i) (gravity-sized b) (particle-sized b i h)
 
 pub length-dii : (b : List ℕ) (i : ℕ) → i < fluidSize (sceneOf b) → (rho : Float)
-    → length (dii (sceneOf b) (particle (sceneOf b) i) rho) ≡ axes
+    → length (dii (sceneOf b) (particle (sceneOf b) i) rho) ≡ (axesOf b)
 unfolding sceneOf headerOf
 length-dii b i h = dii-sized (sceneOf b) (particle (sceneOf b) i) (gravity-sized b) (particle-sized b i h)
 
 pub length-dij : (b : List ℕ) (i : ℕ) → i < fluidSize (sceneOf b) → (co : List Coefficients) (ps : List Float)
-    → length (dijPjl (sceneOf b) co ps (particle (sceneOf b) i)) ≡ axes
+    → length (dijPjl (sceneOf b) co ps (particle (sceneOf b) i)) ≡ (axesOf b)
 unfolding sceneOf headerOf
 length-dij b i h = dij-sized (sceneOf b) (particle (sceneOf b) i) (gravity-sized b) (particle-sized b i h)
 
@@ -164,29 +164,29 @@ module _ (s : Scene) (co : List Coefficients) (ps : List Float)
 
 -- ---- all answers of a scene that bytes stand for
 
-kept-sized : (t : Bool) (force : Vector) → (t ≡ true → Sized axes force)
-    → suc (length (choose t force [])) ≡ answerWidth axes Boundary (choose t 1 0)
+kept-sized : (d : ℕ) (t : Bool) (force : Vector) → (t ≡ true → Sized d force)
+    → suc (length (choose t force [])) ≡ answerWidth d Boundary (choose t 1 0)
 unfolding choose answerWidth
-kept-sized true force p = omega (arith, p refl)
-kept-sized false force p = refl
+kept-sized d true force p = omega (arith, p refl)
+kept-sized d false force p = refl
 
-force-at-sized : (k : ℕ) (b : List ℕ) (at : ℕ) → eqb k 1 ≡ true → Sized axes (forceAt k b at)
+force-at-sized : (k : ℕ) (b : List ℕ) (at : ℕ) → eqb k 1 ≡ true → Sized (axesOf b) (forceAt k b at)
 unfolding forceAt
 force-at-sized zero b at e = absurd (true≢false (sym e))
-force-at-sized (suc k) b at e = vector-sized axes b at
+force-at-sized (suc k) b at e = vector-sized (axesOf b) b at
 
 module _ (b : List ℕ) (co : List Coefficients) (ps : List Float) where
   pub length-fluid : (i : ℕ) → i < fluidSize (sceneOf b)
-      → length (fluidAnswer (sceneOf b) co ps i) ≡ fluidAnswerWidth axes
+      → length (fluidAnswer (sceneOf b) co ps i) ≡ fluidAnswerWidth (axesOf b)
   unfolding sceneOf headerOf
   length-fluid i h = length-fluid-answer (sceneOf b) co ps (gravity-sized b) i (particle-sized b i h)
 
   pub length-boundary : (j : ℕ) → j < boundarySize (sceneOf b)
-      → length (boundaryAnswer (sceneOf b) co ps j) ≡ boundaryAnswerWidth axes (boundary (sceneOf b) j)
+      → length (boundaryAnswer (sceneOf b) co ps j) ≡ boundaryAnswerWidth (axesOf b) (boundary (sceneOf b) j)
   unfolding boundaryAnswer boundaryAnswerWidth boundaryParticleAt sceneOf headerOf
   length-boundary j h =
       let e = boundary-at b j h in
-      kept-sized (boundary (sceneOf b) j .keepsForces) (boundaryForce (sceneOf b) co ps j)
+      kept-sized (axesOf b) (boundary (sceneOf b) j .keepsForces) (boundaryForce (sceneOf b) co ps j)
       (λ kept.
       force-sized (sceneOf b) co ps (gravity-sized b) (particle-sized b) j
       (ap (λ q. length (q .force)) e ∙ force-at-sized _ b _ (ap (λ q. q .keepsForces) (sym e) ∙ kept)))
@@ -194,21 +194,21 @@ module _ (b : List ℕ) (co : List Coefficients) (ps : List Float) where
 module _ (b : List ℕ) where
   length-fluids : (co : List Coefficients) (ps : List Float)
       → length (flatten (table (fluidSize (sceneOf b)) (fluidAnswer (sceneOf b) co ps)))
-      ≡ fluidAnswerWidth axes * fluidSize (sceneOf b)
+      ≡ fluidAnswerWidth (axesOf b) * fluidSize (sceneOf b)
   length-fluids co ps =
-      length-rows (fluidSize (sceneOf b)) (fluidAnswer (sceneOf b) co ps) (λ i. fluidAnswerWidth axes)
+      length-rows (fluidSize (sceneOf b)) (fluidAnswer (sceneOf b) co ps) (λ i. fluidAnswerWidth (axesOf b))
       (length-fluid b co ps)
-      ∙ sum-same (fluidAnswerWidth axes) (fluidSize (sceneOf b))
+      ∙ sum-same (fluidAnswerWidth (axesOf b)) (fluidSize (sceneOf b))
 
   length-boundaries : (co : List Coefficients) (ps : List Float)
       → length (flatten (table (boundarySize (sceneOf b)) (boundaryAnswer (sceneOf b) co ps)))
-      ≡ sum (map (boundaryAnswerWidth axes) (sceneOf b .boundaryParticles))
+      ≡ sum (map (boundaryAnswerWidth (axesOf b)) (sceneOf b .boundaryParticles))
   unfolding boundarySize boundary
   length-boundaries co ps =
       length-rows (boundarySize (sceneOf b)) (boundaryAnswer (sceneOf b) co ps)
-      (λ j. boundaryAnswerWidth axes (boundary (sceneOf b) j))
+      (λ j. boundaryAnswerWidth (axesOf b) (boundary (sceneOf b) j))
       (length-boundary b co ps)
-      ∙ ap sum (table-map (boundaryAnswerWidth axes) (sceneOf b .boundaryParticles) noBoundaryParticle)
+      ∙ ap sum (table-map (boundaryAnswerWidth (axesOf b)) (sceneOf b .boundaryParticles) noBoundaryParticle)
 
   pub length-answers : length (answersOf (sceneOf b)) ≡ answersNeeded (sceneOf b)
   unfolding answersOf answersFrom answersNeeded sceneOf headerOf

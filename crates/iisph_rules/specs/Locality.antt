@@ -9,7 +9,7 @@ use lib.ListN.{take, drop}
 use lib.Ieee.{Float}
 use Rattle.math.specs.Vector.{Vector}
 use Rattle.scene_format.specs.Bytes.{Bytes, byteAt}
-use Rattle.scene_format.specs.Format.{axes, minPressureIterOffset, maxPressureIterOffset, locationOf, startsOf}
+use Rattle.scene_format.specs.Format.{axesOf, minPressureIterOffset, maxPressureIterOffset, locationOf, startsOf}
 use Rattle.scene_format.specs.Format.{contactWidth, contactCount, contactsStart}
 use Rattle.scene_format.specs.Scene.{Scene, Contact, FluidParticle, fluidSize, particle}
 use Rattle.scene_format.specs.SceneOf.{sceneOf, targetAt}
@@ -47,7 +47,8 @@ pub record Written (κ : Kind) (b : List ℕ) (i j : ℕ) : Type 0 where
   pub there : i < fluidSize (sceneOf b)
   pub contact : ℕ
   pub listed : contact < contactCount κ b (locationOf Fluid b i .at)
-  pub target : targetAt (startsOf κ b) b (contactsStart κ b (locationOf Fluid b i .at) + contactWidth axes * contact)
+  pub target : targetAt (startsOf κ b) b (contactsStart κ b (locationOf Fluid b i .at) + contactWidth (axesOf b) *
+      contact)
       ≡ j
 
 -- a scene's particle names another just where its record does (proofs/Links.antt)
@@ -142,9 +143,9 @@ DoneAccepted =
     (b : List ℕ) (answers work : ℕ) (r : Report) → stepAnswer b answers work ≡ Done r
     → (a : Accepted b) × (a .report ≡ r)
 
--- what an answer list holds for fluid particle i: position, velocity, pressure
-abbrev pub answersFor : ℕ → List Float → List Float
-answersFor i answers = take (fluidAnswerWidth axes) (drop (fluidAnswerWidth axes * i) answers)
+-- what an answer list of the scene b holds for fluid particle i: position, velocity, pressure
+abbrev pub answersFor : List ℕ → ℕ → List Float → List Float
+answersFor b i answers = let w = fluidAnswerWidth (axesOf b) in take w (drop (w * i) answers)
 
 -- and so, where the lists are long enough, the particle gets the same in both answer lists, whatever they held before
 abbrev pub FluidAnswerLocality : Type 0
@@ -153,4 +154,4 @@ FluidAnswerLocality =
     → (i : ℕ) → i < fluidSize (sceneOf b) → SameAround k b b′ i
     → (answers work answers′ work′ : ℕ) → LongEnough b answers work → LongEnough b′ answers′ work′
     → (old old′ : List Float)
-    → answersFor i (answersAfter b answers work old) ≡ answersFor i (answersAfter b′ answers′ work′ old′)
+    → answersFor b i (answersAfter b answers work old) ≡ answersFor b′ i (answersAfter b′ answers′ work′ old′)

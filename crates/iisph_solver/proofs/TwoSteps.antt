@@ -41,10 +41,10 @@ step-locality k b b′ x y shape e q i h near =
     record { bytes = x .bytes; bytes′ = y .bytes; shape = shape; accepted = a; accepted′ = a′ } in
     let n = ap (λ (z : Report). z .iterations) r ∙ e in
     let n′ = ap (λ (z : Report). z .iterations) r′ ∙ q in
-    ap (answersFor i) (x .steps .answersThen)
+    ap (answersFor b i) (x .steps .answersThen)
     ∙ fluid-answer-locality k b b′ (record { matched = m; iterations = n; iterations′ = n′ }) i h near
     _ _ _ _ (call-long x) (call-long y) (x .answers) (y .answers)
-    ∙ sym (ap (answersFor i) (y .steps .answersThen))
+    ∙ sym (ap (answersFor b′ i) (y .steps .answersThen))
 
 pub step-same-number : StepSameNumber
 step-same-number b b′ x y shape e = step-locality _ b b′ x y shape refl (sym e)

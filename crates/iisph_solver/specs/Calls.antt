@@ -60,7 +60,7 @@ StepLocality =
     (k : ℕ) (b b′ : List ℕ) (x : DoneCall b) (y : DoneCall b′) → SameShape b b′
     → x .report .iterations ≡ k → y .report .iterations ≡ k
     → (i : ℕ) → i < fluidSize (sceneOf b) → SameAround k b b′ i
-    → answersFor i (x .answers′) ≡ answersFor i (y .answers′)
+    → answersFor b i (x .answers′) ≡ answersFor b′ i (y .answers′)
 
 -- k need not be fixed before: whichever number of iterations the calls take, if both take the same, it is their k
 abbrev pub StepSameNumber : Type 0
@@ -68,4 +68,4 @@ StepSameNumber =
     (b b′ : List ℕ) (x : DoneCall b) (y : DoneCall b′) → SameShape b b′
     → x .report .iterations ≡ y .report .iterations
     → (i : ℕ) → i < fluidSize (sceneOf b) → SameAround (x .report .iterations) b b′ i
-    → answersFor i (x .answers′) ≡ answersFor i (y .answers′)
+    → answersFor b i (x .answers′) ≡ answersFor b′ i (y .answers′)

@@ -1,6 +1,6 @@
--- A step that is done on a scene that passed the check: the lines fit in twice the scene's bytes, and
--- they read answers that are there. From what the step's answer says of the scene. Assumes nothing.
-use Prim.Native.Nat.{ℕ, _+_, _*_, _≤_}
+-- A step that is done on a scene that passed the check and is short enough: the lines fit where every text has room,
+-- and they read answers that are there. From what the step's answer says of the scene. Assumes nothing.
+use Prim.Native.Nat.{ℕ, _+_, _≤_}
 use mathlib.Core.Path.{_≡_, sym, ap, _∙_}
 use mathlib.Core.List.{List, _++_}
 use native.Mathlib.Omega.{arith}
@@ -59,8 +59,9 @@ module _ (b : List ℕ) (y : Bytes b) where
     needed-there : answersNeeded (sceneOf b) ≤ length xs
     needed-there = omega (arith, ap length x, length-append (answersOf (sceneOf b)) rest, length-answers b)
 
-    lines-ready : {r : Report} {out : List ℕ} → Reported b r → 2 * length b ≤ length out → LinesReady b xs r out
-    lines-ready d h =
+    lines-ready : {r : Report} {out : List ℕ} → Reported b r → length b ≤ mostBytes → textRoom ≤ length out
+        → LinesReady b xs r out
+    lines-ready d short h =
         record {
           fluids = omega (arith, needed-there, fluids-needed);
           boundaries = omega (arith, needed-there, boundaries-needed);
@@ -97,7 +98,7 @@ module _ {b : List ℕ} (y : Bytes b) {answers work answers′ work′ : List Fl
   module _ {out : List ℕ} (short : length b ≤ mostBytes) (room : textRoom ≤ length out) where
     pub done-ready : LinesReady b answers′ r out
     done-ready =
-        lines-ready b y _ front (reported b (length answers) (length work) is-done) (omega (arith, short, room))
+        lines-ready b y _ front (reported b (length answers) (length work) is-done) short room
 
     pub done-run : {o : List ℕ} {n : ℕ}
         → Writes out 0 (stepLine r ++ clockLine (r .clock) ++ particlesText b answers′) o n

@@ -1,5 +1,5 @@
 -- What a run does, from what its parts did: by the tests that it makes. Assumes nothing.
-use Prim.Native.Nat.{ℕ, _+_, _≤_, _<_}
+use Prim.Native.Nat.{ℕ, _+_, _*_, _≤_, _<_}
 use mathlib.Core.Path.{_≡_, _∙_}
 use mathlib.Core.List.{List, _++_}
 use native.Mathlib.Nat.{zero-add}
@@ -12,9 +12,12 @@ use Rattle.lists.specs.Lists.{choose}
 use Rattle.lists.specs.Stores.{Writes}
 use Rattle.lists.proofs.Writing.{none-written, _then_}
 use Rattle.scene_format.specs.Bytes.{Bytes}
+use Rattle.scene_format.specs.Format.{axesOf}
+use Rattle.scene_format.specs.Scene.{fluidSize}
+use Rattle.scene_format.specs.SceneOf.{sceneOf}
 use Rattle.scene_format.specs.declared.Refusal.{Refusal}
 use Rattle.scene_format.specs.declared.Kind.the-variants.{Fluid, Boundary}
-use Rattle.scene_lengths.specs.Lengths.{answersIn}
+use Rattle.scene_lengths.specs.Lengths.{fluidAnswerWidth, answersIn}
 use Rattle.iisph_lines.specs.Lines.{stepLine, clockLine, modelsText, particlesText, refusedLine}
 use Rattle.iisph_rules.specs.declared.Report.{Report}
 use Rattle.iisph_rules.specs.declared.StepAnswer.{StepAnswer}
@@ -24,6 +27,11 @@ use Rattle.iisph_text.specs.Text.{mostBytes, tooLong, textWith, textOf, 
 use Rattle.iisph_text.specs.Run.{textRoom, enoughAnswers, enoughWork, written, ifStepped, textIn, Runs, behind}
 use Rattle.iisph_text.specs.Run.{LinesReady}
 use Rattle.iisph_text.proofs.Texts.{text-same}
+
+-- where the boundaries' answers begin
+pub behind-is : (b : List ℕ) {w d n : ℕ} → w ≡ fluidAnswerWidth d → d ≡ axesOf b → n ≡ fluidSize (sceneOf b)
+    → w * n ≡ behind b
+behind-is b e q l = rw (e, q, l)
 
 -- the four parts of the text of a step that is done
 pub parts-written : (b : List ℕ) (xs : List Float) (r : Report) {out o₁ o₂ o₃ o : List ℕ} {n₁ n₂ n₃ n k : ℕ}

@@ -4,6 +4,7 @@ use Prim.Native.Nat.{ℕ, zero, suc, _+_, _*_, _<_, _≤_}
 use mathlib.Core.Path.{_≡_, refl, ap}
 use mathlib.Core.Bool.{Bool, true, false}
 use mathlib.Core.List.{List, [], _∷_, map}
+use native.Mathlib.Nat.{mul-le-mul-right}
 use native.Mathlib.Omega.{arith}
 use lib.Dec.{ltb}
 use lib.ListN.{length}
@@ -11,12 +12,13 @@ use lib.Ieee.{Float}
 use borrow.Author.Tests.{le-ltb, ltb-false}
 use Rattle.lists.specs.Lists.{choose, sum}
 use Rattle.scene_format.specs.Bytes.{byteAt, Bytes}
-use Rattle.scene_format.specs.Format.{axes, maxPressureIterOffset}
+use Rattle.scene_format.specs.Format.{axesOf, maxPressureIterOffset}
 use Rattle.scene_format.specs.Scene.{Scene, BoundaryParticle, fluidSize, boundarySize}
 use Rattle.scene_format.specs.SceneOf.{headerOf, sceneOf}
 use Rattle.scene_format.specs.declared.Kind.the-variants.{Fluid, Boundary}
 use Rattle.scene_format.specs.declared.Walk.{Walk}
 use Rattle.scene_format.specs.declared.Walk.the-variants as walk
+use Rattle.scene_format.proofs.Forms.{axes-of}
 use Rattle.scene_layout.specs.declared.Layout.{Layout}
 use Rattle.scene_index.specs.Index.{indexNeeded}
 use Rattle.scene_index.proofs.Indexes.{number-few}
@@ -36,7 +38,7 @@ use Rattle.iisph_words.proofs.Numbers.{few-digits}
 use Rattle.iisph_lines.proofs.Widths.{ending-most, length-step, length-clock}
 use Rattle.iisph_text.specs.Text.{answerText, tooLong, mostBytes, textWith, textOf}
 use Rattle.iisph_text.specs.Run.{enoughAnswers, enoughWork, enoughIndex, Reported}
-use Rattle.iisph_text.proofs.Room.{particles-room, answers-few}
+use Rattle.iisph_text.proofs.Room.{lineText, lineBytes, particles-room, answers-few}
 
 -- ---- the first line
 
@@ -64,6 +66,11 @@ endingRoom = 8 + 3 + errorTextWidth
 
 -- ---- the whole text
 
+-- characters of the first two lines that the header's bytes do not stand for: in the plane these are 44, and the lines
+-- have at most 93
+abbrev pub firstText : ℕ
+firstText = 9
+
 module _ (b : List ℕ) (y : Bytes b) {r : Report} (d : Reported b r) where
   step-most : length (stepLine r) ≤ 5 + endingRoom + 1
   step-most =
@@ -77,10 +84,12 @@ module _ (b : List ℕ) (y : Bytes b) {r : Report} (d : Reported b r) where
 
   -- all lines together, whatever the answers are and wherever the boundaries' answers begin
   pub done-room : (k : ℕ) (xs : List Float)
-      → length (stepLine r) + length (clockLine (r .clock))
-      + (length (modelsText Fluid b 0 xs) + length (modelsText Boundary b k xs))
-      ≤ 2 * length b
-  done-room k xs = omega (arith, step-most, length-clock (r .clock), particles-room b (d .accepted) k xs)
+      → lineBytes
+      * (length (stepLine r) + length (clockLine (r .clock))
+      + (length (modelsText Fluid b 0 xs) + length (modelsText Boundary b k xs)))
+      ≤ lineText * length b + lineBytes * firstText
+  done-room k xs =
+      omega (arith, step-most, length-clock (r .clock), particles-room b (d .accepted) k xs, axes-of b .least)
 
 -- ---- long enough lists
 
@@ -99,12 +108,23 @@ boundary-answers-least d (q ∷ qs) =
 -- of work never more than three times as many doubles as of answers
 needed-work : (b : List ℕ) → workNeeded (sceneOf b) ≤ 3 * answersNeeded (sceneOf b)
 unfolding answersNeeded sceneOf headerOf boundarySize
-needed-work b = omega (arith, work-most b, boundary-answers-least axes (sceneOf b .boundaryParticles))
+needed-work b =
+    omega (
+      arith,
+      work-most b,
+      mul-le-mul-right (fluidSize (sceneOf b)) (axes-of b .least),
+      boundary-answers-least (axesOf b) (sceneOf b .boundaryParticles),
+    )
 
 -- of the index no more numbers than answers, beside the bases
 index-answers : (b : List ℕ) → 2 * fluidSize (sceneOf b) + boundarySize (sceneOf b) ≤ answersNeeded (sceneOf b)
 unfolding answersNeeded sceneOf headerOf boundarySize
-index-answers b = omega (arith, boundary-answers-least axes (sceneOf b .boundaryParticles))
+index-answers b =
+    omega (
+      arith,
+      mul-le-mul-right (fluidSize (sceneOf b)) (axes-of b .least),
+      boundary-answers-least (axesOf b) (sceneOf b .boundaryParticles),
+    )
 
 pub index-enough : {b : List ℕ} {layout : Layout} → Passed b layout → length b ≤ mostBytes
     → indexNeeded b ≤ enoughIndex

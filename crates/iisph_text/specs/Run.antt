@@ -11,7 +11,7 @@ use Rattle.scene_format.specs.SceneOf.{sceneOf}
 use Rattle.scene_format.specs.declared.Walk.the-variants.{At}
 use Rattle.scene_check.specs.Walk.{checked}
 use Rattle.iisph_lines.specs.Lines.{stepLine, clockLine, modelsText}
-use Rattle.scene_format.specs.Format.{axes, mostModels}
+use Rattle.scene_format.specs.Format.{axesOf, mostModels}
 use Rattle.scene_format.specs.Scene.{fluidSize}
 use Rattle.scene_index.specs.Index.{modelBlocks, startsLength}
 use Rattle.scene_format.specs.declared.Kind.the-variants.{Fluid, Boundary}
@@ -65,7 +65,7 @@ pub record Runs (b : List ℕ) (answers work : List Float) (out : List ℕ) (r :
 
 -- where the answers of the boundaries begin
 abbrev pub behind : List ℕ → ℕ
-behind b = fluidAnswerWidth axes * fluidSize (sceneOf b)
+behind b = fluidAnswerWidth (axesOf b) * fluidSize (sceneOf b)
 
 -- the lines of a step that is done read answers that are there, and have room
 pub record LinesReady (b : List ℕ) (answers : List Float) (r : Report) (out : List ℕ) : Type 0 where

@@ -13,10 +13,11 @@ use scene_check::check;
 use scene_format::Kind;
 use scene_format::Refusal;
 use scene_format::format::MAX_MODELS;
+use scene_format::read::axes;
 use scene_index::index::FLUID_BASES;
 use scene_index::index::MODEL_BLOCKS;
 use scene_layout::Layout;
-use scene_lengths::ANSWER_WIDTH;
+use scene_lengths::fluid_answer_width;
 ghost use mathlib.Core.List.{_++_};
 ghost use Prim.Native.Nat.{_≤_};
 ghost use lib.ListN.{length};
@@ -46,6 +47,7 @@ fn put_done(scene: &[u8], layout: Layout, answers: &[f64], report: Report, out: 
     let second = put_step(out, 0, report);
     let third = put_clock(out, second, clock);
     let next = put_models(out, third, scene, Kind::Fluid, fluids, answers, 0);
+    let behind = fluid_answer_width(axes(scene)) * fluids.total;
     put_models(
         out,
         next,
@@ -53,7 +55,7 @@ fn put_done(scene: &[u8], layout: Layout, answers: &[f64], report: Report, out: 
         Kind::Boundary,
         boundaries,
         answers,
-        ANSWER_WIDTH * fluids.total,
+        behind,
     )
 }
 

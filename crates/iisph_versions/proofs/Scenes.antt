@@ -10,9 +10,9 @@ use lib.ListN.{length, getD}
 use Rattle.lists.specs.Lists.{iter, trail, startsFrom}
 use Rattle.lists.proofs.Lists.{table-same, table-map}
 use Rattle.scene_format.specs.Bytes.{be16At, doubleWidth, doubleAt}
-use Rattle.scene_format.specs.Format.{axes, ruleOf, criterionOf, summationOf, minPressureIterOffset}
-use Rattle.scene_format.specs.Format.{maxPressureIterOffset}
-use Rattle.scene_format.specs.Format.{totalStepSizeOffset, remainingTimeOffset, maxDensityErrorOffset, gravityOffset}
+use Rattle.scene_format.specs.Format.{axesOf, ruleOf, criterionOf, summationOf, minPressureIterOffset}
+use Rattle.scene_format.specs.Format.{maxPressureIterOffset, totalStepSizeOffset, remainingTimeOffset}
+use Rattle.scene_format.specs.Format.{maxDensityErrorOffset, gravityOffset}
 use Rattle.scene_format.specs.Format.{vectorWidth, headerWidth, density0Offset, particlesAt}
 use Rattle.scene_format.specs.Format.{keepsAt, contactCount, boundaryContactCount, ownWidth, contactsWidth, firstRecord}
 use Rattle.scene_format.specs.Format.{nextRecord, modelEnd, firstHead, headAt, headsOf, countsOf, Location}
@@ -71,18 +71,19 @@ module _ {b b′ : List ℕ} (s : SameButForm b b′) where
   keeps-at-same head h = cc (be16-same head h)
 
   pub contact-count-same : (κ : Kind) (at : ℕ) → 2 ≤ at → contactCount κ b at ≡ contactCount κ b′ at
-  contact-count-same κ at h = s .behind _ (omega arith)
+  contact-count-same κ at h = rw (← s .axes) (s .behind _ (omega arith))
 
   pub boundary-contact-count-same : (k at : ℕ) → 2 ≤ at → boundaryContactCount b k at ≡ boundaryContactCount b′ k at
-  boundary-contact-count-same k at h = s .behind _ (omega arith)
+  boundary-contact-count-same k at h = rw (← s .axes) (s .behind _ (omega arith))
 
   -- ---- where records and models stand
 
   record-forward : (κ : Kind) (head : ℕ) → 2 ≤ head → Forward (nextRecord κ b head) (nextRecord κ b′ head)
   unfolding nextRecord ownWidth contactsWidth
-  record-forward Fluid head l at h = (cc (contact-count-same Fluid at h, contact-count-same Boundary at h), omega arith)
+  record-forward Fluid head l at h =
+      (cc (s .axes, contact-count-same Fluid at h, contact-count-same Boundary at h), omega arith)
   record-forward Boundary head l at h =
-      (rw (← keeps-at-same head l, boundary-contact-count-same (keepsAt b head) at h), omega arith)
+      (cc (s .axes, keeps-at-same head l, boundary-contact-count-same (keepsAt b head) at h), omega arith)
 
   model-forward : (κ : Kind) → Forward (modelEnd κ b) (modelEnd κ b′)
   unfolding modelEnd
@@ -91,9 +92,9 @@ module _ {b b′ : List ℕ} (s : SameButForm b b′) where
 
   first-head : (κ : Kind) → (firstHead κ b ≡ firstHead κ b′) × (2 ≤ firstHead κ b)
   unfolding firstHead
-  first-head Fluid = (refl, omega arith)
+  first-head Fluid = (ap headerWidth (s .axes), omega arith)
   first-head Boundary =
-      rw (← s .models Fluid) (iter-forward (model-forward Fluid) _ (headerWidth axes) (omega arith))
+      rw (← s .models Fluid, ← s .axes) (iter-forward (model-forward Fluid) _ (headerWidth (axesOf b)) (omega arith))
 
   heads-read : (κ : Kind) {A : Type 0} {f f′ : ℕ → A} → ((head : ℕ) → 2 ≤ head → f head ≡ f′ head)
       → map f (headsOf κ b) ≡ map f′ (headsOf κ b′)
@@ -135,12 +136,13 @@ module _ {b b′ : List ℕ} (s : SameButForm b b′) where
   unfolding headerOf headerBy
   header-same =
       cc (
+        s .axes,
         s .behind minPressureIterOffset (omega arith),
         s .behind maxPressureIterOffset (omega arith),
         double-same totalStepSizeOffset (omega arith),
         double-same remainingTimeOffset (omega arith),
         double-same maxDensityErrorOffset (omega arith),
-        same-vector axes (bytes-from gravityOffset (vectorWidth axes) (omega arith)) (omega arith),
+        same-vector (axesOf b) (bytes-from gravityOffset (vectorWidth (axesOf b)) (omega arith)) (omega arith),
       )
 
   -- what is read of each record
@@ -155,7 +157,7 @@ module _ {b b′ : List ℕ} (s : SameButForm b b′) where
   fluid-particles-same fs bs =
       locations-read Fluid _ _
       (λ p l h.
-      same-fluid-particle fs bs
+      same-fluid-particle fs bs (s .axes)
       (record {
         density0 = bytes-from (p .head + density0Offset) doubleWidth (omega arith);
         own = record-same Fluid p l h;
@@ -164,7 +166,8 @@ module _ {b b′ : List ℕ} (s : SameButForm b b′) where
   boundary-particles-same : map (boundaryParticleAt b) (locationsOf Boundary b)
       ≡ map (boundaryParticleAt b′) (locationsOf Boundary b′)
   boundary-particles-same =
-      locations-read Boundary _ _ (λ p l h. same-kept-particle (keeps-at-same (p .head) l) (record-same Boundary p l h))
+      locations-read Boundary _ _
+      (λ p l h. same-kept-particle (s .axes) (keeps-at-same (p .head) l) (record-same Boundary p l h))
 
 pub same-locations : SameLocations
 same-locations b b′ s = locations-same s

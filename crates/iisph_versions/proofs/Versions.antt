@@ -1,16 +1,18 @@
 -- The claims of specs/Versions.antt on versions: a step's result is made of the check, the scene and where its records
--- stand, which are the same whichever of two known forms with one rule a packed scene has; and with rule 0 both
--- versions are known forms. Assumes nothing.
+-- stand, which are the same whichever of two known forms with one rule and as many axes a packed scene has; and with
+-- rule 0 the first two versions are such forms. Assumes nothing.
 use Prim.Native.Nat.{ℕ, suc, _≤_}
 use mathlib.Core.Path.{_≡_, refl, sym, _∙_}
+use mathlib.Core.Bool.{true}
 use mathlib.Core.List.{List, [], _∷_}
 use native.Mathlib.Omega.{arith}
 use lib.Ieee.{Float}
 use Rattle.scene_format.specs.Bytes.{byteAt}
-use Rattle.scene_format.specs.Format.{versionOf, firstVersion, lastVersion, ruleOf, modelNumber}
+use Rattle.scene_format.specs.Format.{versionOf, flatVersion, versionKnown, axesOf, ruleOf, modelNumber}
 use Rattle.scene_format.specs.SceneOf.{headerOf, sceneOf}
 use Rattle.scene_format.specs.declared.Kind.{Kind}
 use Rattle.scene_format.specs.declared.Kind.the-variants.{Fluid, Boundary}
+use Rattle.scene_format.proofs.Forms.{other-axes}
 use Rattle.iisph_rules.specs.Answer.{stepAnswer, answersAfter, workAfter}
 use Rattle.iisph_versions.specs.Versions.{SameButForm, KnownForm, headerBy, sceneBy, SameResults, asVersion}
 use Rattle.iisph_versions.specs.Versions.{RuleZeroSame}
@@ -49,11 +51,12 @@ behind-first : (version x : ℕ) (b : List ℕ) (at : ℕ) → 1 ≤ at
 unfolding asVersion
 behind-first version x b (suc at) h = refl
 
-pub as-version : (version : ℕ) (b : List ℕ) → SameButForm (asVersion version b) b
+pub as-version : (version : ℕ) (b : List ℕ) → axesOf (asVersion version b) ≡ axesOf b
+    → SameButForm (asVersion version b) b
 unfolding asVersion
-as-version version [] = record { long = refl; models = λ κ. refl; behind = λ at h. refl }
-as-version version (x ∷ b) =
-    record { long = refl; models = models; behind = λ at h. behind-first version x b at (omega arith) }
+as-version version [] a = record { long = refl; axes = a; models = λ κ. refl; behind = λ at h. refl }
+as-version version (x ∷ b) a =
+    record { long = refl; axes = a; models = models; behind = λ at h. behind-first version x b at (omega arith) }
   where
     models : (κ : Kind) → modelNumber κ (asVersion version (x ∷ b)) ≡ modelNumber κ (x ∷ b)
     models Fluid = omega arith
@@ -67,12 +70,20 @@ rule-is : (version x : ℕ) (b : List ℕ) → ruleOf (asVersion version (x ∷ 
 unfolding asVersion
 rule-is version x b = refl
 
-known-form : (version x : ℕ) (b : List ℕ) → (firstVersion ≤ version) × (version ≤ lastVersion) → ruleOf (x ∷ b) ≡ 0
+known-form : (version x : ℕ) (b : List ℕ) → versionKnown version ≡ true → ruleOf (x ∷ b) ≡ 0
     → KnownForm (asVersion version (x ∷ b))
 known-form version x b h r = record { version = rw version-is h; rule = omega (arith, rule-is version x b) }
 
+-- in neither version the scene is flat
+as-many-axes : (version x : ℕ) (b : List ℕ) → (version ≡ flatVersion → ⊥) → (versionOf (x ∷ b) ≡ flatVersion → ⊥)
+    → axesOf (asVersion version (x ∷ b)) ≡ axesOf (x ∷ b)
+as-many-axes version x b h h′ = other-axes _ (rw version-is h) ∙ sym (other-axes _ h′)
+
 pub rule-zero-same : RuleZeroSame
+unfolding versionKnown
 rule-zero-same [] v r = absurd (omega arith)
 rule-zero-same (x ∷ b) v r =
-    let first : KnownForm (x ∷ b) = record { version = (omega arith, omega arith); rule = rw v (omega arith) } in
-    same-results _ _ (as-version _ (x ∷ b)) (rule-is _ x b) (known-form _ x b (omega arith, omega arith) r) first
+    let first : KnownForm (x ∷ b) = record { version = rw v refl; rule = rw v (omega arith) } in
+    same-results _ _ (as-version _ (x ∷ b) (as-many-axes _ x b (omega arith) (omega arith))) (rule-is _ x b)
+    (known-form _ x b refl r)
+    first

@@ -10,15 +10,16 @@ use lib.Dec.{leb, ltb}
 use borrow.Author.Tests.{le-ltb}
 use Rattle.lists.specs.Lists.{choose}
 use Rattle.scene_format.specs.Bytes.{doubleWidth}
-use Rattle.scene_format.specs.Format.{axes, firstVersion, lastVersion, versionOf, mostRule, headerWidth, keepsAt}
-use Rattle.scene_format.specs.Format.{contactsStart, firstRecord}
+use Rattle.scene_format.specs.Format.{versionOf, versionKnown, mostRule, headerDoubles, headerWidth}
+use Rattle.scene_format.specs.Format.{contactDoubles, contactWidth, recordDoubles, recordWidth, boundaryRecordDoubles}
+use Rattle.scene_format.specs.Format.{boundaryRecordWidth, keepsAt, firstRecord}
 use Rattle.scene_format.specs.declared.Kind.{Kind}
 use Rattle.scene_format.specs.declared.Kind.the-variants.{Fluid, Boundary}
 use Rattle.scene_format.specs.declared.Refusal.{Refusal}
 use Rattle.scene_format.specs.declared.Walk.{Walk}
 use Rattle.scene_format.specs.declared.Walk.the-variants.{At, Refused}
 use Rattle.scene_fields.specs.Fields.{_▹_, times, refusedIf, field, plain, double, count, halfByte, halves, ended}
-use Rattle.scene_fields.specs.declared.fields.Half.the-variants.{Between, ModelCount}
+use Rattle.scene_fields.specs.declared.fields.Half.the-variants.{Version, Rule, ModelCount}
 use Rattle.scene_walk.specs.Walk.{header, contact, fluidRecord, boundaryRecord, recordOf, headOf, modelOf, modelsOf}
 use Rattle.scene_walk.specs.Walk.{fields}
 use Rattle.scene_check.specs.Walk.{name, names, recordNamesOf, modelNamesOf, modelsNamesOf, allNames, checked}
@@ -65,6 +66,10 @@ times-alongside {f} {f′} {n} e s = rw (← e) (go n)
     go zero at h = reached h
     go (suc n) at h = s at h then go n
 
+-- from offsets that are the same
+from-same : {f f′ : ℕ → Walk} {at at′ : ℕ} → at ≡ at′ → 2 ≤ at → Alongside f f′ → Together Behind (f at) (f′ at′)
+from-same {at = at} e h s = rw (← e) (s at h)
+
 -- a test that both meet alike
 tested : {P : ℕ → Type 0} {t t′ : Bool} (r : Refusal) {w w′ : Walk} → t ≡ t′ → Together P w w′
     → Together P (refusedIf t r w) (refusedIf t′ r w′)
@@ -75,12 +80,16 @@ tested {P} {t} r {w} {w′} e s = rw (← e) (go t)
     go true = refused
     go false = s
 
--- half a byte that both pass, whichever number it holds
-half-passed : {P : ℕ → Type 0} {least most most′ x x′ : ℕ} (at : ℕ) {w w′ : Walk} → (least ≤ x) × (x ≤ most)
-    → (least ≤ x′) × (x′ ≤ most′) → Together P w w′
-    → Together P (halfByte (Between least most) x at w) (halfByte (Between least most′) x′ at w′)
+-- half a byte that both pass, whichever number it holds: a version, and a rule
+version-passed : {P : ℕ → Type 0} (x x′ at : ℕ) {w w′ : Walk} → versionKnown x ≡ true → versionKnown x′ ≡ true
+    → Together P w w′ → Together P (halfByte Version x at w) (halfByte Version x′ at w′)
 unfolding halfByte
-half-passed at (h, k) (h′, k′) t = tested _ (cc (le-ltb _ _ h, le-ltb _ _ k, le-ltb _ _ h′, le-ltb _ _ k′)) t
+version-passed x x′ at h h′ t = tested _ (cc (h, h′)) t
+
+rule-passed : {P : ℕ → Type 0} {most most′ x x′ : ℕ} (at : ℕ) {w w′ : Walk} → x ≤ most → x′ ≤ most′ → Together P w w′
+    → Together P (halfByte (Rule most) x at w) (halfByte (Rule most′) x′ at w′)
+unfolding halfByte
+rule-passed at h h′ t = tested _ (cc (le-ltb _ _ h, le-ltb _ _ h′)) t
 
 -- half a byte that counts as many models in both
 half-counted : {P : ℕ → Type 0} {x x′ : ℕ} (at : ℕ) {w w′ : Walk} → x ≡ x′ → Together P w w′
@@ -114,27 +123,28 @@ module _ {b b′ : List ℕ} (s : SameButForm b b′) where
   unfolding ended
   ended-alongside at h = tested _ (ap (ltb at) (s .long)) (reached h)
 
-  doubles-alongside : (n : ℕ) → Alongside (times n (double b)) (times n (double b′))
-  doubles-alongside n = times-alongside refl double-alongside
+  doubles-alongside : {n n′ : ℕ} → n ≡ n′ → Alongside (times n (double b)) (times n′ (double b′))
+  doubles-alongside e = times-alongside e double-alongside
 
   -- ---- the fields in their order
 
-  contact-alongside : (n : ℕ) → Alongside (contact n b) (contact n b′)
+  contact-alongside : {n n′ : ℕ} → n ≡ n′ → Alongside (contact n b) (contact n′ b′)
   unfolding contact
-  contact-alongside n at h = plain-alongside _ at h then doubles-alongside n
+  contact-alongside e at h = plain-alongside _ at h then doubles-alongside e
 
   fluid-record-alongside : Alongside (fluidRecord b) (fluidRecord b′)
   unfolding fluidRecord
   fluid-record-alongside at h =
-      doubles-alongside _ at h then plain-alongside 1 then plain-alongside 1
-      then times-alongside (contact-count-same s Fluid at h) (contact-alongside _)
-      then times-alongside (contact-count-same s Boundary at h) (contact-alongside _)
+      let contacts = contact-alongside (ap contactDoubles (s .axes)) in
+      doubles-alongside (ap recordDoubles (s .axes)) at h then plain-alongside 1 then plain-alongside 1
+      then times-alongside (contact-count-same s Fluid at h) contacts
+      then times-alongside (contact-count-same s Boundary at h) contacts
 
   boundary-record-alongside : (k : ℕ) → Alongside (boundaryRecord b k) (boundaryRecord b′ k)
   unfolding boundaryRecord
   boundary-record-alongside k at h =
-      doubles-alongside _ at h then plain-alongside 1
-      then times-alongside (boundary-contact-count-same s k at h) (contact-alongside _)
+      doubles-alongside (ap (λ d. boundaryRecordDoubles d k) (s .axes)) at h then plain-alongside 1
+      then times-alongside (boundary-contact-count-same s k at h) (contact-alongside refl)
 
   record-alongside : (κ : Kind) (head : ℕ) → 2 ≤ head → Alongside (recordOf κ b head) (recordOf κ b′ head)
   unfolding recordOf
@@ -157,22 +167,24 @@ module _ {b b′ : List ℕ} (s : SameButForm b b′) where
 
   -- ---- names
 
-  names-alongside : {counts counts′ : List ℕ} {n n′ : ℕ} (w : ℕ) → counts ≡ counts′ → n ≡ n′
-      → Alongside (names b counts w n) (names b′ counts′ w n′)
+  names-alongside : {counts counts′ : List ℕ} {w w′ n n′ : ℕ} → w ≡ w′ → counts ≡ counts′ → n ≡ n′
+      → Alongside (names b counts w n) (names b′ counts′ w′ n′)
   unfolding names name
-  names-alongside w e q =
-      times-alongside q (λ at h. tested _ (cc (be16-same s at h)) (reached (omega arith)))
+  names-alongside a e q =
+      rw (← a) (times-alongside q (λ at h. tested _ (cc (be16-same s at h)) (reached (omega arith))))
 
   record-names-alongside : (κ : Kind) (head : ℕ) → 2 ≤ head
       → Alongside (recordNamesOf κ b head) (recordNamesOf κ b′ head)
   unfolding recordNamesOf
   record-names-alongside Fluid head l at h =
-      names-alongside _ (counts-same s Fluid) (contact-count-same s Fluid at h) (contactsStart Fluid b at) (omega arith)
-      then names-alongside _ (counts-same s Boundary) (contact-count-same s Boundary at h)
+      let wide = ap contactWidth (s .axes) in
+      from-same (ap (λ d. at + recordWidth d) (s .axes)) (omega arith)
+      (names-alongside wide (counts-same s Fluid) (contact-count-same s Fluid at h))
+      then names-alongside wide (counts-same s Boundary) (contact-count-same s Boundary at h)
   record-names-alongside Boundary head l at h =
       rw (← keeps-at-same s head l)
-      (names-alongside _ (counts-same s Boundary) (boundary-contact-count-same s (keepsAt b head) at h) _
-      (omega arith))
+      (from-same (ap (λ d. at + boundaryRecordWidth d (keepsAt b head)) (s .axes)) (omega arith)
+      (names-alongside refl (counts-same s Boundary) (boundary-contact-count-same s (keepsAt b head) at h)))
 
   model-names-alongside : (κ : Kind) → Alongside (modelNamesOf κ b) (modelNamesOf κ b′)
   unfolding modelNamesOf
@@ -186,31 +198,34 @@ module _ {b b′ : List ℕ} (s : SameButForm b b′) where
 
   names-together : Together Behind (allNames b) (allNames b′)
   unfolding allNames
-  names-together = models-names-alongside Fluid (headerWidth axes) (omega arith) then models-names-alongside Boundary
+  names-together =
+      from-same (ap headerWidth (s .axes)) (omega arith) (models-names-alongside Fluid)
+      then models-names-alongside Boundary
 
   -- ---- the header, and with it the whole check
 
   module _ (f : KnownForm b) (f′ : KnownForm b′) where
     -- byte 0: the version is passed, and there are as many fluids
-    first-byte : StepsTogether (λ at. at ≡ 0) (λ at. at ≡ 1) (halves b (Between firstVersion lastVersion) ModelCount)
-        (halves b′ (Between firstVersion lastVersion) ModelCount)
+    first-byte : StepsTogether (λ at. at ≡ 0) (λ at. at ≡ 1) (halves b Version ModelCount)
+        (halves b′ Version ModelCount)
     unfolding halves
     first-byte = field-steps 1
-        (λ at e. rw e (half-passed 0 (f .version) (f′ .version) (half-counted 0 (s .models Fluid) (reached refl))))
+        (λ at e.
+        rw e (version-passed _ _ 0 (f .version) (f′ .version) (half-counted 0 (s .models Fluid) (reached refl))))
 
     -- byte 1: there are as many boundaries, and the rule is passed
-    second-byte : StepsTogether (λ at. at ≡ 1) Behind (halves b ModelCount (Between 0 (mostRule (versionOf b))))
-        (halves b′ ModelCount (Between 0 (mostRule (versionOf b′))))
+    second-byte : StepsTogether (λ at. at ≡ 1) Behind (halves b ModelCount (Rule (mostRule (versionOf b))))
+        (halves b′ ModelCount (Rule (mostRule (versionOf b′))))
     unfolding halves
     second-byte = field-steps 1
         (λ at e.
-        let rules = half-passed 1 (omega arith, f .rule) (omega arith, f′ .rule) (reached (omega arith)) in
-        rw e (half-counted 1 (s .models Boundary) rules))
+        rw e (half-counted 1 (s .models Boundary) (rule-passed 1 (f .rule) (f′ .rule) (reached (omega arith)))))
 
     header-together : Together Behind (header b 0) (header b′ 0)
     unfolding header
     header-together =
-        first-byte 0 refl then second-byte then plain-alongside 1 then plain-alongside 1 then doubles-alongside _
+        first-byte 0 refl then second-byte then plain-alongside 1 then plain-alongside 1
+        then doubles-alongside (ap headerDoubles (s .axes))
 
     checked-together : Together Behind (checked b) (checked b′)
     unfolding checked fields

@@ -1,15 +1,18 @@
--- What version and rule of a packed scene change (FORMAT 1): version 2 has the layout of version 1 and a rule where
--- that has zeros, so with rule 0 both have one result; and a rule acts through the error of the iterations alone, so
--- where there are as many of them the answers are the same by every rule. Each claim is one type, and proofs/ proves
--- it. Definitions only.
+-- What version and rule of a packed scene change (FORMAT 1): a version acts through its number of axes, on which the
+-- layout depends, and through the rules that it has. Version 2 has as many axes as version 1 and a rule where that has
+-- zeros, so with rule 0 both have one result. A rule, in the plane as in space, acts through the error of the
+-- iterations alone, so where there are as many of them the answers are the same by every rule. Each claim is one type,
+-- and proofs/ proves it. Definitions only.
 use Prim.Native.Nat.{ℕ, _+_, _*_, _≤_}
 use mathlib.Core.Path.{_≡_}
+use mathlib.Core.Bool.{true}
 use mathlib.Core.List.{List, [], _∷_}
 use lib.Ieee.{Float}
 use lib.ListN.{length}
 use Rattle.scene_format.specs.Bytes.{byteAt}
-use Rattle.scene_format.specs.Format.{halfModulus, lowerHalf, versionOf, firstVersion, lastVersion, ruleOf, mostRule}
-use Rattle.scene_format.specs.Format.{criterionOf, summationOf, minPressureIterOffset, modelNumber, locationsOf}
+use Rattle.scene_format.specs.Format.{halfModulus, lowerHalf, versionOf, firstVersion, ruledVersion, versionKnown}
+use Rattle.scene_format.specs.Format.{axesOf, ruleOf, mostRule, criterionOf, summationOf, minPressureIterOffset}
+use Rattle.scene_format.specs.Format.{modelNumber, locationsOf}
 use Rattle.scene_format.specs.Scene.{Scene, Header}
 use Rattle.scene_format.specs.SceneOf.{sceneOf}
 use Rattle.scene_format.specs.declared.Criterion.{Criterion}
@@ -22,15 +25,16 @@ use Rattle.iisph_rules.specs.PassedOver.{iterationAt}
 
 -- ---- two packed scenes
 
--- they are the same but for version and rule, each half of one of the first two bytes
+-- they are the same but for version and rule, each half of one of the first two bytes, and have as many axes
 pub record SameButForm (b b′ : List ℕ) : Type 0 where
   pub long : length b ≡ length b′
+  pub axes : axesOf b ≡ axesOf b′
   pub models : (κ : Kind) → modelNumber κ b ≡ modelNumber κ b′
   pub behind : (at : ℕ) → minPressureIterOffset ≤ at → byteAt b at ≡ byteAt b′ at
 
 -- the version is known, and the rule is one of that version's: refusal 2 meets neither
 pub record KnownForm (b : List ℕ) : Type 0 where
-  pub version : (firstVersion ≤ versionOf b) × (versionOf b ≤ lastVersion)
+  pub version : versionKnown (versionOf b) ≡ true
   pub rule : ruleOf b ≤ mostRule (versionOf b)
 
 -- a step answers the same and leaves the same in both lists, whatever their lengths are and what they held before
@@ -93,7 +97,7 @@ asVersion version (x ∷ b) = (halfModulus * version + lowerHalf x) ∷ b
 
 -- as version 2, with rule 0, a scene has the result that it has as version 1
 abbrev pub RuleZeroSame : Type 0
-RuleZeroSame = (b : List ℕ) → versionOf b ≡ firstVersion → ruleOf b ≡ 0 → SameResult (asVersion 2 b) b
+RuleZeroSame = (b : List ℕ) → versionOf b ≡ firstVersion → ruleOf b ≡ 0 → SameResult (asVersion ruledVersion b) b
 
 -- ---- the claims, of rules
 

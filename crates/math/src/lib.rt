@@ -1,10 +1,17 @@
 // Vectors by value and small functions on doubles: what the solver uses of nalgebra and of `f64`.
 // Every operation rounds once, in the order written; nothing is reassociated.
 ghost use mathlib.Core.Path.{_≡_};
+ghost use Prim.Native.Nat.{ℕ, _≤_};
 ghost use Rattle.math.specs.Real as Real;
-ghost use Rattle.math.specs.Vector.{coordinates, origin, _⊞_, _⊟_, _⊡_, _·_};
+ghost use Rattle.math.specs.Vector.{Axes, space, coordinates, origin, _⊞_, _⊟_, _⊡_, _·_};
 
-// A vector of three axes.
+// The number of axes of the plane, and of space.
+pub const PLANE: u8 = 2;
+
+pub const SPACE: u8 = 3;
+
+// A vector of the plane or of space. In the plane its z is anything, and what comes of it is looked at nowhere: with z = 0
+// and sums over all three, 0 × infinity and -0 + 0 would show.
 pub struct Vec3 {
     pub x: f64,
     pub y: f64,
@@ -13,7 +20,7 @@ pub struct Vec3 {
 
 impl Vec3 {
     pub fn zero() -> Vec3
-        ensures { λ r. ⌜ coordinates r ≡ origin 3 ⌝ }
+        ensures { λ r. ⌜ ((d : ℕ) → d ≤ space → coordinates d r ≡ origin d) ⌝ }
     {
         Vec3 {
             x: 0.0,
@@ -23,7 +30,7 @@ impl Vec3 {
     }
 
     pub fn add(self, b: Vec3) -> Vec3
-        ensures { λ r. ⌜ coordinates r ≡ coordinates self ⊞ coordinates b ⌝ }
+        ensures { λ r. ⌜ ((d : ℕ) → coordinates d r ≡ coordinates d self ⊞ coordinates d b) ⌝ }
     {
         Vec3 {
             x: self.x + b.x,
@@ -33,7 +40,7 @@ impl Vec3 {
     }
 
     pub fn sub(self, b: Vec3) -> Vec3
-        ensures { λ r. ⌜ coordinates r ≡ coordinates self ⊟ coordinates b ⌝ }
+        ensures { λ r. ⌜ ((d : ℕ) → coordinates d r ≡ coordinates d self ⊟ coordinates d b) ⌝ }
     {
         Vec3 {
             x: self.x - b.x,
@@ -43,7 +50,7 @@ impl Vec3 {
     }
 
     pub fn scale(self, k: f64) -> Vec3
-        ensures { λ r. ⌜ coordinates r ≡ coordinates self ⊡ k ⌝ }
+        ensures { λ r. ⌜ ((d : ℕ) → coordinates d r ≡ coordinates d self ⊡ k) ⌝ }
     {
         Vec3 {
             x: self.x * k,
@@ -52,10 +59,15 @@ impl Vec3 {
         }
     }
 
-    pub fn dot(self, b: Vec3) -> f64
-        ensures { λ r. ⌜ r ≡ coordinates self · coordinates b ⌝ }
+    pub fn dot(self, b: Vec3, dim: u8) -> f64
+        requires { ⌜ Axes dim ⌝ }
+        ensures { λ r. ⌜ r ≡ coordinates dim self · coordinates dim b ⌝ }
     {
-        self.x * b.x + self.y * b.y + self.z * b.z
+        let plane = self.x * b.x + self.y * b.y;
+        if dim == SPACE {
+            return plane + self.z * b.z;
+        }
+        plane
     }
 }
 

@@ -10,7 +10,7 @@ use lib.Dec.{ltb}
 use lib.ListN.{length, getD, List·getD-eq-default}
 use borrow.Author.Tests.{leb-false, ltb-true, ltb-false}
 use Rattle.lists.specs.Lists.{iter}
-use Rattle.scene_format.specs.Format.{axes, modelNumber, headerWidth, particlesAt, keepsAt, modelAt, numberAt}
+use Rattle.scene_format.specs.Format.{axesOf, modelNumber, headerWidth, particlesAt, keepsAt, modelAt, numberAt}
 use Rattle.scene_format.specs.Format.{contactWidth, boundaryContactWidth, contactCount, contactsStart}
 use Rattle.scene_format.specs.Format.{boundaryRecordWidth, boundaryContactCount, ownWidth, contactsWidth, firstRecord}
 use Rattle.scene_format.specs.Format.{nextRecord, modelEnd, firstHead, headAt, countsOf, Location}
@@ -38,10 +38,11 @@ NamesOk κ b w n at = (k : ℕ) → k < n → NameOk κ b (at + w * k)
 -- the contacts of a record of each kind
 unfoldable pub RecordNamed : Kind → List ℕ → Location → Type 0
 RecordNamed Fluid b p =
-    (κ : Kind) → NamesOk κ b (contactWidth axes) (contactCount κ b (p .at)) (contactsStart κ b (p .at))
+    (κ : Kind) → NamesOk κ b (contactWidth (axesOf b)) (contactCount κ b (p .at)) (contactsStart κ b (p .at))
 RecordNamed Boundary b p =
     let k = keepsAt b (p .head) in
-    NamesOk Boundary b boundaryContactWidth (boundaryContactCount b k (p .at)) (p .at + boundaryRecordWidth axes k)
+    NamesOk Boundary b boundaryContactWidth (boundaryContactCount b k (p .at))
+    (p .at + boundaryRecordWidth (axesOf b) k)
 
 module _ (b : List ℕ) where
   -- a model that is not there has no particles
@@ -67,13 +68,13 @@ module _ (b : List ℕ) where
   unfolding recordNamesOf nextRecord ownWidth contactsWidth RecordNamed
   record-names-steps Fluid head at =
       restated
-      (names-steps Fluid (contactWidth axes) (contactCount Fluid b at) (contactsStart Fluid b at)
-      then names-steps Boundary (contactWidth axes) (contactCount Boundary b at))
+      (names-steps Fluid (contactWidth (axesOf b)) (contactCount Fluid b at) (contactsStart Fluid b at)
+      then names-steps Boundary (contactWidth (axesOf b)) (contactCount Boundary b at))
       (λ h. (omega arith, both (h .0) (h .1)))
     where
-      both : NamesOk Fluid b (contactWidth axes) (contactCount Fluid b at) (contactsStart Fluid b at)
-          → NamesOk Boundary b (contactWidth axes) (contactCount Boundary b at) (contactsStart Boundary b at)
-          → (κ : Kind) → NamesOk κ b (contactWidth axes) (contactCount κ b at) (contactsStart κ b at)
+      both : NamesOk Fluid b (contactWidth (axesOf b)) (contactCount Fluid b at) (contactsStart Fluid b at)
+          → NamesOk Boundary b (contactWidth (axesOf b)) (contactCount Boundary b at) (contactsStart Boundary b at)
+          → (κ : Kind) → NamesOk κ b (contactWidth (axesOf b)) (contactCount κ b at) (contactsStart κ b at)
       both f g Fluid = f
       both f g Boundary = g
   record-names-steps Boundary head at = names-steps Boundary boundaryContactWidth _ _
@@ -100,7 +101,7 @@ module _ (b : List ℕ) where
       ((κ : Kind) (m : ℕ) → m < modelNumber κ b → EachRecord κ b (headAt κ b m) (RecordNamed κ b))
   unfolding allNames firstHead
   names-leads =
-      restated (models-names-steps b Fluid (headerWidth axes) then models-names-steps b Boundary)
+      restated (models-names-steps b Fluid (headerWidth (axesOf b)) then models-names-steps b Boundary)
       (λ h. (refl, each (h .0) (h .1)))
     where
       each : ((m : ℕ) → m < modelNumber Fluid b → EachRecord Fluid b (headAt Fluid b m) (RecordNamed Fluid b))
@@ -125,5 +126,5 @@ module _ (b : List ℕ) where
   pub accepted-within : {e : ℕ} → checked b ≡ At e → (κ : Kind) → ModelsWithin κ b
   accepted-within q = models-within (accepted q .fields)
 
-  pub accepted-header : {e : ℕ} → checked b ≡ At e → headerWidth axes ≤ length b
+  pub accepted-header : {e : ℕ} → checked b ≡ At e → headerWidth (axesOf b) ≤ length b
   accepted-header q = accepted q .fields .header .room

@@ -17,7 +17,7 @@ use Rattle.scene_format.specs.declared.Refusal.{Refusal}
 use Rattle.scene_format.specs.declared.Walk.{Walk}
 use Rattle.scene_format.specs.declared.Walk.the-variants.{At, Refused}
 use Rattle.scene_fields.specs.declared.fields.Half.{Half}
-use Rattle.scene_fields.specs.declared.fields.Half.the-variants.{Between, ModelCount}
+use Rattle.scene_fields.specs.declared.fields.Half.the-variants.{Version, Rule, ModelCount}
 use Rattle.scene_walk.specs.Walk as fields
 use Rattle.scene_check.specs.Walk as walk
 use Rattle.scene_check.specs.Walk.{checked}
@@ -56,7 +56,8 @@ raised l h r q = omega (arith, l, h r q)
 
 half-early : (rule : Half) (x at : ℕ) (w : Walk) → Early 6 w → Early 6 (field.halfByte rule x at w)
 unfolding field.halfByte
-half-early (Between least most) x at w h = refused-if-early _ _ _ (lit≤ tt) h
+half-early Version x at w h = refused-if-early _ _ _ (lit≤ tt) h
+half-early (Rule most) x at w h = refused-if-early _ _ _ (lit≤ tt) h
 half-early ModelCount x at w h = refused-if-early _ _ _ (lit≤ tt) h
 
 module _ (b : List ℕ) where

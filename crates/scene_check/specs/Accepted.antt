@@ -6,7 +6,8 @@ use mathlib.Core.List.{List}
 use lib.ListN.{length}
 use Rattle.scene_walk.specs.Accepted.{FluidRecordOk, BoundaryRecordOk}
 use Rattle.scene_format.specs.Bytes.{FiniteAt}
-use Rattle.scene_format.specs.Format.{axes, density0Offset, keepsAt, modelAt, contactWidth, contactCount, contactsStart}
+use Rattle.scene_format.specs.Format.{axesOf, density0Offset, keepsAt, modelAt, contactWidth, contactCount}
+use Rattle.scene_format.specs.Format.{contactsStart}
 use Rattle.scene_format.specs.Format.{startsOf, Location}
 use Rattle.scene_format.specs.Scene as Scene
 use Rattle.scene_format.specs.Scene.{sizeOf}
@@ -28,7 +29,8 @@ pub record FluidParticleOk (b : List ℕ) (p : Location) (i : ℕ) : Type 0 wher
   pub particle : Scene.particle (sceneOf b) i ≡ fluidParticleAt (startsOf Fluid b) (startsOf Boundary b) b p
   pub density0 : FiniteAt b (p .head + density0Offset)
   pub own : FluidRecordOk b (p .at)
-  pub targets : (κ : Kind) → TargetsOk κ b (contactWidth axes) (contactCount κ b (p .at)) (contactsStart κ b (p .at))
+  pub targets : (κ : Kind) → TargetsOk κ b (contactWidth (axesOf b)) (contactCount κ b (p .at))
+      (contactsStart κ b (p .at))
 
 -- all that a step may use of boundary particle j, whose record stands at p
 pub record BoundaryParticleOk (b : List ℕ) (p : Location) (j : ℕ) : Type 0 where

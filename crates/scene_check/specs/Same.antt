@@ -3,7 +3,7 @@ use Prim.Native.Nat.{ℕ, _+_, _-_, _<_}
 use mathlib.Core.Path.{_≡_}
 use mathlib.Core.List.{List}
 use Rattle.scene_format.specs.Bytes.{byteAt, doubleWidth}
-use Rattle.scene_format.specs.Format.{axes, headerWidth, density0Offset, nextRecord, countsOf, Location}
+use Rattle.scene_format.specs.Format.{axesOf, headerWidth, density0Offset, nextRecord, countsOf, Location}
 use Rattle.scene_format.specs.declared.Kind.{Kind}
 use Rattle.scene_format.specs.declared.Kind.the-variants.{Fluid}
 
@@ -28,5 +28,5 @@ pub record SameFluidRecord (b : List ℕ) (p : Location) (b′ : List ℕ) (p′
 
 -- the same header and the same counts; then a particle's number stands for the same model and number in both
 pub record SameShape (b b′ : List ℕ) : Type 0 where
-  pub header : SameBytes b 0 b′ 0 (headerWidth axes)
+  pub header : SameBytes b 0 b′ 0 (headerWidth (axesOf b))
   pub counts : (κ : Kind) → countsOf κ b ≡ countsOf κ b′

@@ -7,7 +7,7 @@ use lib.Dec.{leb}
 use lib.ListN.{getD}
 use Rattle.scene_walk.specs.Walk.{fields}
 use Rattle.scene_fields.specs.Fields.{_▹_, times, refusedIf}
-use Rattle.scene_format.specs.Format.{axes, modelNumber, headerWidth, particlesAt, keepsAt, modelAt, numberAt}
+use Rattle.scene_format.specs.Format.{axesOf, modelNumber, headerWidth, particlesAt, keepsAt, modelAt, numberAt}
 use Rattle.scene_format.specs.Format.{contactWidth, boundaryContactWidth, contactCount, contactsStart}
 use Rattle.scene_format.specs.Format.{boundaryRecordWidth, boundaryContactCount, firstRecord, countsOf}
 use Rattle.scene_format.specs.declared.Kind.{Kind}
@@ -29,11 +29,12 @@ names b counts w n = times n (name b counts w)
 -- fluid contacts name fluids, boundary contacts boundaries
 unfoldable pub recordNamesOf : Kind → List ℕ → ℕ → ℕ → Walk
 recordNamesOf Fluid b head at =
-    names b (countsOf Fluid b) (contactWidth axes) (contactCount Fluid b at) (contactsStart Fluid b at)
-    ▹ names b (countsOf Boundary b) (contactWidth axes) (contactCount Boundary b at)
+    names b (countsOf Fluid b) (contactWidth (axesOf b)) (contactCount Fluid b at) (contactsStart Fluid b at)
+    ▹ names b (countsOf Boundary b) (contactWidth (axesOf b)) (contactCount Boundary b at)
 recordNamesOf Boundary b head at =
     let k = keepsAt b head in
-    names b (countsOf Boundary b) boundaryContactWidth (boundaryContactCount b k at) (at + boundaryRecordWidth axes k)
+    names b (countsOf Boundary b) boundaryContactWidth (boundaryContactCount b k at)
+    (at + boundaryRecordWidth (axesOf b) k)
 
 unfoldable pub modelNamesOf : Kind → List ℕ → ℕ → Walk
 modelNamesOf κ b head = times (particlesAt κ b head) (recordNamesOf κ b head) (firstRecord κ head)
@@ -42,7 +43,7 @@ unfoldable pub modelsNamesOf : Kind → List ℕ → ℕ → Walk
 modelsNamesOf κ b = times (modelNumber κ b) (modelNamesOf κ b)
 
 unfoldable pub allNames : List ℕ → Walk
-allNames b = modelsNamesOf Fluid b (headerWidth axes) ▹ modelsNamesOf Boundary b
+allNames b = modelsNamesOf Fluid b (headerWidth (axesOf b)) ▹ modelsNamesOf Boundary b
 
 -- ---- the whole check: refusals 1 to 7, or the scene's length
 

@@ -4,13 +4,12 @@ use crate::contact_list::names;
 use scene_format::Kind;
 use scene_format::Walk;
 use scene_format::format::BOUNDARY_CONTACT_WIDTH;
-use scene_format::format::BOUNDARY_CONTACTS;
-use scene_format::format::CONTACT_WIDTH;
-use scene_format::format::FLUID_CONTACTS;
-use scene_format::format::HEADER_WIDTH;
 use scene_format::format::NAMEABLE_MODELS;
-use scene_format::format::RECORD_WIDTH;
-use scene_format::format::VECTOR_WIDTH;
+use scene_format::format::boundary_count;
+use scene_format::format::contact_counts;
+use scene_format::format::contact_width;
+use scene_format::format::header_width;
+use scene_format::read::axes;
 use scene_format::read::byte;
 use scene_format::read::first_record;
 use scene_format::read::keeps;
@@ -41,18 +40,21 @@ fn record_names(
     requires { ⌜ RecordWithin kind (now s) head at ⌝ }
     ensures { λ r. ⌜ r ≡ walk.recordNamesOf kind (now (s .entry)) head at ⌝ }
 {
+    let dim = axes(s);
     match kind {
         Kind::Fluid => {
-            let n = byte(s, at + FLUID_CONTACTS);
-            let w = names(s, fluids, CONTACT_WIDTH, n, at + RECORD_WIDTH).walk;
+            let counts = contact_counts(dim);
+            let width = contact_width(dim);
+            let n = byte(s, at + counts);
+            let w = names(s, fluids, width, n, at + (counts + 2)).walk;
             let Walk::At(middle) = w else {
                 return w;
             };
-            let n = byte(s, at + BOUNDARY_CONTACTS);
-            names(s, boundaries, CONTACT_WIDTH, n, middle).walk
+            let n = byte(s, at + (counts + 1));
+            names(s, boundaries, width, n, middle).walk
         }
         Kind::Boundary => {
-            let count = VECTOR_WIDTH + VECTOR_WIDTH * keeps(s, head);
+            let count = boundary_count(dim, keeps(s, head));
             let n = byte(s, at + count);
             names(s, boundaries, BOUNDARY_CONTACT_WIDTH, n, at + (count + 1)).walk
         }
@@ -140,7 +142,8 @@ pub fn all_names(s: &[u8], layout: Layout) -> Walk
     fill_counts(s, Kind::Fluid, fluid_models, &mut fluids);
     fill_counts(s, Kind::Boundary, boundary_models, &mut boundaries);
     let number = fluid_models.number;
-    let w = models_names(s, Kind::Fluid, &fluids, &boundaries, number, HEADER_WIDTH);
+    let first = header_width(axes(s));
+    let w = models_names(s, Kind::Fluid, &fluids, &boundaries, number, first);
     let Walk::At(at) = w else {
         return w;
     };

@@ -3,7 +3,7 @@
 -- Assumes nothing.
 use Prim.Native.Nat.{ℕ, zero, suc, _+_, _*_, _<_, _≤_}
 use mathlib.Core.Path.{_≡_, refl, ap, subst, _∙_}
-use mathlib.Core.Bool.{Bool, true, false, _||_, true≢false}
+use mathlib.Core.Bool.{Bool, true, false}
 use mathlib.Core.List.{List}
 use native.Mathlib.Nat.{not-suc-le-zero, le-of-suc-le-suc, mul-zero, mul-suc}
 use native.Mathlib.Omega.{arith}
@@ -11,11 +11,12 @@ use lib.ListN.{length}
 use borrow.Author.Tests.{leb-true, ltb-false, eqb-false, not-false}
 use Rattle.lists.specs.Lists.{choose, iter}
 use Rattle.scene_format.specs.Bytes.{byteAt, doubleWidth, FiniteAt}
-use Rattle.scene_format.specs.Format.{mostModels, mostParticles, upperHalf, lowerHalf, countWidth, particlesAt}
+use Rattle.scene_format.specs.Format.{mostModels, mostParticles, upperHalf, lowerHalf, versionKnown, countWidth}
+use Rattle.scene_format.specs.Format.{particlesAt}
 use Rattle.scene_fields.specs.Fields.{_▹_, times, refusedIf, field, plain, double, count, halfByte, halves, ended}
 use Rattle.scene_format.specs.declared.Kind.{Kind}
 use Rattle.scene_fields.specs.declared.fields.Half.{Half}
-use Rattle.scene_fields.specs.declared.fields.Half.the-variants.{Between, ModelCount}
+use Rattle.scene_fields.specs.declared.fields.Half.the-variants.{Version, Rule, ModelCount}
 use Rattle.scene_format.specs.declared.Walk.{Walk}
 use Rattle.scene_format.specs.declared.Walk.the-variants.{At, Refused}
 use Rattle.scene_format.specs.declared.Refusal.{Refusal}
@@ -103,15 +104,12 @@ field-leads : (b : List ℕ) (k : ℕ) (rule : ℕ → Walk) {at x : ℕ} {Q : T
 unfolding field
 field-leads b k rule l = restated (refused-if-leads _ _ l) (λ h. (refl, (leb-true _ _ (not-false _ (h .0)), h .1)))
 
-or-false : (a b : Bool) → a || b ≡ false → (a ≡ false) × (b ≡ false)
-or-false false b q = (refl, q)
-or-false true b q = absurd (true≢false q)
-
 -- ---- single fields
 
 -- what a half that is passed holds
 unfoldable pub HalfOk : Half → ℕ → Type 0
-HalfOk (Between least most) x = (least ≤ x) × (x ≤ most)
+HalfOk Version x = versionKnown x ≡ true
+HalfOk (Rule most) x = x ≤ most
 HalfOk ModelCount x = x ≤ mostModels
 
 module _ (b : List ℕ) where
@@ -135,9 +133,8 @@ module _ (b : List ℕ) where
   half-leads : (rule : Half) (x at : ℕ) {w : Walk} {y : ℕ} {Q : Type 0} → Leads w y Q
       → Leads (halfByte rule x at w) y (HalfOk rule x × Q)
   unfolding halfByte HalfOk
-  half-leads (Between least most) x at l =
-      restated (refused-if-leads _ _ l)
-      (λ h. let (a, b) = or-false _ _ (h .0) in (refl, ((ltb-false _ _ a, ltb-false _ _ b), h .1)))
+  half-leads Version x at l = restated (refused-if-leads _ _ l) (λ h. (refl, (not-false _ (h .0), h .1)))
+  half-leads (Rule most) x at l = restated (refused-if-leads _ _ l) (λ h. (refl, (ltb-false _ _ (h .0), h .1)))
   half-leads ModelCount x at l = restated (refused-if-leads _ _ l) (λ h. (refl, (ltb-false _ _ (h .0), h .1)))
 
   pub halves-steps : (upper lower : Half)

@@ -2,18 +2,19 @@
 -- then by its own rule (2, 3, 4, 6) (FORMAT 2.2). A step goes from an offset to the next one or refuses, and nothing
 -- follows a refusal. Definitions only.
 use Prim.Native.Nat.{ℕ, zero, suc, _+_}
-use mathlib.Core.Bool.{Bool, not, _||_}
+use mathlib.Core.Bool.{Bool, not}
 use mathlib.Core.List.{List}
 use lib.Dec.{leb, ltb, eqb}
 use lib.ListN.{length}
 use Rattle.lists.specs.Lists.{choose}
 use Rattle.scene_format.specs.Bytes.{byteAt, exponentAt, doubleWidth, nonFiniteExponent}
-use Rattle.scene_format.specs.Format.{mostModels, mostParticles, upperHalf, lowerHalf, countWidth, particlesAt}
+use Rattle.scene_format.specs.Format.{mostModels, mostParticles, upperHalf, lowerHalf, versionKnown, countWidth}
+use Rattle.scene_format.specs.Format.{particlesAt}
 use Rattle.scene_format.specs.declared.Kind.{Kind}
 use Rattle.scene_format.specs.declared.Walk.{Walk}
 use Rattle.scene_format.specs.declared.Walk.the-variants.{At, Refused}
 use Rattle.scene_fields.specs.declared.fields.Half.{Half}
-use Rattle.scene_fields.specs.declared.fields.Half.the-variants.{Between, ModelCount}
+use Rattle.scene_fields.specs.declared.fields.Half.the-variants.{Version, Rule, ModelCount}
 use Rattle.scene_format.specs.declared.Refusal.{Refusal}
 use Rattle.scene_format.specs.declared.Refusal.the-variants.{MissingField, UnknownForm, TooManyModels, TooManyParticles}
 use Rattle.scene_format.specs.declared.Refusal.the-variants.{TrailingBytes, NotFinite}
@@ -59,7 +60,8 @@ count κ b =
 
 -- half a byte x at an offset, and how the walk goes on
 unfoldable pub halfByte : Half → ℕ → ℕ → Walk → Walk
-halfByte (Between least most) x at onward = refusedIf (ltb x least || ltb most x) (UnknownForm at) onward
+halfByte Version x at onward = refusedIf (not (versionKnown x)) (UnknownForm at) onward
+halfByte (Rule most) x at onward = refusedIf (ltb most x) (UnknownForm at) onward
 halfByte ModelCount x at onward = refusedIf (ltb mostModels x) (TooManyModels at) onward
 
 -- a byte of two halves, the upper one first

@@ -5,15 +5,17 @@ use scene_format::Refusal;
 use scene_format::Walk;
 use scene_format::format::COUNT_WIDTH;
 use scene_format::format::DOUBLE_WIDTH;
+use scene_format::format::FIRST_VERSION;
+use scene_format::format::FLAT_VERSION;
 use scene_format::format::HALF_MODULUS;
 use scene_format::format::MAX_MODELS;
 use scene_format::format::MAX_PARTICLES;
+use scene_format::format::RULED_VERSION;
 use scene_format::read::byte;
 use scene_format::read::non_finite;
 use scene_format::read::particles;
 ghost use mathlib.Core.Path.{_≡_};
-ghost use mathlib.Core.Bool.{_||_};
-ghost use lib.Dec.{ltb};
+ghost use Rattle.scene_format.specs.Format.{versionKnown};
 ghost use Rattle.scene_fields.specs.Fields as walk;
 
 // A field of k bytes with no rule of its own. Every other field is read only once it has passed this.
@@ -74,17 +76,24 @@ pub fn count(s: &[u8], kind: Kind, at: usize) -> Walk
     Walk::At(next)
 }
 
-// The rule of half a byte: it lies between two numbers, each included, or is a number of models.
+// The rule of half a byte: it is a version that is known, or a rule of at most some number, or a number of models.
 pub enum Half {
-    Between(usize, usize),
+    Version,
+    Rule(usize),
     ModelCount,
 }
 
-// Whether x is below or above all numbers between two.
-fn outside(x: usize, least: usize, most: usize) -> bool
-    ensures { λ r. ⌜ r ≡ (ltb x least || ltb most x) ⌝ }
+// Whether a version is known.
+fn version_known(version: usize) -> bool
+    ensures { λ r. ⌜ r ≡ versionKnown version ⌝ }
 {
-    x < least || most < x
+    if version == FIRST_VERSION {
+        return true;
+    }
+    if version == RULED_VERSION {
+        return true;
+    }
+    version == FLAT_VERSION
 }
 
 // Half a byte, x, at an offset: its refusal, or the walk onward.
@@ -92,8 +101,13 @@ fn half_byte(rule: Half, x: usize, at: usize, onward: Walk) -> Walk
     ensures { λ r. ⌜ r ≡ walk.halfByte rule x at onward ⌝ }
 {
     match rule {
-        Half::Between(least, most) => {
-            if outside(x, least, most) {
+        Half::Version => {
+            if !version_known(x) {
+                return Walk::Refused(Refusal::UnknownForm(at));
+            }
+        }
+        Half::Rule(most) => {
+            if most < x {
                 return Walk::Refused(Refusal::UnknownForm(at));
             }
         }

@@ -1,12 +1,14 @@
--- Where the fields of a packed scene stand and how wide each part is, for d axes (FORMAT 1). Fluids and boundaries, the
--- customer's walls, are two kinds of models with one description: what is said of models is said once, by their kind.
+-- Where the fields of a packed scene stand and how wide each part is, for d axes (FORMAT 1); how many there are is said
+-- by the scene's form, and nothing else knows of a version. Fluids and boundaries, the customer's walls, are two kinds
+-- of models with one description: what is said of models is said once, by their kind.
 -- Total: of bytes that the check refuses it says nothing useful. Definitions only.
 use Prim.Native.Nat.{ℕ, _+_, _*_, _/_, _%_}
-use mathlib.Core.Bool.{cond}
+use mathlib.Core.Bool.{Bool, cond, _||_}
 use mathlib.Core.List.{List, map, flatten}
 use lib.Dec.{eqb}
 use lib.ListN.{getD}
 use Rattle.lists.specs.Lists.{iter, trail, startsFrom}
+use Rattle.math.specs.Vector.{plane, space}
 use Rattle.scene_format.specs.Bytes.{byteAt, be16At, doubleWidth}
 use Rattle.scene_format.specs.declared.Criterion.{Criterion}
 use Rattle.scene_format.specs.declared.Criterion.the-variants.{Salva, Ihmsen}
@@ -14,10 +16,6 @@ use Rattle.scene_format.specs.declared.Kind.{Kind}
 use Rattle.scene_format.specs.declared.Kind.the-variants.{Fluid, Boundary}
 use Rattle.scene_format.specs.declared.Summation.{Summation}
 use Rattle.scene_format.specs.declared.Summation.the-variants.{InOrder, ByHalves}
-
--- the number of axes
-abbrev pub axes : ℕ
-axes = 3
 
 abbrev pub vectorWidth : ℕ → ℕ
 vectorWidth d = doubleWidth * d
@@ -52,15 +50,22 @@ upperHalf x = x / halfModulus
 abbrev pub lowerHalf : ℕ → ℕ
 lowerHalf x = x % halfModulus
 
--- the version: the first, and version 2, which has its layout and names a rule
+-- the version: the first; the second, which has its layout and names a rule; and the fourth, which is the second in the
+-- plane
 abbrev pub versionOf : List ℕ → ℕ
 versionOf b = upperHalf (byteAt b 0)
 
 abbrev pub firstVersion : ℕ
 firstVersion = 1
 
-abbrev pub lastVersion : ℕ
-lastVersion = 2
+abbrev pub ruledVersion : ℕ
+ruledVersion = 2
+
+abbrev pub flatVersion : ℕ
+flatVersion = 4
+
+unfoldable pub versionKnown : ℕ → Bool
+versionKnown version = eqb version firstVersion || eqb version ruledVersion || eqb version flatVersion
 
 -- how many models of a kind there are
 abbrev pub modelNumber : Kind → List ℕ → ℕ
@@ -76,6 +81,19 @@ lastRule = 3
 
 abbrev pub mostRule : ℕ → ℕ
 mostRule version = cond (eqb version firstVersion) 0 lastRule
+
+-- what a version has of its own: the number of axes, and the greatest rule
+pub record Form : Type 0 where
+  pub axes : ℕ
+  pub mostRule : ℕ
+
+abbrev pub formOf : List ℕ → Form
+formOf b =
+    let version = versionOf b in
+    record { axes = cond (eqb version flatVersion) plane space; mostRule = mostRule version }
+
+unfoldable pub axesOf : List ℕ → ℕ
+axesOf b = formOf b .axes
 
 -- what a rule's number stands for, two choices: a criterion, by its lowest bit, and by the bit above that how the terms
 -- of a fluid are summed
@@ -196,11 +214,11 @@ recordWidth d = warmPressureOffset d + doubleWidth + 2
 
 -- of the record at an offset: how many contacts of a kind there are, and where they begin
 abbrev pub contactCount : Kind → List ℕ → ℕ → ℕ
-contactCount κ b at = byteAt b (at + contactCountOffset κ axes)
+contactCount κ b at = byteAt b (at + contactCountOffset κ (axesOf b))
 
 abbrev pub contactsStart : Kind → List ℕ → ℕ → ℕ
-contactsStart Fluid b at = at + recordWidth axes
-contactsStart Boundary b at = at + recordWidth axes + contactWidth axes * contactCount Fluid b at
+contactsStart Fluid b at = at + recordWidth (axesOf b)
+contactsStart Boundary b at = at + recordWidth (axesOf b) + contactWidth (axesOf b) * contactCount Fluid b at
 
 -- ---- a boundary record: velocity, force if k is 1 (0 if forces are not kept), a count, the contacts, which are with
 -- ---- boundary particles
@@ -218,18 +236,18 @@ abbrev pub boundaryRecordWidth : ℕ → ℕ → ℕ
 boundaryRecordWidth d k = boundaryCountOffset d k + 1
 
 abbrev pub boundaryContactCount : List ℕ → ℕ → ℕ → ℕ
-boundaryContactCount b k at = byteAt b (at + boundaryCountOffset axes k)
+boundaryContactCount b k at = byteAt b (at + boundaryCountOffset (axesOf b) k)
 
 -- ---- records and models
 
 -- a record's bytes before its contacts, by the head of its model
 unfoldable pub ownWidth : Kind → List ℕ → ℕ → ℕ
-ownWidth Fluid b head = recordWidth axes
-ownWidth Boundary b head = boundaryRecordWidth axes (keepsAt b head)
+ownWidth Fluid b head = recordWidth (axesOf b)
+ownWidth Boundary b head = boundaryRecordWidth (axesOf b) (keepsAt b head)
 
 -- the bytes of a record's contacts, by the same head
 unfoldable pub contactsWidth : Kind → List ℕ → ℕ → ℕ → ℕ
-contactsWidth Fluid b head at = contactWidth axes * (contactCount Fluid b at + contactCount Boundary b at)
+contactsWidth Fluid b head at = contactWidth (axesOf b) * (contactCount Fluid b at + contactCount Boundary b at)
 contactsWidth Boundary b head at = boundaryContactWidth * boundaryContactCount b (keepsAt b head) at
 
 -- where the first record of the model with that head stands, and where the one at an offset ends
@@ -245,8 +263,8 @@ modelEnd κ b head = iter (particlesAt κ b head) (nextRecord κ b head) (firstR
 
 -- the fluids follow the header, the boundaries the fluids
 unfoldable pub firstHead : Kind → List ℕ → ℕ
-firstHead Fluid b = headerWidth axes
-firstHead Boundary b = iter (modelNumber Fluid b) (modelEnd Fluid b) (headerWidth axes)
+firstHead Fluid b = headerWidth (axesOf b)
+firstHead Boundary b = iter (modelNumber Fluid b) (modelEnd Fluid b) (headerWidth (axesOf b))
 
 -- the head of model m of a kind, as long as there are so many
 abbrev pub headAt : Kind → List ℕ → ℕ → ℕ

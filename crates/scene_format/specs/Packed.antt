@@ -2,7 +2,8 @@
 use Prim.Native.Nat.{ℕ, _+_, _*_, _/_, _%_}
 use mathlib.Core.List.{List, [], _∷_, _++_, map, flatten}
 use lib.ListN.{length, replicate}
-use Rattle.scene_format.specs.Format.{axes, nameableParticles, halfModulus, firstVersion, countModulus}
+use Rattle.math.specs.Vector.{plane, space}
+use Rattle.scene_format.specs.Format.{nameableParticles, halfModulus, firstVersion, countModulus}
 use Rattle.scene_format.specs.declared.Kind.the-variants.{Boundary}
 
 -- ---- numbers, the most significant byte first
@@ -25,12 +26,19 @@ be64 n =
 unfoldable pub doubles : List ℕ → List ℕ
 doubles ds = flatten (map be64 ds)
 
--- a vector
+-- a vector of space, and of the plane
 abbrev pub v3 : ℕ → ℕ → ℕ → List ℕ
 v3 x y z = x ∷ y ∷ z ∷ []
 
+abbrev pub v2 : ℕ → ℕ → List ℕ
+v2 x y = x ∷ y ∷ []
+
+-- of zeros
 abbrev pub zero3 : List ℕ
-zero3 = replicate axes 0
+zero3 = replicate space 0
+
+abbrev pub zero2 : List ℕ
+zero2 = replicate plane 0
 
 -- ---- contacts
 

@@ -7,7 +7,7 @@ use lib.ListN.{getD}
 use Rattle.lists.specs.Lists.{table}
 use Rattle.math.specs.Vector.{Vector}
 use Rattle.scene_format.specs.Bytes.{byteAt, doubleAt, vectorAt}
-use Rattle.scene_format.specs.Format.{axes, ruleOf, criterionOf, summationOf, minPressureIterOffset}
+use Rattle.scene_format.specs.Format.{axesOf, ruleOf, criterionOf, summationOf, minPressureIterOffset}
 use Rattle.scene_format.specs.Format.{maxPressureIterOffset, totalStepSizeOffset}
 use Rattle.scene_format.specs.Format.{remainingTimeOffset, maxDensityErrorOffset, gravityOffset, density0Offset}
 use Rattle.scene_format.specs.Format.{keepsAt, modelAt, numberAt, weightOffset, gradientOffset, contactWidth}
@@ -18,44 +18,45 @@ use Rattle.scene_format.specs.Format.{locationsOf}
 use Rattle.scene_format.specs.Scene.{Scene, Header, FluidParticle, BoundaryParticle, Contact}
 use Rattle.scene_format.specs.declared.Kind.the-variants.{Fluid, Boundary}
 
--- ---- contacts; `starts` are those of the kind of particle that they name
+-- ---- contacts, for d axes; `starts` are those of the kind of particle that they name
 
 -- the number of the named particle among all of its kind
 unfoldable pub targetAt : List ℕ → List ℕ → ℕ → ℕ
 targetAt starts b at = getD starts (modelAt b at) 0 + numberAt b at
 
-unfoldable pub contactAt : List ℕ → List ℕ → ℕ → Contact
-contactAt starts b at =
+unfoldable pub contactAt : ℕ → List ℕ → List ℕ → ℕ → Contact
+contactAt d starts b at =
     record {
       target = targetAt starts b at;
       weight = doubleAt b (at + weightOffset);
-      gradient = vectorAt axes b (at + gradientOffset);
+      gradient = vectorAt d b (at + gradientOffset);
     }
 
-unfoldable pub contactList : List ℕ → List ℕ → ℕ → ℕ → List Contact
-contactList starts b n at = table n (λ k. contactAt starts b (at + contactWidth axes * k))
+unfoldable pub contactList : ℕ → List ℕ → List ℕ → ℕ → ℕ → List Contact
+contactList d starts b n at = table n (λ k. contactAt d starts b (at + contactWidth d * k))
 
 -- ---- records
 
 -- of the starts of fluids and of boundaries
 unfoldable pub fluidParticleAt : List ℕ → List ℕ → List ℕ → Location → FluidParticle
 fluidParticleAt fs bs b p =
+    let d = axesOf b in
     let at = p .at in
     record {
       density0 = doubleAt b (p .head + density0Offset);
-      position = vectorAt axes b at;
-      velocity = vectorAt axes b (at + velocityOffset axes);
-      acceleration = vectorAt axes b (at + accelerationOffset axes);
-      volume = doubleAt b (at + volumeOffset axes);
-      warmPressure = doubleAt b (at + warmPressureOffset axes);
-      fluidContacts = contactList fs b (contactCount Fluid b at) (contactsStart Fluid b at);
-      boundaryContacts = contactList bs b (contactCount Boundary b at) (contactsStart Boundary b at);
+      position = vectorAt d b at;
+      velocity = vectorAt d b (at + velocityOffset d);
+      acceleration = vectorAt d b (at + accelerationOffset d);
+      volume = doubleAt b (at + volumeOffset d);
+      warmPressure = doubleAt b (at + warmPressureOffset d);
+      fluidContacts = contactList d fs b (contactCount Fluid b at) (contactsStart Fluid b at);
+      boundaryContacts = contactList d bs b (contactCount Boundary b at) (contactsStart Boundary b at);
     }
 
 -- a boundary that keeps no forces has none in its records
 unfoldable pub forceAt : ℕ → List ℕ → ℕ → Vector
 forceAt zero b at = []
-forceAt (suc k) b at = vectorAt axes b at
+forceAt (suc k) b at = vectorAt (axesOf b) b at
 
 -- the weights of n contacts of a boundary particle
 abbrev pub boundaryWeights : List ℕ → ℕ → ℕ → List Float
@@ -63,13 +64,14 @@ boundaryWeights b n at = table n (λ j. doubleAt b (at + boundaryContactWidth * 
 
 unfoldable pub boundaryParticleAt : List ℕ → Location → BoundaryParticle
 boundaryParticleAt b p =
+    let d = axesOf b in
     let at = p .at in
     let k = keepsAt b (p .head) in
     record {
-      velocity = vectorAt axes b at;
+      velocity = vectorAt d b at;
       keepsForces = eqb k 1;
-      force = forceAt k b (at + forceOffset axes);
-      weights = boundaryWeights b (boundaryContactCount b k at) (at + boundaryRecordWidth axes k);
+      force = forceAt k b (at + forceOffset d);
+      weights = boundaryWeights b (boundaryContactCount b k at) (at + boundaryRecordWidth d k);
     }
 
 -- ---- the scene
@@ -77,7 +79,7 @@ boundaryParticleAt b p =
 unfoldable pub headerOf : List ℕ → Header
 headerOf b =
     record {
-      axes = axes;
+      axes = axesOf b;
       criterion = criterionOf (ruleOf b);
       summation = summationOf (ruleOf b);
       minPressureIter = byteAt b minPressureIterOffset;
@@ -85,7 +87,7 @@ headerOf b =
       totalStepSize = doubleAt b totalStepSizeOffset;
       remainingTime = doubleAt b remainingTimeOffset;
       maxDensityError = doubleAt b maxDensityErrorOffset;
-      gravity = vectorAt axes b gravityOffset;
+      gravity = vectorAt (axesOf b) b gravityOffset;
     }
 
 unfoldable pub sceneOf : List ℕ → Scene

@@ -1,5 +1,12 @@
-// Where things stand in a packed scene, in bytes unless said otherwise, as specs/Format.antt says (FORMAT 1).
-pub const AXES: usize = 3;
+// Where things stand in a packed scene, in bytes unless said otherwise, as specs/Format.antt says (FORMAT 1). What
+// depends on the number of axes is a function of it.
+ghost use mathlib.Core.Path.{_≡_};
+ghost use Prim.Native.Nat.{_<_};
+ghost use Rattle.scene_format.specs.Format.{vectorWidth, headerDoubles, headerWidth, contactDoubles};
+ghost use Rattle.scene_format.specs.Format.{contactWidth, recordDoubles, accelerationOffset, volumeOffset};
+ghost use Rattle.scene_format.specs.Format.{warmPressureOffset, contactCountOffset, recordWidth};
+ghost use Rattle.scene_format.specs.Format.{boundaryRecordDoubles, boundaryCountOffset};
+ghost use Rattle.scene_format.specs.declared.Kind.the-variants.{Fluid};
 
 // At most so many models of a kind, and so many particles of a model.
 pub const MAX_MODELS: usize = 8;
@@ -13,20 +20,15 @@ pub const NAMEABLE_PARTICLES: usize = 4096;
 
 pub const DOUBLE_WIDTH: usize = 8;
 
-// A vector has a double for each axis; in it, those of the second and the third.
-pub const VECTOR_WIDTH: usize = DOUBLE_WIDTH * AXES;
-
-pub const Y: usize = DOUBLE_WIDTH;
-
-pub const Z: usize = 2 * DOUBLE_WIDTH;
-
 // Half a byte, four bits, has so many values.
 pub const HALF_MODULUS: usize = 16;
 
-// The header: the first version and the last, the numbers that stand by themselves, then gravity.
+// The header: the versions, then the numbers that stand by themselves, then gravity.
 pub const FIRST_VERSION: usize = 1;
 
-pub const LAST_VERSION: usize = 2;
+pub const RULED_VERSION: usize = 2;
+
+pub const FLAT_VERSION: usize = 4;
 
 // The greatest rule; a rule is a criterion and a summation, the criterion in its lowest bit.
 pub const LAST_RULE: usize = 3;
@@ -39,11 +41,9 @@ pub const MAX_PRESSURE_ITER: usize = 3;
 
 pub const TOTAL_STEP_SIZE: usize = 4;
 
-pub const GRAVITY: usize = TOTAL_STEP_SIZE + 3 * DOUBLE_WIDTH;
+const HEADER_NUMBERS: usize = 3;
 
-pub const HEADER_DOUBLES: usize = 3 + AXES;
-
-pub const HEADER_WIDTH: usize = GRAVITY + VECTOR_WIDTH;
+pub const GRAVITY: usize = TOTAL_STEP_SIZE + HEADER_NUMBERS * DOUBLE_WIDTH;
 
 // A model's head: the count, of which a boundary leaves the first bit to "keeps forces", and a fluid's rest density.
 pub const COUNT_WIDTH: usize = 2;
@@ -61,31 +61,103 @@ pub const CONTACT_WEIGHT: usize = NAME_WIDTH;
 
 pub const CONTACT_GRADIENT: usize = CONTACT_WEIGHT + DOUBLE_WIDTH;
 
-pub const CONTACT_DOUBLES: usize = 1 + AXES;
-
-pub const CONTACT_WIDTH: usize = CONTACT_GRADIENT + VECTOR_WIDTH;
-
 pub const BOUNDARY_CONTACT_DOUBLES: usize = 1;
 
 pub const BOUNDARY_CONTACT_WIDTH: usize = CONTACT_GRADIENT;
 
-// A fluid record: its doubles, where they stand behind the position, its two counts of contacts, and its width before
-// the contacts.
-pub const RECORD_DOUBLES: usize = 3 * AXES + 2;
+// A byte, such as a number of axes, as a wider number.
+pub fn wide(dim: u8) -> usize
+    ensures { λ r. ⌜ (r ≡ dim) × (r < 256) ⌝ }
+{
+    dim as usize
+}
 
-pub const VELOCITY: usize = VECTOR_WIDTH;
+// A vector has a double for each axis.
+pub fn vector_width(dim: u8) -> usize
+    ensures { λ r. ⌜ (r ≡ vectorWidth dim) × (r < 2048) ⌝ }
+{
+    DOUBLE_WIDTH * wide(dim)
+}
 
-pub const ACCELERATION: usize = 2 * VECTOR_WIDTH;
+// Of the header: its doubles, and its width.
+pub fn header_doubles(dim: u8) -> usize
+    ensures { λ r. ⌜ r ≡ headerDoubles dim ⌝ }
+{
+    HEADER_NUMBERS + wide(dim)
+}
 
-pub const VOLUME: usize = 3 * VECTOR_WIDTH;
+pub fn header_width(dim: u8) -> usize
+    ensures { λ r. ⌜ r ≡ headerWidth dim ⌝ }
+{
+    GRAVITY + vector_width(dim)
+}
 
-pub const WARM_PRESSURE: usize = VOLUME + DOUBLE_WIDTH;
+// Of a contact in a fluid record: its doubles, and its width.
+pub fn contact_doubles(dim: u8) -> usize
+    ensures { λ r. ⌜ r ≡ contactDoubles dim ⌝ }
+{
+    1 + wide(dim)
+}
 
-pub const FLUID_CONTACTS: usize = WARM_PRESSURE + DOUBLE_WIDTH;
+pub fn contact_width(dim: u8) -> usize
+    ensures { λ r. ⌜ (r ≡ contactWidth dim) × (r < 4096) ⌝ }
+{
+    CONTACT_GRADIENT + vector_width(dim)
+}
 
-pub const BOUNDARY_CONTACTS: usize = FLUID_CONTACTS + 1;
+// Of a fluid record: its doubles, and where they stand; position and velocity are in front.
+pub fn record_doubles(dim: u8) -> usize
+    ensures { λ r. ⌜ r ≡ recordDoubles dim ⌝ }
+{
+    3 * wide(dim) + 2
+}
 
-pub const RECORD_WIDTH: usize = BOUNDARY_CONTACTS + 1;
+pub fn acceleration(dim: u8) -> usize
+    ensures { λ r. ⌜ (r ≡ accelerationOffset dim) × (r < 8192) ⌝ }
+{
+    2 * vector_width(dim)
+}
 
-// The force in a boundary record that keeps forces, behind the velocity.
-pub const KEPT_FORCE: usize = VECTOR_WIDTH;
+pub fn volume(dim: u8) -> usize
+    ensures { λ r. ⌜ (r ≡ volumeOffset dim) × (r < 8192) ⌝ }
+{
+    3 * vector_width(dim)
+}
+
+pub fn warm_pressure(dim: u8) -> usize
+    ensures { λ r. ⌜ (r ≡ warmPressureOffset dim) × (r < 8192) ⌝ }
+{
+    volume(dim) + DOUBLE_WIDTH
+}
+
+// Of a fluid record: where its two counts of contacts stand, that of the fluid contacts first; and its width before the
+// contacts.
+pub fn contact_counts(dim: u8) -> usize
+    ensures { λ r. ⌜ (r ≡ contactCountOffset Fluid dim) × (r < 8192) ⌝ }
+{
+    warm_pressure(dim) + DOUBLE_WIDTH
+}
+
+pub fn record_width(dim: u8) -> usize
+    ensures { λ r. ⌜ (r ≡ recordWidth dim) × (r < 8192) ⌝ }
+{
+    contact_counts(dim) + 2
+}
+
+// Of a boundary record, whose boundary keeps forces if `keeps` is 1 and else does not: its doubles, velocity and force,
+// and where its count of contacts stands behind them.
+pub fn boundary_doubles(dim: u8, keeps: usize) -> usize
+    requires { ⌜ keeps < 2 ⌝ }
+    ensures { λ r. ⌜ r ≡ boundaryRecordDoubles dim keeps ⌝ }
+{
+    let axes = wide(dim);
+    axes + axes * keeps
+}
+
+pub fn boundary_count(dim: u8, keeps: usize) -> usize
+    requires { ⌜ keeps < 2 ⌝ }
+    ensures { λ r. ⌜ (r ≡ boundaryCountOffset dim keeps) × (r < 4096) ⌝ }
+{
+    let width = vector_width(dim);
+    width + width * keeps
+}

@@ -6,46 +6,41 @@ use crate::ModelNumber;
 use crate::ParticleNumber;
 use crate::Summation;
 use crate::format::BOUNDARY_CONTACT_WIDTH;
-use crate::format::BOUNDARY_CONTACTS;
 use crate::format::BOUNDARY_COUNT_MODULUS;
-use crate::format::CONTACT_WIDTH;
 use crate::format::COUNT_WIDTH;
 use crate::format::CRITERIA;
+use crate::format::DOUBLE_WIDTH;
 use crate::format::FIRST_VERSION;
-use crate::format::FLUID_CONTACTS;
+use crate::format::FLAT_VERSION;
 use crate::format::FLUID_HEAD_WIDTH;
 use crate::format::HALF_MODULUS;
 use crate::format::LAST_RULE;
 use crate::format::NAMEABLE_PARTICLES;
-use crate::format::RECORD_WIDTH;
-use crate::format::VECTOR_WIDTH;
-use crate::format::Y;
-use crate::format::Z;
+use crate::format::boundary_count;
+use crate::format::contact_counts;
+use crate::format::contact_width;
+use crate::format::wide;
+use math::PLANE;
+use math::SPACE;
 use math::Vec3;
 ghost use mathlib.Core.Path.{_≡_};
 ghost use Prim.Native.Nat.{_+_, _≤_, _<_};
 ghost use lib.ListN.{length};
-ghost use Rattle.math.specs.Vector.{coordinates};
+ghost use Rattle.math.specs.Vector.{Axes, coordinates};
 ghost use lib.Dec.{eqb};
 ghost use Rattle.scene_format.specs.Bytes.{byteAt, be16At, be32At, be64At, doubleWidth, exponentAt, doubleAt};
 ghost use Rattle.scene_format.specs.Bytes.{nonFiniteExponent, plainlyFinite};
 ghost use Rattle.scene_format.specs.Bytes.{vectorAt, FiniteAt, AllFinite};
-ghost use Rattle.scene_format.specs.Format.{axes, countWidth, keepsAt, nameWidth, particlesAt, firstRecord};
+ghost use Rattle.scene_format.specs.Format.{axesOf, countWidth, keepsAt, nameWidth, particlesAt, firstRecord};
 ghost use Rattle.scene_format.specs.Format.{nextRecord, countModulus, minPressureIterOffset, modelNumber};
 ghost use Rattle.scene_format.specs.Format.{versionOf, ruleOf, mostRule, criterionOf, summationOf};
 ghost use Rattle.scene_format.specs.Within.{NameIs, RecordWithin};
 
 // A byte as a wider number.
-fn wide(x: u8) -> u64
+fn wider(x: u8) -> u64
     ensures { λ r. ⌜ (r ≡ x) × (r < 256) ⌝ }
 {
     x as u64
-}
-
-fn size(x: u8) -> usize
-    ensures { λ r. ⌜ (r ≡ x) × (r < 256) ⌝ }
-{
-    x as usize
 }
 
 // The byte at an offset.
@@ -53,7 +48,7 @@ pub fn byte(s: &[u8], at: usize) -> usize
     requires { ⌜ at < length (now s) ⌝ }
     ensures { λ r. ⌜ (r ≡ byteAt (now (s .entry)) at) × (r < 256) ⌝ }
 {
-    size(s[at])
+    wide(s[at])
 }
 
 // The number in two bytes, the first of which has the upper bits.
@@ -61,14 +56,14 @@ pub fn be16(s: &[u8], at: usize) -> usize
     requires { ⌜ at + 2 ≤ length (now s) ⌝ }
     ensures { λ r. ⌜ (r ≡ be16At (now (s .entry)) at) × (r < 65536) ⌝ }
 {
-    size(s[at]) * 256 + size(s[at + 1])
+    wide(s[at]) * 256 + wide(s[at + 1])
 }
 
 fn be32(s: &[u8], at: usize) -> u64
     requires { ⌜ at + 4 ≤ length (now s) ⌝ }
     ensures { λ r. ⌜ (r ≡ be32At (now (s .entry)) at) × (r < 4294967296) ⌝ }
 {
-    ((wide(s[at]) * 256 + wide(s[at + 1])) * 256 + wide(s[at + 2])) * 256 + wide(s[at + 3])
+    ((wider(s[at]) * 256 + wider(s[at + 1])) * 256 + wider(s[at + 2])) * 256 + wider(s[at + 3])
 }
 
 // In the first two bytes of a double, the sign comes first, then the exponent, then the front of the fraction.
@@ -126,15 +121,15 @@ pub fn double(s: &[u8], at: usize) -> f64
     f64::from_bits(be64(s, at))
 }
 
-// The vector at an offset, whose doubles are finite.
-pub fn vector(s: &[u8], at: usize) -> Vec3
-    requires { ⌜ AllFinite (now s) at axes ⌝ }
-    ensures { λ r. ⌜ coordinates r ≡ vectorAt axes (now (s .entry)) at ⌝ }
+// The vector at an offset, whose doubles are finite. In the plane y is read twice, since a branch would cost more.
+pub fn vector(s: &[u8], at: usize, dim: u8) -> Vec3
+    requires { ⌜ Axes dim × AllFinite (now s) at dim ⌝ }
+    ensures { λ r. ⌜ coordinates dim r ≡ vectorAt dim (now (s .entry)) at ⌝ }
 {
     Vec3 {
         x: double(s, at),
-        y: double(s, at + Y),
-        z: double(s, at + Z),
+        y: double(s, at + DOUBLE_WIDTH),
+        z: double(s, at + DOUBLE_WIDTH * (wide(dim) - 1)),
     }
 }
 
@@ -158,6 +153,20 @@ pub fn model_number(s: &[u8], kind: Kind) -> usize
     match kind {
         Kind::Fluid => byte(s, 0) % HALF_MODULUS,
         Kind::Boundary => byte(s, 1) / HALF_MODULUS,
+    }
+}
+
+// The number of axes, by the version; of no bytes, that of every version but the flat one.
+pub fn axes(s: &[u8]) -> u8
+    ensures { λ r. ⌜ (r ≡ axesOf (now (s .entry))) × Axes r ⌝ }
+{
+    if s.len() == 0 {
+        return SPACE;
+    }
+    if byte(s, 0) / HALF_MODULUS == FLAT_VERSION {
+        PLANE
+    } else {
+        SPACE
     }
 }
 
@@ -240,13 +249,15 @@ pub fn next_record(s: &[u8], kind: Kind, head: usize, at: usize) -> usize
     requires { ⌜ RecordWithin kind (now s) head at ⌝ }
     ensures { λ r. ⌜ r ≡ nextRecord kind (now (s .entry)) head at ⌝ }
 {
+    let dim = axes(s);
     match kind {
         Kind::Fluid => {
-            let contacts = byte(s, at + FLUID_CONTACTS) + byte(s, at + BOUNDARY_CONTACTS);
-            at + RECORD_WIDTH + CONTACT_WIDTH * contacts
+            let counts = contact_counts(dim);
+            let contacts = byte(s, at + counts) + byte(s, at + (counts + 1));
+            at + (counts + 2) + contact_width(dim) * contacts
         }
         Kind::Boundary => {
-            let count = VECTOR_WIDTH + VECTOR_WIDTH * keeps(s, head);
+            let count = boundary_count(dim, keeps(s, head));
             let contacts = byte(s, at + count);
             at + (count + 1) + BOUNDARY_CONTACT_WIDTH * contacts
         }

@@ -8,10 +8,11 @@ use lib.ListN.{length, getD, length-map}
 use Rattle.lists.specs.Stores.{Part}
 use Rattle.lists.proofs.Lists.{table-at}
 use Rattle.lists.proofs.Numbering.{getD-map, length-starts}
+use Rattle.scene_check.specs.Accepted.{TargetOk}
 use Rattle.scene_check.proofs.Accepted.{accepted}
 use Rattle.scene_check.proofs.Records.{boundary-particle-ok}
 use Rattle.scene_format.specs.Bytes.{AllFinite, vectorAt}
-use Rattle.scene_format.specs.Format.{axes, mostOfAKind, nameableParticles, countsOf, startsOf, Location, nowhere}
+use Rattle.scene_format.specs.Format.{axesOf, mostOfAKind, nameableParticles, countsOf, startsOf, Location, nowhere}
 use Rattle.scene_format.specs.Format.{locationsOf, locationOf}
 use Rattle.scene_format.specs.Scene.{fluidSize, boundarySize, sizeOf, boundary}
 use Rattle.scene_format.specs.SceneOf.{targetAt, boundaryParticleAt, sceneOf}
@@ -21,7 +22,6 @@ use Rattle.scene_format.specs.declared.Kind.{Kind}
 use Rattle.scene_format.specs.declared.Kind.the-variants.{Fluid, Boundary}
 use Rattle.scene_layout.proofs.Locations.{length-counts, size-locations}
 use Rattle.scene_walk.specs.Accepted.{HeaderOk}
-use Rattle.scene_index.specs.Contacts.{ContactReady}
 use Rattle.scene_index.specs.Index.{blockSize, modelBlocks, basesLength, basesAt, headsAt, recordsAt}
 use Rattle.scene_index.specs.Index.{indexNeeded, baseOf, basesOf, entryOf, Indexed}
 use Rattle.scene_index.proofs.Sections.{length-bases, bases-part, records-part, heads-part}
@@ -44,13 +44,13 @@ module _ {b index : List ℕ} (ix : Indexed b index) (κ : Kind) (at : ℕ) wher
   within Boundary = omega arith
 
   -- the block of a name that is there is one of the kind's
-  block-below : {name : ContactName} → NameIs b at name → ContactReady κ b at
+  block-below : {name : ContactName} → NameIs b at name → TargetOk κ b at
       → modelBlocks * name .model .0 + name .particle .0 / blockSize < basesLength κ b
   block-below {name} is ready =
       let few : name .particle .0 < nameableParticles = omega (arith, is .particle) in
-      omega (arith, ready .target .model, length-starts 0 (countsOf κ b), length-counts κ b, is .model)
+      omega (arith, ready .model, length-starts 0 (countsOf κ b), length-counts κ b, is .model)
 
-  target-is : {name : ContactName} → NameIs b at name → ContactReady κ b at
+  target-is : {name : ContactName} → NameIs b at name → TargetOk κ b at
       → let p = name .particle .0 in
       let x = modelBlocks * name .model .0 + p / blockSize in
       getD index (basesAt κ b + x) 0 + p % blockSize ≡ targetAt (startsOf κ b) b at
@@ -69,7 +69,7 @@ module _ {b index : List ℕ} (ix : Indexed b index) (κ : Kind) (at : ℕ) wher
       rw (← is .model, ← is .particle) (omega (arith, held, whole))
 
   -- the bases of the kind begin at `from`
-  pub base-found : {name : ContactName} → NameIs b at name → ContactReady κ b at → {from : ℕ} → from ≡ basesAt κ b
+  pub base-found : {name : ContactName} → NameIs b at name → TargetOk κ b at → {from : ℕ} → from ≡ basesAt κ b
       → let p = name .particle .0 in
       let x = modelBlocks * name .model .0 + p / blockSize in
       (from + x < length index) × (getD index (from + x) 0 + p % blockSize ≡ targetAt (startsOf κ b) b at)
@@ -78,24 +78,24 @@ module _ {b index : List ℕ} (ix : Indexed b index) (κ : Kind) (at : ℕ) wher
       base-below : {x : ℕ} → x < basesLength κ b → basesAt κ b + x < length index
       base-below h = omega (arith, ix .room, within κ)
 
-  pub target-few : ContactReady κ b at → targetAt (startsOf κ b) b at < mostOfAKind
+  pub target-few : TargetOk κ b at → targetAt (startsOf κ b) b at < mostOfAKind
   unfolding sizeOf
-  target-few ready = omega (arith, few κ, ready .target .below)
+  target-few ready = omega (arith, few κ, ready .below)
     where
       few : (κ : Kind) → sizeOf κ (sceneOf b) ≤ mostOfAKind
       few Fluid = ix .fewFluid
       few Boundary = ix .fewBoundary
 
 -- the number j that a contact of each kind names is one of the scene's
-module _ {κ : Kind} {b : List ℕ} {at j : ℕ} (ready : ContactReady κ b at)
+module _ {κ : Kind} {b : List ℕ} {at j : ℕ} (ready : TargetOk κ b at)
     (named : j ≡ targetAt (startsOf κ b) b at) where
   pub fluid-named : κ ≡ Fluid → j < fluidSize (sceneOf b)
   unfolding sizeOf
-  fluid-named e = let h = rw e at (ready .target .below) in rw (named, e) h
+  fluid-named e = let h = rw e at (ready .below) in rw (named, e) h
 
   pub boundary-named : κ ≡ Boundary → j < boundarySize (sceneOf b)
   unfolding sizeOf
-  boundary-named e = let h = rw e at (ready .target .below) in rw (named, e) h
+  boundary-named e = let h = rw e at (ready .below) in rw (named, e) h
 
 -- ---- records, found through the index
 
@@ -149,9 +149,9 @@ module _ {b index : List ℕ} (ix : Indexed b index) where
 
 module _ {b index : List ℕ} (ix : Indexed b index) {j at : ℕ} (h : j < boundarySize (sceneOf b))
     (e : at ≡ locationOf Boundary b j .at) where
-  pub boundary-velocity-finite : AllFinite b at axes
+  pub boundary-velocity-finite : AllFinite b at (axesOf b)
   boundary-velocity-finite = rw e (boundary-particle-ok b (ix .accepted) j h .own .velocity)
 
-  pub boundary-velocity-at : vectorAt axes b at ≡ boundary (sceneOf b) j .velocity
+  pub boundary-velocity-at : vectorAt (axesOf b) b at ≡ boundary (sceneOf b) j .velocity
   unfolding boundaryParticleAt
   boundary-velocity-at = rw (e, boundary-particle-ok b (ix .accepted) j h .boundary)

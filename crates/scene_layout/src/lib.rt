@@ -2,8 +2,9 @@
 // scene's fields are accepted, which their callers have from the walk.
 use scene_format::Kind;
 use scene_format::Walk;
-use scene_format::format::HEADER_WIDTH;
 use scene_format::format::MAX_MODELS;
+use scene_format::format::header_width;
+use scene_format::read::axes;
 use scene_format::read::first_record;
 use scene_format::read::model_number;
 use scene_format::read::next_record;
@@ -83,7 +84,8 @@ pub fn layout_of(s: &[u8]) -> Layout
     requires { ⌜ walk.fields (now s) ≡ Walk.At (length (now s)) ⌝ }
     ensures { λ r. ⌜ r ≡ layoutOf (now (s .entry)) ⌝ }
 {
-    let fluids = models_of(s, Kind::Fluid, model_number(s, Kind::Fluid), HEADER_WIDTH);
+    let first = header_width(axes(s));
+    let fluids = models_of(s, Kind::Fluid, model_number(s, Kind::Fluid), first);
     let number = model_number(s, Kind::Boundary);
     let boundaries = models_of(s, Kind::Boundary, number, fluids.end);
     Layout { fluids, boundaries }

@@ -5,7 +5,7 @@ use Prim.Native.Nat.{ℕ, zero, suc, _+_, _*_}
 use mathlib.Core.List.{List, map}
 use lib.ListN.{getD}
 use Rattle.lists.specs.Lists.{choose, sum, table}
-use Rattle.scene_format.specs.Format.{axes, modelNumber, countsOf, keepsOf}
+use Rattle.scene_format.specs.Format.{axesOf, modelNumber, countsOf, keepsOf}
 use Rattle.scene_format.specs.Scene.{Scene, BoundaryParticle, fluidSize, boundarySize}
 use Rattle.scene_format.specs.SceneOf.{sceneOf}
 use Rattle.scene_format.specs.declared.Kind.{Kind}
@@ -70,13 +70,13 @@ needsOf b = needsAfter b (checked b)
 
 -- ---- scaffolding for the code: models of a kind, by whether each keeps forces and how many particles each has
 
--- the width of model m's particles, and the answers of the models before it
-abbrev pub widthIn : Kind → List ℕ → ℕ → ℕ
-widthIn κ keeps m = answerWidth axes κ (getD keeps m 0)
+-- the width of model m's particles, for d axes, and the answers of the models before it
+abbrev pub widthIn : ℕ → Kind → List ℕ → ℕ → ℕ
+widthIn d κ keeps m = answerWidth d κ (getD keeps m 0)
 
-unfoldable pub answersBefore : Kind → List ℕ → List ℕ → ℕ → ℕ
-answersBefore κ keeps counts m = sum (table m (λ j. widthIn κ keeps j * getD counts j 0))
+unfoldable pub answersBefore : ℕ → Kind → List ℕ → List ℕ → ℕ → ℕ
+answersBefore d κ keeps counts m = sum (table m (λ j. widthIn d κ keeps j * getD counts j 0))
 
 -- the answers of all models of a kind
 abbrev pub answersIn : Kind → List ℕ → ℕ
-answersIn κ b = answersBefore κ (keepsOf κ b) (countsOf κ b) (modelNumber κ b)
+answersIn κ b = answersBefore (axesOf b) κ (keepsOf κ b) (countsOf κ b) (modelNumber κ b)

@@ -5,31 +5,42 @@ use scene_check::check;
 use scene_format::Kind;
 use scene_format::Refusal;
 use scene_format::Summation;
-use scene_format::format::AXES;
+use scene_format::format::wide;
 use scene_format::read;
+use scene_format::read::axes;
 use scene_format::read::keeps;
 use scene_format::read::particles;
 use scene_layout::Layout;
 ghost use mathlib.Core.Path.{_≡_};
-ghost use Prim.Native.Nat.{_*_, _≤_};
-ghost use Rattle.scene_format.specs.Format.{axes, mostOfAKind};
+ghost use Prim.Native.Nat.{_*_, _≤_, _<_};
+ghost use Rattle.math.specs.Vector.{space};
+ghost use Rattle.scene_format.specs.Format.{mostOfAKind};
 ghost use Rattle.scene_format.specs.SceneOf.{sceneOf};
 ghost use Rattle.scene_check.specs.Check.{Passed};
-ghost use Rattle.scene_lengths.specs.Lengths.{answerWidth, keptAnswerWidth, addedWidth, lengthsNeeded};
+ghost use Rattle.scene_lengths.specs.Lengths.{fluidAnswerWidth, keptAnswerWidth, answerWidth, workWidth};
+ghost use Rattle.scene_lengths.specs.Lengths.{addedWidth, lengthsNeeded};
 ghost use Rattle.scene_lengths.specs.Lengths.{needsOf, answersIn};
 
 // In doubles of the answer list: of a fluid particle the position, velocity and pressure; of a boundary particle whose
 // force is kept the volume and the force.
-pub const ANSWER_WIDTH: usize = 1 + 2 * AXES;
+pub fn fluid_answer_width(dim: u8) -> usize
+    ensures { λ r. ⌜ (r ≡ fluidAnswerWidth dim) × (r < 1024) ⌝ }
+{
+    1 + 2 * wide(dim)
+}
 
-pub const ANSWER_VELOCITY: usize = AXES;
-
-pub const ANSWER_PRESSURE: usize = 2 * AXES;
-
-pub const KEPT_ANSWER_WIDTH: usize = 1 + AXES;
+pub fn kept_answer_width(dim: u8) -> usize
+    ensures { λ r. ⌜ (r ≡ keptAnswerWidth dim) × (r < 1024) ⌝ }
+{
+    1 + wide(dim)
+}
 
 // In doubles of the work list, for each fluid particle: what the passes keep of it.
-pub const WORK_WIDTH: usize = 5 + 3 * AXES;
+pub fn work_width(dim: u8) -> usize
+    ensures { λ r. ⌜ (r ≡ workWidth dim) × (r < 1024) ⌝ }
+{
+    5 + 3 * wide(dim)
+}
 
 // The length of each list.
 pub struct Lengths {
@@ -44,12 +55,18 @@ pub enum Needs {
 }
 
 // How many answers a particle has, by whether a boundary keeps forces: 1 or 0.
-pub fn answer_width(kind: Kind, keeps: usize) -> usize
-    ensures { λ r. ⌜ r ≡ answerWidth axes kind keeps ⌝ }
+pub fn answer_width(dim: u8, kind: Kind, keeps: usize) -> usize
+    ensures { λ r. ⌜ (r ≡ answerWidth dim kind keeps) × (r < 1024) ⌝ }
 {
     match kind {
-        Kind::Fluid => ANSWER_WIDTH,
-        Kind::Boundary => { if keeps == 0 { 1 } else { KEPT_ANSWER_WIDTH } }
+        Kind::Fluid => fluid_answer_width(dim),
+        Kind::Boundary => {
+            if keeps == 0 {
+                1
+            } else {
+                kept_answer_width(dim)
+            }
+        }
     }
 }
 
@@ -57,9 +74,10 @@ pub fn answer_width(kind: Kind, keeps: usize) -> usize
 fn boundary_answers(scene: &[u8], layout: Layout) -> usize
     requires { ⌜ Passed (now scene) layout ⌝ }
     ensures { λ r. ⌜
-        (r ≤ keptAnswerWidth axes * mostOfAKind) × (r ≡ answersIn Kind.Boundary (now (scene .entry)))
+        (r ≤ keptAnswerWidth space * mostOfAKind) × (r ≡ answersIn Kind.Boundary (now (scene .entry)))
         ⌝ }
 {
+    let dim = axes(scene);
     let boundaries = layout.boundaries;
     let heads = boundaries.heads;
     let number = boundaries.number;
@@ -67,7 +85,7 @@ fn boundary_answers(scene: &[u8], layout: Layout) -> usize
     let mut m = 0usize;
     while m < number {
         let head = heads[m];
-        let width = answer_width(Kind::Boundary, keeps(scene, head));
+        let width = answer_width(dim, Kind::Boundary, keeps(scene, head));
         needed += width * particles(scene, Kind::Boundary, head);
         m += 1;
     }
@@ -89,12 +107,13 @@ pub fn lengths_of(scene: &[u8], layout: Layout) -> Lengths
     requires { ⌜ Passed (now scene) layout ⌝ }
     ensures { λ r. ⌜ r ≡ lengthsNeeded (sceneOf (now (scene .entry))) ⌝ }
 {
+    let dim = axes(scene);
     let fluids = layout.fluids.total;
     let boundaries = layout.boundaries.total;
     let behind = boundary_answers(scene, layout);
-    let width = WORK_WIDTH + added_width(read::summation(scene));
+    let width = work_width(dim) + added_width(read::summation(scene));
     Lengths {
-        answers: ANSWER_WIDTH * fluids + behind,
+        answers: fluid_answer_width(dim) * fluids + behind,
         work: width * fluids + boundaries,
     }
 }

@@ -5,7 +5,7 @@ use Prim.Native.Nat.{ℕ, _+_, _*_, _≤_, _<_}
 use mathlib.Core.Path.{_≡_, refl, sym, _∙_, ap, subst}
 use mathlib.Core.Bool.{Bool, true, false, _&&_}
 use mathlib.Core.List.{List}
-use lib.Dec.{lit≤}
+use native.Mathlib.Omega.{arith}
 use borrow.Author.Tests.{ltb-true, lt-leb}
 use Rattle.lists.specs.Lists.{choose}
 use Rattle.scene_walk.specs.Walk.{fields}
@@ -33,11 +33,11 @@ use Rattle.scene_lists.proofs.Listed.{list-answered}
 -- ---- the answer
 
 -- a contact of any list has room for its name
-list-wide : (c : Contacts) → nameWidth ≤ listWidth c
+list-wide : (c : Contacts) (b : List ℕ) → nameWidth ≤ listWidth c b
 unfolding listWidth
-list-wide FluidFluid = lit≤ tt
-list-wide FluidBoundary = lit≤ tt
-list-wide BoundaryBoundary = lit≤ tt
+list-wide FluidFluid b = omega arith
+list-wide FluidBoundary b = omega arith
+list-wide BoundaryBoundary b = omega arith
 
 module _ (b : List ℕ) (c : Contacts) (m j : ℕ) where
   -- what a list that is checked is answered
@@ -52,9 +52,9 @@ module _ (b : List ℕ) (c : Contacts) (m j : ℕ) where
 
   -- the looks, told of the answer alone
   pub checked-told : {a : Looked} → listAnswer b c m j ≡ Checked a
-      → let p = ownerAt b c m j in LooksTold (listWidth c) (listCount c b p) (listStart c b p) a
+      → let p = ownerAt b c m j in LooksTold (listWidth c b) (listCount c b p) (listStart c b p) a
   unfolding listLooked
-  checked-told q = subst (LooksTold _ _ _) (checked-is q) (looks-told _ _ _ _ _ (list-wide c))
+  checked-told q = subst (LooksTold _ _ _) (checked-is q) (looks-told _ _ _ _ _ (list-wide c b))
 
 -- ---- a list that is there
 
@@ -81,7 +81,7 @@ module _ (b : List ℕ) (κ : Kind) (w : ℕ) where
 
 -- the contacts of a list all name particles
 abbrev pub ListNamed : Contacts → List ℕ → Location → Type 0
-ListNamed c b p = NamesOk (namedOf c) b (listWidth c) (listCount c b p) (listStart c b p)
+ListNamed c b p = NamesOk (namedOf c) b (listWidth c b) (listCount c b p) (listStart c b p)
 
 -- a record's do, so each of its lists' do
 pub list-named : (c : Contacts) (b : List ℕ) (p : Location) → RecordNamed (ownerOf c) b p → ListNamed c b p

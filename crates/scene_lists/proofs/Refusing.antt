@@ -10,7 +10,7 @@ use native.Mathlib.Omega.{arith}
 use Rattle.scene_walk.specs.Walk.{fields}
 use Rattle.scene_walk.proofs.Walked.{EachRecord}
 use Rattle.scene_fields.proofs.Stopped.{either-refused, then-refused, times-refused}
-use Rattle.scene_format.specs.Format.{axes, headerWidth, modelNumber, particlesAt, firstHead, headAt, countsOf}
+use Rattle.scene_format.specs.Format.{axesOf, headerWidth, modelNumber, particlesAt, firstHead, headAt, countsOf}
 use Rattle.scene_format.specs.Format.{recordAt}
 use Rattle.scene_format.specs.declared.Kind.{Kind}
 use Rattle.scene_format.specs.declared.Kind.the-variants.{Fluid, Boundary}
@@ -95,7 +95,7 @@ module _ (b : List ℕ) {end : ℕ} (q : fields b ≡ walk.At end) {at : ℕ} wh
   refused-here : (c : Contacts) (m j : ℕ) → m < modelNumber (ownerOf c) b
       → j < particlesAt (ownerOf c) b (headAt (ownerOf c) b m)
       → let p = ownerAt b c m j in
-      names b (countsOf (namedOf c) b) (listWidth c) (listCount c b p) (listStart c b p)
+      names b (countsOf (namedOf c) b) (listWidth c b) (listCount c b p) (listStart c b p)
       ≡ walk.Refused (DanglingContact at)
       → Met b c m j → RefusedList b at
   unfolding listLooked
@@ -140,7 +140,7 @@ module _ (b : List ℕ) {end : ℕ} (q : fields b ≡ walk.At end) {at : ℕ} wh
   in-names : allNames b ≡ walk.Refused (DanglingContact at) → RefusedList b at
   unfolding allNames firstHead
   in-names p =
-      elim (then-refused _ (models-names-steps b Fluid (headerWidth axes)) p) [
+      elim (then-refused _ (models-names-steps b Fluid (headerWidth (axesOf b))) p) [
         | inl f ↦ of-fluid (record-refused Fluid b f)
         | inr h ↦ of-boundary (h .0) (record-refused Boundary b (h .1))
       ]

@@ -5,7 +5,7 @@ use mathlib.Core.List.{List}
 use lib.Dec.{ltb}
 use Rattle.lists.specs.Lists.{choose}
 use Rattle.scene_walk.specs.Walk.{fields}
-use Rattle.scene_format.specs.Format.{axes, modelNumber, particlesAt, keepsAt, contactWidth, boundaryContactWidth}
+use Rattle.scene_format.specs.Format.{axesOf, modelNumber, particlesAt, keepsAt, contactWidth, boundaryContactWidth}
 use Rattle.scene_format.specs.Format.{contactCount, contactsStart, boundaryRecordWidth, boundaryContactCount, headAt}
 use Rattle.scene_format.specs.Format.{countsOf, Location, recordAt}
 use Rattle.scene_format.specs.declared.Kind.{Kind}
@@ -33,10 +33,10 @@ namedOf FluidBoundary = Boundary
 namedOf BoundaryBoundary = Boundary
 
 -- of the record at p: the bytes of a contact, how many there are, and where the first stands
-unfoldable pub listWidth : Contacts → ℕ
-listWidth FluidFluid = contactWidth axes
-listWidth FluidBoundary = contactWidth axes
-listWidth BoundaryBoundary = boundaryContactWidth
+unfoldable pub listWidth : Contacts → List ℕ → ℕ
+listWidth FluidFluid b = contactWidth (axesOf b)
+listWidth FluidBoundary b = contactWidth (axesOf b)
+listWidth BoundaryBoundary b = boundaryContactWidth
 
 unfoldable pub listCount : Contacts → List ℕ → Location → ℕ
 listCount FluidFluid b p = contactCount Fluid b (p .at)
@@ -46,11 +46,11 @@ listCount BoundaryBoundary b p = boundaryContactCount b (keepsAt b (p .head)) (p
 unfoldable pub listStart : Contacts → List ℕ → Location → ℕ
 listStart FluidFluid b p = contactsStart Fluid b (p .at)
 listStart FluidBoundary b p = contactsStart Boundary b (p .at)
-listStart BoundaryBoundary b p = p .at + boundaryRecordWidth axes (keepsAt b (p .head))
+listStart BoundaryBoundary b p = p .at + boundaryRecordWidth (axesOf b) (keepsAt b (p .head))
 
 -- its check
 unfoldable pub listLooked : Contacts → List ℕ → Location → Looked
-listLooked c b p = namesLooked b (countsOf (namedOf c) b) (listWidth c) (listCount c b p) (listStart c b p)
+listLooked c b p = namesLooked b (countsOf (namedOf c) b) (listWidth c b) (listCount c b p) (listStart c b p)
 
 -- ---- the answer
 

@@ -17,7 +17,7 @@ use Rattle.scene_lists.specs.declared.ListAnswer.the-variants.{Checked}
 -- a list of the record at p that is passed: the walk ends behind its last contact, each is looked at once
 abbrev pub listPassed : Contacts → List ℕ → Location → Looked
 listPassed c b p =
-    record { walk = walk.At (listStart c b p + listWidth c * listCount c b p); looks = listCount c b p }
+    record { walk = walk.At (listStart c b p + listWidth c b * listCount c b p); looks = listCount c b p }
 
 -- the list c of particle j of model m comes before the list c′ of particle j′ of model m′: fluids before boundaries,
 -- then model by model, particle by particle, and contacts with fluids before those with boundaries

@@ -6,12 +6,11 @@ use scene_format::Kind;
 use scene_format::Refusal;
 use scene_format::Walk;
 use scene_format::format::BOUNDARY_CONTACT_WIDTH;
-use scene_format::format::BOUNDARY_CONTACTS;
-use scene_format::format::CONTACT_WIDTH;
-use scene_format::format::FLUID_CONTACTS;
 use scene_format::format::NAMEABLE_MODELS;
-use scene_format::format::RECORD_WIDTH;
-use scene_format::format::VECTOR_WIDTH;
+use scene_format::format::boundary_count;
+use scene_format::format::contact_counts;
+use scene_format::format::contact_width;
+use scene_format::read::axes;
 use scene_format::read::byte;
 use scene_format::read::keeps;
 use scene_format::read::particles;
@@ -91,24 +90,23 @@ fn list_looked(
     requires { ⌜ CountsOfKind (namedOf contacts) (now s) (now counts) ⌝ }
     ensures { λ r. ⌜ r ≡ listLooked contacts (now (s .entry)) (record { head = head; at = at }) ⌝ }
 {
+    let dim = axes(s);
     match contacts {
         Contacts::FluidFluid => {
-            let n = byte(s, at + FLUID_CONTACTS);
-            names(s, counts, CONTACT_WIDTH, n, at + RECORD_WIDTH)
+            let count = contact_counts(dim);
+            let width = contact_width(dim);
+            let n = byte(s, at + count);
+            names(s, counts, width, n, at + (count + 2))
         }
         Contacts::FluidBoundary => {
-            let before = byte(s, at + FLUID_CONTACTS);
-            let n = byte(s, at + BOUNDARY_CONTACTS);
-            names(
-                s,
-                counts,
-                CONTACT_WIDTH,
-                n,
-                at + RECORD_WIDTH + CONTACT_WIDTH * before,
-            )
+            let count = contact_counts(dim);
+            let width = contact_width(dim);
+            let before = byte(s, at + count);
+            let n = byte(s, at + (count + 1));
+            names(s, counts, width, n, at + (count + 2) + width * before)
         }
         Contacts::BoundaryBoundary => {
-            let count = VECTOR_WIDTH + VECTOR_WIDTH * keeps(s, head);
+            let count = boundary_count(dim, keeps(s, head));
             let n = byte(s, at + count);
             names(s, counts, BOUNDARY_CONTACT_WIDTH, n, at + (count + 1))
         }

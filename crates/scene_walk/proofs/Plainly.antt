@@ -13,7 +13,7 @@ use Rattle.scene_fields.specs.Fields.{_▹_, times, double}
 use Rattle.scene_fields.proofs.Found.{double-there}
 use Rattle.scene_fields.proofs.Walks.{plain-there, parts-there}
 use Rattle.scene_format.specs.Bytes.{Bytes, doubleWidth}
-use Rattle.scene_format.specs.Format.{nameWidth}
+use Rattle.scene_format.specs.Format.{nameWidth, contactDoubles, contactWidth}
 use Rattle.scene_format.specs.declared.Walk.the-variants.{At}
 use Rattle.scene_format.proofs.Exponents.{plainly-finite}
 use Rattle.scene_walk.specs.Plainly.{every, doublesPlainlyFinite, contactBytes, contactsPlainlyFinite}
@@ -83,9 +83,17 @@ module _ (b : List ℕ) (bytes : Bytes b) where
       rw (plain-there b nameWidth at (omega arith), doubles-there d (at + nameWidth) (omega arith) t)
       (ap At (omega arith))
 
-  pub contacts-there : (d n at : ℕ) → at + contactBytes d * n ≤ length b → contactsPlainlyFinite b d n at ≡ true
+  contacts-there : (d n at : ℕ) → at + contactBytes d * n ≤ length b → contactsPlainlyFinite b d n at ≡ true
       → times n (contact d b) at ≡ At (at + contactBytes d * n)
   unfolding contactsPlainlyFinite
   contacts-there d n at h t =
       parts-there _ (contactBytes d) n at
       (λ k l. contact-there d _ (part-within (contactBytes d) n at _ h l) (every-holds _ n t k l))
+
+  -- contacts of fluid records, for d axes
+  pub fluid-contacts-there : (d n at : ℕ) → at + contactWidth d * n ≤ length b
+      → contactsPlainlyFinite b (contactDoubles d) n at ≡ true
+      → times n (contact (contactDoubles d) b) at ≡ At (at + contactWidth d * n)
+  fluid-contacts-there d n at h t =
+      let e : at + contactBytes (contactDoubles d) * n ≡ at + contactWidth d * n = omega arith in
+      contacts-there (contactDoubles d) n at (omega (arith, h)) t ∙ ap At e

@@ -1,7 +1,7 @@
 -- What holds of a packed scene whose fields are accepted (refusals 1 to 6): every field is there and meets its rule,
 -- and records and models end within the bytes. The walk over the fields is taken apart by the laws of Reached, models
 -- once for both kinds. Assumes nothing.
-use Prim.Native.Nat.{ℕ, zero, suc, _+_, _*_, _<_, _≤_}
+use Prim.Native.Nat.{ℕ, zero, suc, _+_, _-_, _*_, _<_, _≤_}
 use mathlib.Core.Path.{_≡_, refl, sym, subst}
 use mathlib.Core.List.{List}
 use native.Mathlib.Nat.{mul-zero, mul-suc}
@@ -10,12 +10,13 @@ use lib.ListN.{length}
 use Rattle.lists.specs.Lists.{iter}
 use Rattle.scene_format.specs.Bytes.{doubleWidth, FiniteAt, AllFinite}
 use Rattle.scene_fields.specs.Fields.{_▹_, times, plain, double}
-use Rattle.scene_format.specs.Format.{axes, mostModels, mostParticles, modelNumber, headerWidth, density0Offset}
+use Rattle.scene_format.specs.Format.{axesOf, mostModels, mostParticles, modelNumber, headerWidth, density0Offset}
 use Rattle.scene_format.specs.Format.{particlesAt, keepsAt, weightOffset, contactWidth, boundaryContactWidth}
 use Rattle.scene_format.specs.Format.{recordWidth, contactCount, contactsStart, boundaryRecordWidth}
 use Rattle.scene_format.specs.Format.{boundaryContactCount, ownWidth, contactsWidth, firstRecord, nextRecord, modelEnd}
 use Rattle.scene_format.specs.Format.{firstHead, headAt, Location, recordAt, headerDoubles, contactDoubles}
 use Rattle.scene_format.specs.Format.{boundaryContactDoubles, recordDoubles, boundaryRecordDoubles}
+use Rattle.scene_format.proofs.Forms.{axes-of}
 use Rattle.scene_format.specs.declared.Kind.{Kind}
 use Rattle.scene_format.specs.declared.Kind.the-variants.{Fluid, Boundary}
 use Rattle.scene_format.specs.declared.Walk.the-variants.{At}
@@ -40,6 +41,12 @@ pub doubles-steps : (b : List ℕ) (n : ℕ)
     → Steps (times n (double b)) (λ at. at + doubleWidth * n) (λ at. AllFinite b at n)
 doubles-steps b n at = restated (parts-steps doubleWidth (double-steps b) n at) (λ h. (refl, record { each = h }))
 
+-- the last of the doubles of a vector ends within the bytes
+last-present : {b : List ℕ} {at : ℕ} → AllFinite b at (axesOf b) → at + doubleWidth * axesOf b ≤ length b
+last-present {b} {at} finite =
+    let least = axes-of b .least in
+    omega (arith, finite .each (axesOf b - 1) (omega (arith, least)) .present, least)
+
 -- ---- contacts of fluid particles
 
 -- n parts of c bytes end within the first l bytes if each of them does
@@ -48,26 +55,28 @@ parts-end c zero at l h k = omega (arith, mul-zero c)
 parts-end c (suc n) at l h k = omega (arith, k n (omega arith), mul-suc c n)
 
 module _ (b : List ℕ) where
-  contact-steps : Steps (contact (contactDoubles axes) b) (λ at. at + contactWidth axes) (ContactOk b)
+  contact-steps : Steps (contact (contactDoubles (axesOf b)) b) (λ at. at + contactWidth (axesOf b))
+      (ContactOk (axesOf b) b)
   unfolding contact
   contact-steps at =
-      restated (plain-steps b _ at then doubles-steps b (contactDoubles axes))
+      restated (plain-steps b _ at then doubles-steps b (contactDoubles (axesOf b)))
       (λ h. (
         omega arith,
         record {
           weight = finite-at (h .1) 0 (omega arith) (omega arith);
-          gradient = finite-from (h .1) 1 axes (omega arith) (omega arith);
+          gradient = finite-from (h .1) 1 (axesOf b) (omega arith) (omega arith);
         },
       ))
 
   contacts-steps : (n : ℕ)
-      → Steps (times n (contact (contactDoubles axes) b)) (λ at. at + contactWidth axes * n) (ContactsOk b n)
-  contacts-steps n = parts-steps (contactWidth axes) contact-steps n
+      → Steps (times n (contact (contactDoubles (axesOf b)) b)) (λ at. at + contactWidth (axesOf b) * n)
+      (ContactsOk (axesOf b) b n)
+  contacts-steps n = parts-steps (contactWidth (axesOf b)) contact-steps n
 
-  contacts-end : (n at : ℕ) → at ≤ length b → ContactsOk b n at → at + contactWidth axes * n ≤ length b
+  contacts-end : (n at : ℕ) → at ≤ length b → ContactsOk (axesOf b) b n at → at + contactWidth (axesOf b) * n ≤ length b
   contacts-end n at h c =
-      parts-end (contactWidth axes) n at (length b) h
-      (λ k l. omega (arith, c k l .gradient .each 2 (omega arith) .present))
+      parts-end (contactWidth (axesOf b)) n at (length b) h
+      (λ k l. omega (arith, last-present (c k l .gradient)))
 
 -- ---- records: the doubles, room for the counts, the contacts, and where they end
 
@@ -78,24 +87,24 @@ RecordOk Boundary b p = BoundaryRecordOk b (keepsAt b (p .head)) (p .at)
 
 -- of the two kinds of contacts
 both-kinds : (b : List ℕ) (at : ℕ)
-    → ContactsOk b (contactCount Fluid b at) (contactsStart Fluid b at)
-    → ContactsOk b (contactCount Boundary b at) (contactsStart Boundary b at)
-    → (κ : Kind) → ContactsOk b (contactCount κ b at) (contactsStart κ b at)
+    → ContactsOk (axesOf b) b (contactCount Fluid b at) (contactsStart Fluid b at)
+    → ContactsOk (axesOf b) b (contactCount Boundary b at) (contactsStart Boundary b at)
+    → (κ : Kind) → ContactsOk (axesOf b) b (contactCount κ b at) (contactsStart κ b at)
 both-kinds b at f g Fluid = f
 both-kinds b at f g Boundary = g
 
 module _ (b : List ℕ) where
   -- a fluid record's doubles and counts, before its contacts
   pub fluid-own-leads : (at : ℕ)
-      → Leads (times (recordDoubles axes) (double b) at ▹ plain b 1 ▹ plain b 1) (at + recordWidth axes)
-      (AllFinite b at (recordDoubles axes) × (at + recordWidth axes ≤ length b))
+      → Leads (times (recordDoubles (axesOf b)) (double b) at ▹ plain b 1 ▹ plain b 1) (at + recordWidth (axesOf b))
+      (AllFinite b at (recordDoubles (axesOf b)) × (at + recordWidth (axesOf b) ≤ length b))
   fluid-own-leads at =
-      restated (doubles-steps b (recordDoubles axes) at then plain-steps b 1 then plain-steps b 1)
+      restated (doubles-steps b (recordDoubles (axesOf b)) at then plain-steps b 1 then plain-steps b 1)
       (λ h. (omega arith, (h .0 .0, omega (arith, h .1))))
 
   fluid-record-leads : (at : ℕ)
       → Leads (fluidRecord b at)
-      (at + recordWidth axes + contactWidth axes * (contactCount Fluid b at + contactCount Boundary b at))
+      (at + recordWidth (axesOf b) + contactWidth (axesOf b) * (contactCount Fluid b at + contactCount Boundary b at))
       (FluidRecordOk b at)
   unfolding fluidRecord
   fluid-record-leads at =
@@ -108,11 +117,11 @@ module _ (b : List ℕ) where
       let e = contacts-end b _ _ m (h .1) in (
         omega arith,
         record {
-          position = finite-from d 0 axes (omega arith) (omega arith);
-          velocity = finite-from d axes axes (omega arith) (omega arith);
-          acceleration = finite-from d (2 * axes) axes (omega arith) (omega arith);
-          volume = finite-at d (3 * axes) (omega arith) (omega arith);
-          warmPressure = finite-at d (3 * axes + 1) (omega arith) (omega arith);
+          position = finite-from d 0 (axesOf b) (omega arith) (omega arith);
+          velocity = finite-from d (axesOf b) (axesOf b) (omega arith) (omega arith);
+          acceleration = finite-from d (2 * (axesOf b)) (axesOf b) (omega arith) (omega arith);
+          volume = finite-at d (3 * (axesOf b)) (omega arith) (omega arith);
+          warmPressure = finite-at d (3 * (axesOf b) + 1) (omega arith) (omega arith);
           counts = h .0 .0 .1;
           contacts = both-kinds b at (h .0 .1) (h .1);
           middle = m;
@@ -122,10 +131,11 @@ module _ (b : List ℕ) where
 
   -- a boundary record's doubles and count, before its contacts
   pub boundary-own-leads : (k at : ℕ)
-      → Leads (times (boundaryRecordDoubles axes k) (double b) at ▹ plain b 1) (at + boundaryRecordWidth axes k)
-      (AllFinite b at (boundaryRecordDoubles axes k) × (at + boundaryRecordWidth axes k ≤ length b))
+      → Leads (times (boundaryRecordDoubles (axesOf b) k) (double b) at ▹ plain b 1)
+      (at + boundaryRecordWidth (axesOf b) k)
+      (AllFinite b at (boundaryRecordDoubles (axesOf b) k) × (at + boundaryRecordWidth (axesOf b) k ≤ length b))
   boundary-own-leads k at =
-      restated (doubles-steps b (boundaryRecordDoubles axes k) at then plain-steps b 1)
+      restated (doubles-steps b (boundaryRecordDoubles (axesOf b) k) at then plain-steps b 1)
       (λ h. (omega arith, (h .0, omega (arith, h .1))))
 
   boundary-contact-steps :
@@ -137,7 +147,7 @@ module _ (b : List ℕ) where
 
   boundary-record-leads : (k at : ℕ)
       → Leads (boundaryRecord b k at)
-      (at + boundaryRecordWidth axes k + boundaryContactWidth * boundaryContactCount b k at)
+      (at + boundaryRecordWidth (axesOf b) k + boundaryContactWidth * boundaryContactCount b k at)
       (BoundaryRecordOk b k at)
   unfolding boundaryRecord
   boundary-record-leads k at =
@@ -148,8 +158,8 @@ module _ (b : List ℕ) where
       let d = h .0 .0 in (
         refl,
         record {
-          velocity = finite-from d 0 axes (omega arith) (omega arith);
-          force = finite-from d axes (axes * k) (omega arith) (omega arith);
+          velocity = finite-from d 0 (axesOf b) (omega arith) (omega arith);
+          force = finite-from d (axesOf b) ((axesOf b) * k) (omega arith) (omega arith);
           count = h .0 .1;
           weights = h .1;
           ends = parts-end boundaryContactWidth _ _ (length b) (h .0 .1) (λ j l. omega (arith, h .1 j l .present));
@@ -214,25 +224,25 @@ pub record FieldsOk (b : List ℕ) : Type 0 where
   pub ends : headAt Boundary b (modelNumber Boundary b) ≡ length b
 
 module _ (b : List ℕ) where
-  pub header-leads : Leads (header b 0) (headerWidth axes) (HeaderOk b)
+  pub header-leads : Leads (header b 0) (headerWidth (axesOf b)) (HeaderOk b)
   unfolding header HalfOk
   header-leads =
       restated (halves-steps b _ _ 0 then halves-steps b _ _ then plain-steps b 1 then plain-steps b 1 then
-      doubles-steps b (headerDoubles axes))
+      doubles-steps b (headerDoubles (axesOf b)))
       (λ h.
       let d = h .1 in
       let first = h .0 .0 .0 .0 in
       let second = h .0 .0 .0 .1 in (
-        refl,
+        omega arith,
         record {
-          room = omega (arith, d .each 5 (omega arith) .present);
+          room = omega (arith, d .each (2 + (axesOf b)) (omega arith) .present);
           version = first .1;
           few = few (first .2) (second .1);
-          rule = second .2 .1;
+          rule = second .2;
           totalStepSize = finite-at d 0 (omega arith) refl;
           remainingTime = finite-at d 1 (omega arith) refl;
           maxDensityError = finite-at d 2 (omega arith) refl;
-          gravity = finite-from d 3 axes (omega arith) refl;
+          gravity = finite-from d 3 (axesOf b) (omega arith) refl;
         },
       ))
     where

@@ -5,7 +5,7 @@ use mathlib.Core.Path.{_≡_}
 use mathlib.Core.List.{List}
 use native.Mathlib.Omega.{arith}
 use lib.ListN.{length}
-use Rattle.scene_format.specs.Format.{axes, headerWidth, countWidth, ownWidth, contactsWidth, firstRecord, nextRecord}
+use Rattle.scene_format.specs.Format.{axesOf, headerWidth, countWidth, ownWidth, contactsWidth, firstRecord, nextRecord}
 use Rattle.scene_format.specs.Format.{Location}
 use Rattle.scene_format.specs.Within.{RecordWithin, ModelWithin, ModelsWithin}
 use Rattle.scene_format.specs.declared.Kind.{Kind}
@@ -37,7 +37,7 @@ pub models-within : {b : List ℕ} → FieldsOk b → (κ : Kind) → ModelsWith
 models-within ok κ = record { few = ok .header .few κ; models = λ m l. model-within (ok .models κ m l) }
 
 module _ (b : List ℕ) {e : ℕ} (q : fields b ≡ At e) where
-  pub header-within : headerWidth axes ≤ length b
+  pub header-within : headerWidth (axesOf b) ≤ length b
   header-within = fields-accepted b q .header .room
 
   pub fields-within : (κ : Kind) → ModelsWithin κ b

@@ -3,24 +3,24 @@
 use Prim.Native.Nat.{ℕ}
 use mathlib.Core.List.{List}
 use Rattle.scene_fields.specs.Fields.{_▹_, times, plain, double, count, halves, ended}
-use Rattle.scene_format.specs.Format.{axes, versionOf, firstVersion, lastVersion, mostRule, modelNumber, particlesAt}
+use Rattle.scene_format.specs.Format.{axesOf, versionOf, mostRule, modelNumber, particlesAt}
 use Rattle.scene_format.specs.Format.{keepsAt, nameWidth, contactCount}
 use Rattle.scene_format.specs.Format.{headerDoubles, contactDoubles, boundaryContactDoubles, recordDoubles}
 use Rattle.scene_format.specs.Format.{boundaryRecordDoubles, boundaryContactCount}
 use Rattle.scene_format.specs.declared.Kind.{Kind}
 use Rattle.scene_format.specs.declared.Kind.the-variants.{Fluid, Boundary}
 use Rattle.scene_format.specs.declared.Walk.{Walk}
-use Rattle.scene_fields.specs.declared.fields.Half.the-variants.{Between, ModelCount}
+use Rattle.scene_fields.specs.declared.fields.Half.the-variants.{Version, Rule, ModelCount}
 
 -- the version and the number of fluids, the number of boundaries and the rule, the least and the most iterations; step
 -- length, remaining time, error limit and gravity
 unfoldable pub header : List ℕ → ℕ → Walk
 header b at =
-    halves b (Between firstVersion lastVersion) ModelCount at
-    ▹ halves b ModelCount (Between 0 (mostRule (versionOf b)))
+    halves b Version ModelCount at
+    ▹ halves b ModelCount (Rule (mostRule (versionOf b)))
     ▹ plain b 1
     ▹ plain b 1
-    ▹ times (headerDoubles axes) (double b)
+    ▹ times (headerDoubles (axesOf b)) (double b)
 
 -- a contact: its name, and n doubles
 unfoldable pub contact : ℕ → List ℕ → ℕ → Walk
@@ -29,16 +29,16 @@ contact n b at = plain b nameWidth at ▹ times n (double b)
 -- position, velocity, acceleration, volume, warm pressure, two counts, the contacts, each with a weight and a gradient
 unfoldable pub fluidRecord : List ℕ → ℕ → Walk
 fluidRecord b at =
-    times (recordDoubles axes) (double b) at
+    times (recordDoubles (axesOf b)) (double b) at
     ▹ plain b 1
     ▹ plain b 1
-    ▹ times (contactCount Fluid b at) (contact (contactDoubles axes) b)
-    ▹ times (contactCount Boundary b at) (contact (contactDoubles axes) b)
+    ▹ times (contactCount Fluid b at) (contact (contactDoubles (axesOf b)) b)
+    ▹ times (contactCount Boundary b at) (contact (contactDoubles (axesOf b)) b)
 
 -- velocity, force if k is 1, a count, the contacts, each with a weight
 unfoldable pub boundaryRecord : List ℕ → ℕ → ℕ → Walk
 boundaryRecord b k at =
-    times (boundaryRecordDoubles axes k) (double b) at
+    times (boundaryRecordDoubles (axesOf b) k) (double b) at
     ▹ plain b 1
     ▹ times (boundaryContactCount b k at) (contact boundaryContactDoubles b)
 

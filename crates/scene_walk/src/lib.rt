@@ -9,19 +9,17 @@ use scene_fields::fields::halves;
 use scene_fields::fields::plain;
 use scene_format::Kind;
 use scene_format::Walk;
-use scene_format::format::AXES;
 use scene_format::format::BOUNDARY_CONTACT_DOUBLES;
-use scene_format::format::BOUNDARY_CONTACTS;
-use scene_format::format::CONTACT_DOUBLES;
-use scene_format::format::CONTACT_WIDTH;
 use scene_format::format::DOUBLE_WIDTH;
-use scene_format::format::FIRST_VERSION;
-use scene_format::format::FLUID_CONTACTS;
-use scene_format::format::HEADER_DOUBLES;
-use scene_format::format::LAST_VERSION;
 use scene_format::format::NAME_WIDTH;
-use scene_format::format::RECORD_DOUBLES;
-use scene_format::format::VECTOR_WIDTH;
+use scene_format::format::boundary_count;
+use scene_format::format::boundary_doubles;
+use scene_format::format::contact_counts;
+use scene_format::format::contact_doubles;
+use scene_format::format::contact_width;
+use scene_format::format::header_doubles;
+use scene_format::format::record_doubles;
+use scene_format::read::axes;
 use scene_format::read::byte;
 use scene_format::read::keeps;
 use scene_format::read::model_number;
@@ -34,7 +32,7 @@ ghost use lib.ListN.{length};
 ghost use Rattle.scene_fields.specs.Fields.{_▹_, times};
 ghost use Rattle.scene_fields.specs.Fields as steps;
 ghost use Rattle.scene_format.specs.Bytes.{doubleWidth};
-ghost use Rattle.scene_format.specs.Format.{axes, contactDoubles, minPressureIterOffset, countWidth};
+ghost use Rattle.scene_format.specs.Format.{contactDoubles, minPressureIterOffset, countWidth};
 ghost use Rattle.scene_walk.specs.Plainly.{contactBytes, doublesPlainlyFinite, contactsPlainlyFinite};
 ghost use Rattle.scene_walk.specs.Walk as walk;
 
@@ -52,19 +50,18 @@ fn plain_on(s: &[u8], k: usize, w: Walk) -> Walk
 fn header(s: &[u8], from: usize) -> Walk
     ensures { λ r. ⌜ r ≡ walk.header (now (s .entry)) from ⌝ }
 {
-    let version = Half::Between(FIRST_VERSION, LAST_VERSION);
-    let fluids = halves(s, version, Half::ModelCount, from);
+    let fluids = halves(s, Half::Version, Half::ModelCount, from);
     let Walk::At(at) = fluids else {
         return fluids;
     };
-    let rule = Half::Between(0, most_rule(s));
+    let rule = Half::Rule(most_rule(s));
     let boundaries = halves(s, Half::ModelCount, rule, at);
     let min_pressure_iter = plain_on(s, 1, boundaries);
     let max_pressure_iter = plain_on(s, 1, min_pressure_iter);
     let Walk::At(at) = max_pressure_iter else {
         return max_pressure_iter;
     };
-    doubles(s, HEADER_DOUBLES, at)
+    doubles(s, header_doubles(axes(s)), at)
 }
 
 // A contact: its name and d doubles.
@@ -129,31 +126,34 @@ fn contacts_plainly_finite(s: &[u8], d: usize, n: usize, from: usize) -> bool
 
 // n contacts of a fluid record, as many as two bytes count. Nearly always they are there and plainly finite, which one
 // look at each double tells; where it does not hold of all, the walk goes from field to field.
-fn fluid_contacts(s: &[u8], n: usize, from: usize) -> Walk
+fn fluid_contacts(s: &[u8], dim: u8, n: usize, from: usize) -> Walk
     requires { ⌜ n < 2 * 256 ⌝ }
-    ensures { λ r. ⌜ r ≡ times n (walk.contact (contactDoubles axes) (now (s .entry))) from ⌝ }
+    ensures { λ r. ⌜ r ≡ times n (walk.contact (contactDoubles dim) (now (s .entry))) from ⌝ }
 {
-    let w = plain(s, CONTACT_WIDTH * n, from);
+    let d = contact_doubles(dim);
+    let w = plain(s, contact_width(dim) * n, from);
     if let Walk::At(_) = w {
-        if contacts_plainly_finite(s, CONTACT_DOUBLES, n, from) {
+        if contacts_plainly_finite(s, d, n, from) {
             return w;
         }
     }
-    contacts(s, CONTACT_DOUBLES, n, from)
+    contacts(s, d, n, from)
 }
 
 // A fluid particle. Its contacts of both kinds are one list.
 fn fluid_record(s: &[u8], from: usize) -> Walk
     ensures { λ r. ⌜ r ≡ walk.fluidRecord (now (s .entry)) from ⌝ }
 {
-    let own = doubles(s, RECORD_DOUBLES, from);
+    let dim = axes(s);
+    let own = doubles(s, record_doubles(dim), from);
     let fluids = plain_on(s, 1, own);
     let boundaries = plain_on(s, 1, fluids);
     let Walk::At(at) = boundaries else {
         return boundaries;
     };
-    let n = byte(s, from + FLUID_CONTACTS) + byte(s, from + BOUNDARY_CONTACTS);
-    fluid_contacts(s, n, at)
+    let counts = contact_counts(dim);
+    let n = byte(s, from + counts) + byte(s, from + (counts + 1));
+    fluid_contacts(s, dim, n, at)
 }
 
 // A boundary particle, of a boundary that keeps forces if k is 1.
@@ -161,12 +161,13 @@ fn boundary_record(s: &[u8], k: usize, from: usize) -> Walk
     requires { ⌜ k < 2 ⌝ }
     ensures { λ r. ⌜ r ≡ walk.boundaryRecord (now (s .entry)) k from ⌝ }
 {
-    let own = doubles(s, AXES + AXES * k, from);
+    let dim = axes(s);
+    let own = doubles(s, boundary_doubles(dim, k), from);
     let boundaries = plain_on(s, 1, own);
     let Walk::At(at) = boundaries else {
         return boundaries;
     };
-    let count = VECTOR_WIDTH + VECTOR_WIDTH * k;
+    let count = boundary_count(dim, k);
     contacts(s, BOUNDARY_CONTACT_DOUBLES, byte(s, from + count), at)
 }
 

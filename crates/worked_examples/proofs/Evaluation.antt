@@ -15,7 +15,9 @@ use Rattle.scene_format.specs.Scene
 use Rattle.scene_format.specs.SceneOf
 use Rattle.scene_fields.specs.Fields
 use Rattle.scene_walk.specs.Walk as walk
+use Rattle.scene_check.specs.Looks
 use Rattle.scene_check.specs.Walk as check
+use Rattle.scene_lists.specs.Lists as listed
 use Rattle.scene_lengths.specs.Lengths
 use Rattle.iisph_rules.specs.Coefficients
 use Rattle.iisph_rules.specs.Iteration
@@ -36,14 +38,21 @@ writing = 0
 unfoldable pub walking : ℕ
 unfolding Lists.choose Lists.iter Lists.trail
     Bytes.be64At
-    Format.ownWidth Format.contactsWidth Format.nextRecord Format.modelEnd Format.firstHead Format.headsOf
-    Format.countsOf
+    Format.versionKnown Format.axesOf Format.ownWidth Format.contactsWidth Format.nextRecord Format.modelEnd
+    Format.firstHead Format.headsOf Format.countsOf
     Fields._▹_ Fields.times Fields.refusedIf Fields.field Fields.plain Fields.double Fields.count Fields.halfByte
     Fields.halves Fields.ended
     walk.header walk.contact walk.fluidRecord walk.boundaryRecord walk.recordOf walk.headOf walk.modelOf walk.modelsOf
     walk.fields
     check.name check.names check.recordNamesOf check.modelNamesOf check.modelsNamesOf check.allNames check.checked
 walking = 0
+
+-- the check of one contact list, behind that walk
+unfoldable pub looking : ℕ
+unfolding Looks.looksOf Looks.namesLooked
+    listed.ownerOf listed.namedOf listed.listWidth listed.listCount listed.listStart listed.listLooked
+    listed.listThere listed.answerAfter listed.listAnswer
+looking = 0
 
 -- a step's values, behind the check
 unfoldable pub stepping : ℕ

@@ -11,7 +11,7 @@ use lib.ListN.{length, getD, take, drop}
 use lib.Seq.{getD-take, getD-drop}
 use borrow.Author.Tests.{ltb-true}
 use Rattle.scene_format.specs.Bytes.{Bytes, byteAt}
-use Rattle.scene_format.specs.Format.{axes, contactWidth, countsOf, locationOf}
+use Rattle.scene_format.specs.Format.{axesOf, contactWidth, countsOf, locationOf}
 use Rattle.scene_format.specs.Scene.{Scene, particle}
 use Rattle.scene_format.specs.SceneOf.{sceneOf}
 use Rattle.scene_format.specs.declared.Kind.{Kind}
@@ -133,7 +133,7 @@ shape = record { header = slice-shown refl; counts = counts }
     counts Boundary = refl
 
 -- one is longer by a contact
-longer : length stirred ≡ length calm + contactWidth axes
+longer : length stirred ≡ length calm + contactWidth (axesOf calm)
 unfolding evaluated
 longer = refl
 

@@ -1,5 +1,6 @@
--- The definitions yield every worked example: those of worked_examples and worked_stopping by their theorems, the texts
--- by evaluation, for which `writing` opens every definition that a text goes through. Assumes nothing.
+-- The definitions yield every worked example: those of worked_examples, worked_stopping and worked_flat by their
+-- theorems, the texts by evaluation, for which `writing` opens every definition that a text goes through. Assumes
+-- nothing.
 use Prim.Native.Nat.{ℕ}
 use mathlib.Core.Path.{refl}
 use mathlib.Core.List.{List, map}
@@ -20,6 +21,8 @@ use Rattle.worked_stopping.specs.Stopping
 use Rattle.worked_stopping.specs.Summation
 use Rattle.worked_stopping.proofs.Stopping.{stopping-hold}
 use Rattle.worked_stopping.proofs.Summation.{summation-holds}
+use Rattle.worked_flat.specs.Flat
+use Rattle.worked_flat.proofs.Flat.{flat-forms-hold, flat-steps-hold}
 use Rattle.worked_texts.specs.Rows.{example, Holds, ascii, texts, rows}
 
 writing : ℕ
@@ -34,8 +37,10 @@ writing = 0
 
 texts-hold : All Holds texts
 unfolding writing ascii PassedOver.light PassedOver.bothInfinities PassedOver.overflowing Stopping.ruled
-    Stopping.nanBehind Stopping.limited Stopping.thin Summation.minusZero Summation.once texts
-texts-hold = refl and refl and refl and refl and refl and refl and refl and refl and refl and refl and none
+    Stopping.nanBehind Stopping.limited Stopping.thin Summation.minusZero Summation.once
+    Flat.flat Flat.headed Flat.flatA Flat.flatContact Flat.flatBoundary texts
+texts-hold =
+    refl and refl and refl and refl and refl and refl and refl and refl and refl and refl and refl and refl and none
 
 examples-hold : {rs : List worked.Row} → All worked.Holds rs → All Holds (map example rs)
 examples-hold none = none
@@ -46,4 +51,6 @@ pub rows-hold : All Holds rows
 unfolding rows
 rows-hold =
     both (examples-hold worked-proofs.rows-hold)
-    (both (examples-hold stopping-hold) (both (examples-hold summation-holds) texts-hold))
+    (both (examples-hold stopping-hold)
+    (both (examples-hold summation-holds)
+    (both (examples-hold flat-forms-hold) (both (examples-hold flat-steps-hold) texts-hold))))

@@ -1,6 +1,6 @@
 -- Every worked example, as one list: those of doubles, sums, kernel, its table, check and step (worked_examples), those
--- of versions, criteria and summations (worked_stopping), and packed scenes with the text that the program writes for
--- them. Definitions only.
+-- of versions, criteria and summations (worked_stopping), those of flat scenes (worked_flat), and packed scenes with
+-- the text that the program writes for them. Definitions only.
 use Prim.Native.Nat.{ℕ}
 use Prim.Native.Char.{code}
 use Prim.Native.String.{String, [] as end, _∷_ as _then_}
@@ -13,6 +13,7 @@ use Rattle.worked_examples.specs.Scenes.{emptyScene, sceneA, contactA, boundary
 use Rattle.worked_examples.specs.PassedOver.{bothInfinities}
 use Rattle.worked_stopping.specs.Stopping.{stopping, nanBehind}
 use Rattle.worked_stopping.specs.Summation.{summation, once, minusZero}
+use Rattle.worked_flat.specs.Flat.{flatA, flatContact, flatBoundary, flatForms, flatSteps}
 use Rattle.iisph_text.specs.Text.{textOf}
 
 pub data Row : Type 0 where
@@ -78,6 +79,18 @@ texts =
     ∷ "fluid 0 0 4020000000000000 0000000000000000 0000000000000000"
     ∷ " 4020000000000000 0000000000000000 0000000000000000 4000000000000000\n"
     ∷ [])
+    -- scene A and the scene of a boundary that keeps forces, in the plane
+    ∷ writes (flatA (flatContact 0 ∷ []))
+    ("step settled 2 0000000000000000 0\n"
+    ∷ "clock 3FE0000000000000 4000000000000000 3FE0000000000000\n"
+    ∷ "fluid 0 0 0000000000000000 BFF0000000000000 0000000000000000 C000000000000000 0000000000000000\n"
+    ∷ [])
+    ∷ writes (flatBoundary 0)
+    ("step unswept 0\n"
+    ∷ "clock 3FE0000000000000 4000000000000000 BFE0000000000000\n"
+    ∷ "fluid 0 0 0000000000000000 BFC0000000000000 0000000000000000 BFD0000000000000 4000000000000000\n"
+    ∷ "wall 0 0 3FD0000000000000 0000000000000000 3FE0000000000000\n"
+    ∷ [])
     -- no bytes; scene A without contacts; as many bytes as are read, and one more
     ∷ writes [] ("refused 1 0\n" ∷ [])
     ∷ writes (sceneA []) ("refused 9 62\n" ∷ [])
@@ -87,4 +100,7 @@ texts =
 
 -- every worked example
 unfoldable pub rows : List Row
-rows = map example worked-rows.rows ++ (map example stopping ++ (map example summation ++ texts))
+rows =
+    map example worked-rows.rows
+    ++ (map example stopping
+    ++ (map example summation ++ (map example flatForms ++ (map example flatSteps ++ texts))))

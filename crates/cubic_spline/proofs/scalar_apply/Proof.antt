@@ -8,7 +8,7 @@ use Rattle.cubic_spline.proofs.scalar_apply.Tie as tie
 returns : tie.Need-returns
 returns c =
     let s = c .before .before .before in
-    apply-promise (s .args .r) (s .args .h) _ (s .good .0 .1) (s .good .1 .0 .1)
+    apply-promise (s .args .dimension) (s .args .r) (s .args .h) _ (s .good .1 .0 .1) (s .good .1 .1 .0 .1)
     (rw (← c .before .weight-shape .ensures .value, ← c .before .before .normalizer .ensures) (c .answer .ensures))
 
 pub scalar-apply-spec : {M : Type 1} → statement M

@@ -9,7 +9,7 @@ use lib.ListN.{length, replicate, length-replicate}
 use borrow.Author.Needs.{needs}
 use denote.Ref.{now}
 use Rattle.scene_format.specs.SceneOf.{sceneOf}
-use Rattle.scene_format.specs.Format.{axes, nameableModels}
+use Rattle.scene_format.specs.Format.{nameableModels}
 use Rattle.scene_lengths.specs.Lengths.{fluidAnswerWidth}
 use Rattle.iisph_pressures.specs.IterationRows.{pressuresIn}
 use Rattle.iisph_forces.specs.Forces.{gatheredAll}
@@ -34,10 +34,10 @@ gather-all-requires c κs =
     let m = c .before .before .before .before .before in
     let b = Begin (m .before) in
     let p = b .pre in
-    let k = fluidAnswerWidth axes * b .args .n in (
+    let k = fluidAnswerWidth (b .args .dim) * b .args .n in (
       p .0,
       (
-        starts-held _ (p .1 .0 .walk) (replicate nameableModels 0) room (m .put-initial .ensures .0),
+        starts-held _ _ (p .1 .0 .walk) (replicate nameableModels 0) room (m .put-initial .ensures .0),
         still-room _ (now (b .args .answers)) k (m .put-initial .ensures .1) (p .1 .1),
       ),
     )
@@ -49,10 +49,11 @@ returns c =
     let b = Begin (m .before) in
     let a = b .args in
     let p = b .pre in
-    let ps = pressuresIn (a .n) (now (a .work)) in
+    let d = a .dim in
+    let ps = pressuresIn d (a .n) (now (a .work)) in
     g .gather-all .ensures
-    ∙ ap (λ (l : List Float). gatheredAll (sceneOf (now (a .scene))) ps (a .n) l) (m .put-initial .ensures .1)
-    ∙ all-gathered (now (a .scene)) (p .1 .0 .walk) ps (now (a .answers)) (p .0 .0 .size) (p .1 .1)
+    ∙ ap (λ (l : List Float). gatheredAll d (sceneOf (now (a .scene))) ps (a .n) l) (m .put-initial .ensures .1)
+    ∙ all-gathered (now (a .scene)) (p .1 .0 .walk) ps (now (a .answers)) (p .0 .0 .axes) (p .0 .0 .size) (p .1 .1)
 
 pub boundary-answers-spec : {M : Type 1} → statement M
 boundary-answers-spec =

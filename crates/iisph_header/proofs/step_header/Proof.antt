@@ -9,7 +9,7 @@ use Rattle.scene_fields.proofs.Found.{numbers-found, found-numbers, not-refused
 use Rattle.scene_fields.specs.Reading.{headerNumbersOf}
 use Rattle.scene_fields.specs.declared.reader.HeaderRead.the-variants.{Numbers}
 use Rattle.scene_walk.specs.Accepted.{HeaderOk}
-use Rattle.iisph_header.proofs.StepHeaders.{step-header-made}
+use Rattle.iisph_header.proofs.StepHeaders.{gravity-read, step-header-made}
 use Rattle.iisph_header.proofs.step_header.Statement.{statement}
 use Rattle.iisph_header.proofs.step_header.Tie as tie
 
@@ -35,20 +35,24 @@ loop-less : tie.Need-loop-less Inv-loop μ-loop
 loop-less c = absurd (c .loop .inv)
 
 vector-requires : tie.Need-vector-requires Inv-loop μ-loop
-vector-requires c κs = header (c .before .before .before .before .before .before) .gravity
+vector-requires c κs =
+    gravity-read _ (c .axes .ensures .0) (header (c .before .before .before .before .before .before .before))
 
 byte-requires : tie.Need-byte-requires Inv-loop μ-loop
-byte-requires c κs = omega (arith, header (c .before .before .before .before .before .before .before) .room)
+byte-requires c κs =
+    omega (arith, header (c .before .before .before .before .before .before .before .before) .room)
 
 byte-requires-2 : tie.Need-byte-requires-2 Inv-loop μ-loop
-byte-requires-2 c κs = omega (arith, header (c .before .before .before .before .before .before .before .before) .room)
+byte-requires-2 c κs =
+    omega (arith, header (c .before .before .before .before .before .before .before .before .before) .room)
 
 returns : tie.Need-returns Inv-loop μ-loop
 unfolding headerNumbersOf
 returns c =
     let k = c .before in
     let v = k .before in
-    let a = v .before in
+    let x = v .before in
+    let a = x .before in
     let f = a .before .before in
     let n = found-numbers (sym (f .numbers .given .1) ∙ numbers (f .before .before)) in
     step-header-made _
@@ -56,6 +60,7 @@ returns c =
     (ap (λ h. h .«remaining_time») n)
     (ap (λ h. h .«max_density_error») n)
     (a .advance .ensures)
+    (x .axes .ensures .0)
     (v .vector .ensures)
     (k .byte .ensures)
     (c .byte2 .ensures)
@@ -71,7 +76,8 @@ step-header-spec =
     (λ c. search needs)
     loop-holds
     loop-less
-    (λ c. c .loop .inv)
+    (λ c. search needs)
+    (λ c κs. search needs)
     (λ c κs. search needs)
     vector-requires
     byte-requires

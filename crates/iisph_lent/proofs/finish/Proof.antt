@@ -11,6 +11,7 @@ use mathlib.Core.Path.{_≡_, ap}
 use denote.Ref.{now}
 use Rattle.iisph_lent.proofs.Finished.{first-pressures, first-ready, solved-ready, shared, finished}
 use Rattle.iisph_lent.proofs.Finished.{length-shared, answers-room, report-made}
+use Rattle.iisph_pressures.proofs.IterationTerms.{axes-are}
 use Rattle.iisph_preparation.proofs.Prepared.{driven}
 use Rattle.iisph_lent.proofs.finish.Statement.{statement}
 use Rattle.iisph_lent.proofs.finish.Tie as tie
@@ -34,9 +35,12 @@ Begin c = c .before .before .before .before .before .before .before .before .bef
 pressure-solve-requires : tie.Need-pressure-solve-requires
 pressure-solve-requires c κs =
     let p = c .before .before .before .before .before .before .before .before .pre in
-    let size = p .0 .0 .size in (
+    let first = p .0 .0 in (
       (driven (p .0 .0) (p .0 .1), p .0 .1 .stoppingIs),
-      ((p .1 .0 .0, first-ready (p .1 .0 .0) size _ (p .1 .1)), first-pressures (p .1 .0 .0) size _ (p .1 .1)),
+      (
+        (p .1 .0 .0, first-ready (p .1 .0 .0) (first .axes) (axes-are _ (first .axes)) (first .size) _ (p .1 .1)),
+        first-pressures (p .1 .0 .0) (first .axes) (axes-are _ (first .axes)) (first .size) _ (p .1 .1),
+      ),
     )
 
 traverse-requires : tie.Need-traverse-requires
@@ -45,7 +49,11 @@ traverse-requires c κs =
     let k = c .before .before .before in
     let p = Begin k .pre in (
       driven (p .0 .0) (p .0 .1),
-      (solved-ready (p .1 .0 .0) (p .0 .0 .size) _ (p .1 .1) (k .pressure-solve .ensures) .room, tt),
+      (
+        solved-ready (p .1 .0 .0) (p .0 .0 .axes) (axes-are _ (p .0 .0 .axes)) (p .0 .0 .size) _ (p .1 .1)
+            (k .pressure-solve .ensures) .room,
+        tt,
+      ),
     )
 
 update-velocities-and-positions-requires : tie.Need-update-velocities-and-positions-requires
@@ -55,10 +63,11 @@ update-velocities-and-positions-requires c κs =
     let p = Begin k .pre in (
       (
         driven (p .0 .0) (p .0 .1),
-        shared (p .1 .0 .0) (p .0 .0 .size) _ (p .1 .1) (k .pressure-solve .ensures)
+        shared (p .1 .0 .0) (p .0 .0 .axes) (axes-are _ (p .0 .0 .axes)) (p .0 .0 .size) _ (p .1 .1)
+            (k .pressure-solve .ensures)
             (t .traverse .ensures),
       ),
-      answers-room _ (p .0 .0 .indexed .bytes) (p .0 .0 .size) (p .1 .0 .1 .enoughAnswers),
+      answers-room _ (p .0 .0 .indexed .bytes) (p .0 .0 .axes) (p .0 .0 .size) (p .1 .0 .1 .enoughAnswers),
     )
 
 boundary-answers-requires : tie.Need-boundary-answers-requires
@@ -67,7 +76,8 @@ boundary-answers-requires c κs =
     let t = Shared m in
     let k = Solved t in
     let p = Begin k .pre in
-    let q = shared (p .1 .0 .0) (p .0 .0 .size) _ (p .1 .1) (k .pressure-solve .ensures) (t .traverse .ensures) in (
+    let q = shared (p .1 .0 .0) (p .0 .0 .axes) (axes-are _ (p .0 .0 .axes)) (p .0 .0 .size) _ (p .1 .1)
+    (k .pressure-solve .ensures) (t .traverse .ensures) in (
       (p .0 .0, q .iteration),
       (p .1 .0 .0, rw (m .update-velocities-and-positions .ensures, length-stored nan) (p .1 .0 .1 .enoughAnswers)),
     )
@@ -94,7 +104,8 @@ clear-requires c κs =
       arith,
       needed l,
       p .1 .0 .1 .enoughWork,
-      length-shared (p .1 .0 .0) (p .0 .0 .size) _ (p .1 .1) (k .pressure-solve .ensures) (t .traverse .ensures),
+      length-shared (p .1 .0 .0) (p .0 .0 .axes) (axes-are _ (p .0 .0 .axes)) (p .0 .0 .size) _ (p .1 .1)
+          (k .pressure-solve .ensures) (t .traverse .ensures),
     )
 
 returns : tie.Need-returns
@@ -105,7 +116,8 @@ returns c =
     let t = Shared m in
     let k = Solved t in
     let p = Begin k .pre in
-    finished (p .1 .0 .0) (p .0 .0 .size) _ (p .1 .1) (k .pressure-solve .ensures) (t .traverse .ensures)
+    finished (p .1 .0 .0) (p .0 .0 .axes) (axes-are _ (p .0 .0 .axes)) (p .0 .0 .size) _ (p .1 .1)
+    (k .pressure-solve .ensures) (t .traverse .ensures)
     (p .1 .0 .1 .enoughAnswers)
     (m .update-velocities-and-positions .ensures)
     (Lengths f .boundary-answers .ensures)

@@ -14,7 +14,7 @@ use Rattle.iisph_lent.proofs.step_long.Tie as tie
 
 -- from the preparation back
 abbrev Header : tie.After-prepare → tie.After-step-header
-Header c = c .before .before .before
+Header c = c .before .before .before .before
 
 abbrev Begin : tie.After-step-header → tie.Start
 Begin c = c .before .before .before .before .before
@@ -24,7 +24,7 @@ step-header-requires c κs = c .before .before .before .before .pre .0 .0 .walk
 
 prepare-requires : tie.Need-prepare-requires
 prepare-requires c κs =
-    let h = c .before .before in
+    let h = c .before .before .before in
     let p = Begin h .pre in
     ((p .0 .0, h .step-header .ensures), (p .1, p .0 .1 .enoughWork))
 
@@ -35,10 +35,11 @@ finish-requires c κs =
     let s = Begin (Header p) in
     let passed = s .pre .0 .0 in
     let size = fluid-total passed in
+    let is = p .before .before .before .axes .ensures .0 in
     let ready = t .enum-told .given .1 in
     let list = p .prepare .ensures .list in
     let long = prepared-long (now (s .args .scene)) (now (s .args .work)) ready list in (
-      (record { indexed = p .prepare .ensures .indexed; size = size }, Header p .step-header .ensures),
+      (record { indexed = p .prepare .ensures .indexed; axes = is; size = size }, Header p .step-header .ensures),
       (
         (
           passed,
@@ -47,7 +48,7 @@ finish-requires c κs =
             enoughWork = omega (arith, long, s .pre .0 .1 .enoughWork);
           },
         ),
-        prepared-ready (now (s .args .scene)) size (now (s .args .work)) (s .pre .0 .1 .enoughWork) ready list,
+        prepared-ready (now (s .args .scene)) is size (now (s .args .work)) (s .pre .0 .1 .enoughWork) ready list,
       ),
     )
 
@@ -80,6 +81,7 @@ step-long-spec =
     tie.close
     (tie.spec
     step-header-requires
+    (λ c κs. search needs)
     prepare-requires
     (λ c. search needs)
     (λ c. search needs)

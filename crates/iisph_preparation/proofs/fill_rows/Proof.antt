@@ -2,6 +2,7 @@
 -- coefficients need. Assumes nothing.
 use denote.Ref.{now}
 use Rattle.iisph_passes.specs.Traverse.{Ready}
+use Rattle.iisph_pressures.proofs.IterationTerms.{axes-are}
 use Rattle.iisph_preparation.proofs.RowsFilled.{advected-ready, rows-filled}
 use borrow.Author.Needs.{needs}
 use Rattle.iisph_preparation.proofs.fill_rows.Statement.{statement}
@@ -16,7 +17,9 @@ unfolding Ready
 traverse-requires-2 c κs =
     let t = c .before .before .before in
     let b = t .before .before .before .before .before in
-    let e = advected-ready (now (b .args .scene)) (b .pre .0 .timed .over .size) (now (b .args .work)) (b .pre .1 .0)
+    let e = advected-ready (now (b .args .scene)) (b .pre .0 .timed .over .axes)
+    (axes-are (now (b .args .scene)) (b .pre .0 .timed .over .axes)) (b .pre .0 .timed .over .size)
+    (now (b .args .work)) (b .pre .1 .0)
     (b .pre .1 .1) (t .traverse .ensures) in
     (b .pre .0, (e .room, e))
 
@@ -25,7 +28,9 @@ returns c =
     let u = c .before .before in
     let t = u .before .before .before .before in
     let b = t .before .before .before .before .before in
-    rows-filled (now (b .args .scene)) (b .pre .0 .timed .over .size) (now (b .args .work)) (t .traverse .ensures)
+    rows-filled (now (b .args .scene)) (b .pre .0 .timed .over .axes)
+    (axes-are (now (b .args .scene)) (b .pre .0 .timed .over .axes)) (b .pre .0 .timed .over .size)
+    (now (b .args .work)) (t .traverse .ensures)
     (u .traverse2 .ensures)
 
 pub fill-rows-spec : {M : Type 1} → statement M

@@ -5,11 +5,13 @@ use mathlib.Core.Path.{_≡_, sym, ap, _∙_}
 use native.Mathlib.Omega.{arith}
 use denote.Ref.{now}
 use lib.ListN.{length}
+use Rattle.scene_format.specs.Format.{axesOf}
 use Rattle.scene_format.specs.Scene.{fluidSize, boundarySize}
 use Rattle.scene_format.specs.SceneOf.{sceneOf}
 use Rattle.iisph_preparation.specs.Prepare.{prepared, workPrepared}
 use Rattle.iisph_preparation.proofs.RowsFilled.{length-prepared}
-use Rattle.iisph_preparation.proofs.ZeroRefusals.{volumes-there, prepared-made, work-cleared, answer-made}
+use Rattle.iisph_preparation.proofs.ZeroRefusals.{room-of, volumes-there, prepared-made, work-cleared}
+use Rattle.iisph_preparation.proofs.ZeroRefusals.{answer-made}
 use Rattle.iisph_rows.specs.Passes.{Room}
 use Rattle.iisph_rows.specs.Rows.{volumesAt}
 use Rattle.scene_lengths.proofs.Needed.{work-least}
@@ -31,24 +33,30 @@ Filled c = c .before .before .before .before .before
 size : (b : tie.Start) → b .args .n ≡ fluidSize (sceneOf (now (b .args .scene)))
 size b = b .pre .0 .timed .over .size
 
+is : (b : tie.Start) → b .args .dim ≡ axesOf (now (b .args .scene))
+is b = b .pre .0 .timed .over .axes
+
 room : (b : tie.Start)
-    → volumesAt (fluidSize (sceneOf (now (b .args .scene)))) + boundarySize (sceneOf (now (b .args .scene)))
+    → volumesAt (axesOf (now (b .args .scene))) (fluidSize (sceneOf (now (b .args .scene)))) + boundarySize
+    (sceneOf (now (b .args .scene)))
     ≤ length (now (b .args .work))
 room b = omega (arith, b .pre .1 .1, work-least (now (b .args .scene)))
 
-room-for : (b : tie.Start) → Room (sceneOf (now (b .args .scene))) (b .args .n) (now (b .args .work))
-room-for b = omega (arith, size b, room b)
+room-for : (b : tie.Start) → Room (sceneOf (now (b .args .scene))) (b .args .dim) (b .args .n) (now (b .args .work))
+room-for b = room-of (now (b .args .scene)) (is b) (size b) (now (b .args .work)) (room b)
 
-length-of : (b : tie.Start) → length (prepared (sceneOf (now (b .args .scene))) (now (b .args .work)))
+length-of : (b : tie.Start) → length (prepared (axesOf (now (b .args .scene))) (sceneOf (now (b .args .scene)))
+    (now (b .args .work)))
     ≡ length (now (b .args .work))
 length-of b = length-prepared (now (b .args .scene)) (now (b .args .work))
 
 made : (c : tie.After-fill-rows)
-    → c .fill-rows .last .1 .1 .1 .1 .1 .0
-    ≡ prepared (sceneOf (now (Start-of c .args .scene))) (now (Start-of c .args .work))
+    → c .fill-rows .last .1 .1 .1 .1 .1 .1 .0
+    ≡ prepared (axesOf (now (Start-of c .args .scene))) (sceneOf (now (Start-of c .args .scene)))
+    (now (Start-of c .args .work))
 made c =
     let b = Start-of c in
-    prepared-made (now (b .args .scene)) (size b) (now (b .args .work))
+    prepared-made (now (b .args .scene)) (is b) (size b) (now (b .args .work))
     (c .before .before .before .before .compute-boundary-volumes .ensures)
     (c .fill-rows .ensures)
 
@@ -61,7 +69,7 @@ fill-rows-requires c κs =
     let v = c .before .before .before in
     let b = Begin (v .before .before) in (
       b .pre .0,
-      volumes-there (now (b .args .scene)) (size b) (now (b .args .work)) (room-for b)
+      volumes-there (now (b .args .scene)) (is b) (size b) (now (b .args .work)) (room-for b)
           (v .compute-boundary-volumes .ensures),
     )
 
@@ -94,7 +102,7 @@ returns c =
     let f = z .before .before .before .before in
     let b = Start-of f in (
       sym (c .enum-told .given .1)
-          ∙ answer-made (now (b .args .scene)) (now (b .args .work)) (room b) (size b) (made f)
+          ∙ answer-made (now (b .args .scene)) (now (b .args .work)) (room b) (is b) (size b) (made f)
           (z .zero-refusal .ensures),
       made f,
     )
@@ -106,9 +114,9 @@ returns-2 c =
     let f = Filled (a .before) in
     let b = Start-of f in (
       sym (a .answer .given .1)
-          ∙ answer-made (now (b .args .scene)) (now (b .args .work)) (room b) (size b) (made f)
+          ∙ answer-made (now (b .args .scene)) (now (b .args .work)) (room b) (is b) (size b) (made f)
           (a .before .before .zero-refusal .ensures),
-      work-cleared (now (b .args .scene)) (size b) (now (b .args .work)) _ (needed l) (made f)
+      work-cleared (now (b .args .scene)) (is b) (size b) (now (b .args .work)) _ (needed l) (made f)
           (c .before .before .clear .ensures),
     )
 

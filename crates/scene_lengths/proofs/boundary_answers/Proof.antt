@@ -1,31 +1,36 @@
 -- `scene_lengths::boundary_answers` meets its contract: boundary by boundary, each read at the head that the layout
 -- has. Assumes nothing.
 use Prim.Native.Nat.{_*_, _-_, _≤_}
-use mathlib.Core.Path.{_≡_, ap, _∙_}
+use mathlib.Core.Path.{_≡_, _∙_}
 use native.Mathlib.Nat.{le-antisymm}
 use native.Mathlib.Omega.{arith}
 use borrow.Author.Needs.{needs}
 use denote.Ref.{now}
 use Rattle.scene_check.proofs.Accepted.{accepted-within}
 use Rattle.scene_check.proofs.Checks.{boundary-turn, boundary-number}
-use Rattle.scene_format.specs.Format.{axes, mostModels, mostParticles, modelNumber, countsOf, keepsOf}
+use Rattle.math.specs.Vector.{space}
+use Rattle.scene_format.specs.Format.{axesOf, mostModels, mostParticles, modelNumber, countsOf, keepsOf}
 use Rattle.scene_format.specs.declared.Kind.the-variants.{Boundary}
 use Rattle.scene_layout.proofs.Turns.{Turn}
-use Rattle.scene_lengths.specs.Lengths.{keptAnswerWidth, answerWidth, widthIn, answersBefore}
+use Rattle.scene_lengths.specs.Lengths.{keptAnswerWidth, widthIn, answersBefore}
 use Rattle.scene_lengths.proofs.Needed.{answers-none, answers-next, few-answers, boundary-few}
 use Rattle.scene_lengths.proofs.boundary_answers.Statement.{statement}
 use Rattle.scene_lengths.proofs.boundary_answers.Tie as tie
 
 abbrev Inv-loop : tie.InvT-loop
-Inv-loop scene heads number needed₀ m₀ needed m =
-    (m ≤ modelNumber Boundary scene) × (needed ≤ keptAnswerWidth axes * mostParticles * m)
-    × (needed ≡ answersBefore Boundary (keepsOf Boundary scene) (countsOf Boundary scene) m)
+Inv-loop scene dim heads number needed₀ m₀ needed m =
+    (m ≤ modelNumber Boundary scene) × (needed ≤ keptAnswerWidth space * mostParticles * m)
+    × (needed ≡ answersBefore (axesOf scene) Boundary (keepsOf Boundary scene) (countsOf Boundary scene) m)
 
 abbrev μ-loop : tie.MeasureT-loop
-μ-loop scene heads number needed₀ m₀ needed m = number - m
+μ-loop scene dim heads number needed₀ m₀ needed m = number - m
 
 abbrev start : tie.In-loop Inv-loop μ-loop → tie.Start Inv-loop μ-loop
-start c = c .before .before .before .before .before
+start c = c .before .before .before .before .before .before
+
+axes-are : (c : tie.In-loop Inv-loop μ-loop)
+    → c .before .before .before .before .axes .result ≡ axesOf (now (start c .args .scene))
+axes-are c = c .before .before .before .before .axes .ensures .0
 
 turn : (c : tie.In-loop Inv-loop μ-loop)
     → let a = start c .args in Turn Boundary (now (a .scene)) (a .layout .boundaries .heads) (c .before .loop .m)
@@ -33,19 +38,22 @@ turn c = boundary-turn (start c .pre) _ (c .loop-test .taken)
 
 -- this boundary's width and count, and its answers, which are few
 width : (c : tie.After-answer-width Inv-loop μ-loop)
-    → let i = c .before .before in c .answer-width .result
-    ≡ widthIn Boundary (keepsOf Boundary (now (start i .args .scene))) (i .before .loop .m)
+    → let i = c .before .before in
+    let b = now (start i .args .scene) in
+    c .answer-width .result ≡ widthIn (axesOf b) Boundary (keepsOf Boundary b) (i .before .loop .m)
 width c =
     let k = c .before in
-    c .answer-width .ensures ∙ ap (answerWidth axes Boundary) (k .keeps .ensures .0 ∙ turn (k .before) .keeps)
+    c .answer-width .ensures .0
+    ∙ cc (axes-are (k .before), k .keeps .ensures .0, turn (k .before) .keeps)
 
 little : (c : tie.After-particles Inv-loop μ-loop)
-    → c .before .answer-width .result * c .particles .result ≤ keptAnswerWidth axes * mostParticles
+    → c .before .answer-width .result * c .particles .result ≤ keptAnswerWidth space * mostParticles
 little c =
     let w = c .before in
     let i = w .before .before in
-    rw (w .answer-width .ensures)
-    (few-answers _ _ (rw (c .particles .ensures .0, turn i .count) (boundary-few (start i .pre) _ (turn i .below))))
+    rw (w .answer-width .ensures .0)
+    (few-answers _ _ _ (i .before .before .before .before .axes .ensures .1 .most)
+    (rw (c .particles .ensures .0, turn i .count) (boundary-few (start i .pre) _ (turn i .below))))
 
 loop-holds : tie.Need-loop-holds Inv-loop μ-loop
 loop-holds c = (omega arith, omega arith, rw answers-none)
@@ -86,7 +94,7 @@ loop-again c =
 returns : tie.Need-returns Inv-loop μ-loop
 returns c =
     let l = c .before .loop in
-    let b = c .before .before .before .before .before in
+    let b = c .before .before .before .before .before .before in
     let all = le-antisymm (rw (← boundary-number _ (b .pre .layoutIs)) (c .loop-test .left)) (l .inv .0) in
     let few : modelNumber Boundary (now (b .args .scene)) ≤ mostModels =
     accepted-within _ (b .pre .walk) Boundary .few in
@@ -98,6 +106,7 @@ boundary-answers-spec =
     (tie.spec
     Inv-loop
     μ-loop
+    (λ c κs. search needs)
     loop-holds
     mul-head
     array-read-head

@@ -7,7 +7,7 @@ use lib.ListN.{length}
 use borrow.Author.Needs.{needs}
 use Rattle.scene_fields.proofs.Reached.{both}
 use Rattle.scene_fields.proofs.Walks.{stopped, gone-on}
-use Rattle.scene_format.specs.Format.{axes, headerWidth}
+use Rattle.scene_format.specs.Format.{axesOf, headerWidth}
 use Rattle.scene_format.specs.declared.Walk.the-variants.{At}
 use Rattle.scene_walk.specs.Walk.{fields}
 use Rattle.scene_walk.proofs.Walked.{header-leads}
@@ -15,7 +15,7 @@ use Rattle.scene_walk.proofs.fields.Statement.{statement}
 use Rattle.scene_walk.proofs.fields.Tie as tie
 
 header-there : (c : tie.After-header) {e : _} → c .header .result ≡ At e
-    → headerWidth axes ≤ length (c .before .before .args .s .now)
+    → let b = c .before .before .args .s .now in headerWidth (axesOf b) ≤ length b
 header-there c q = header-leads (c .before .before .args .s .now) _ (sym (c .header .ensures) ∙ q) .1 .room
 
 models-on-requires : tie.Need-models-on-requires

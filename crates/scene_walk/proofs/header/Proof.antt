@@ -40,7 +40,8 @@ returns-2 c =
 returns-3 : tie.Need-returns-3
 unfolding header _▹_
 returns-3 c =
-    let p = c .before .before in
+    let d = c .before in
+    let p = d .before .before .before in
     let m = p .before .before in
     let b = m .before .before in
     let r = b .before in
@@ -51,6 +52,8 @@ returns-3 c =
       ← b .halves2 .ensures,
       ← m .before .plain-on .ensures,
       sym (m .plain-on2 .ensures) ∙ p .max-pressure-iter .given .1,
+      ← d .before .axes .ensures .0,
+      ← d .header-doubles .ensures,
     )
     (c .doubles .ensures)
 
@@ -69,5 +72,7 @@ header-spec =
     (λ c. search needs)
     (λ c. search needs)
     returns-2
+    (λ c κs. search needs)
+    (λ c κs. search needs)
     (λ c κs. search needs)
     returns-3)

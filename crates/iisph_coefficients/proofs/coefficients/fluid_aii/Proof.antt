@@ -9,52 +9,68 @@ use denote.Ref.{now}
 use Rattle.lists.specs.Lists.{fold, table}
 use Rattle.math.specs.Real.{+0}
 use Rattle.math.specs.Vector.{coordinates}
-use Rattle.scene_format.specs.Format.{axes, contactWidth}
 use Rattle.scene_format.specs.SceneOf.{contactList}
 use Rattle.scene_format.specs.declared.Kind.the-variants.{Fluid}
 use Rattle.scene_index.specs.Contacts.{ContactReady}
+use Rattle.scene_index.proofs.ContactLists.{contact-here}
 use Rattle.iisph_coefficients.specs.Neighbours.{returned, summed}
 use Rattle.iisph_coefficients.proofs.Sums.{returned-next}
 use Rattle.iisph_coefficients.proofs.coefficients.fluid_aii.Statement.{statement}
 use Rattle.iisph_coefficients.proofs.coefficients.fluid_aii.Tie as tie
 
 abbrev Inv-loop : tie.InvT-loop
-Inv-loop scene index work n list factor d count at sum₀ k₀ sum k =
-    (k ≤ count) × (sum ≡ summed Fluid scene list (returned (coordinates d) factor) +0 k)
+Inv-loop scene index work dim n list factor d count at width sum₀ k₀ sum k =
+    (k ≤ count) × (sum ≡ summed Fluid dim scene list (returned (coordinates dim d) factor) +0 k)
 
 abbrev μ-loop : tie.MeasureT-loop
-μ-loop scene index work n list factor d count at sum₀ k₀ sum k = count - k
+μ-loop scene index work dim n list factor d count at width sum₀ k₀ sum k = count - k
 
 loop-holds : tie.Need-loop-holds Inv-loop μ-loop
 unfolding contactList table fold
 loop-holds c = (omega arith, refl)
 
 abbrev Begin : tie.In-loop Inv-loop μ-loop → tie.Start Inv-loop μ-loop
-Begin c = c .before .before .before .before .before
+Begin c = c .before .before .before .before .before .before
 
 -- the contact of a turn
 here : (c : tie.In-loop Inv-loop μ-loop)
-    → ContactReady Fluid (now (Begin c .args .scene))
-    (Begin c .args .list .at + contactWidth axes * c .before .loop .k)
-here c = Begin c .pre .1 .each (c .before .loop .k) (c .loop-test .taken)
+    → ContactReady Fluid (Begin c .args .dim) (now (Begin c .args .scene))
+    (Begin c .args .list .at + c .before .before .contact-width .result * c .before .loop .k)
+here c =
+    let l = c .before in
+    contact-here (Begin c .pre .1) (l .loop .k) (l .before .contact-width .ensures .0) (c .loop-test .taken)
+
+mul-c : tie.Need-mul-c Inv-loop μ-loop
+mul-c c = omega (arith, here c .doubles .weight .present)
+
+add-c : tie.Need-add-c Inv-loop μ-loop
+add-c c = omega (arith, here c .doubles .weight .present)
 
 mass-requires : tie.Need-mass-requires Inv-loop μ-loop
 mass-requires c κs =
     let p = Begin c .pre in
     (p .0, (here c, p .2))
 
+add-vector : tie.Need-add-vector Inv-loop μ-loop
+add-vector c = omega (arith, here (c .before) .doubles .weight .present)
+
 vector-requires : tie.Need-vector-requires Inv-loop μ-loop
-vector-requires c κs = here (c .before) .doubles .gradient
+vector-requires c κs = let u = c .before in (Begin u .pre .1 .axes, here u .doubles .gradient)
+
+dot-requires : tie.Need-dot-requires Inv-loop μ-loop
+dot-requires c κs = Begin (c .before .before .before .before) .pre .1 .axes
 
 loop-again : tie.Need-loop-again Inv-loop μ-loop
 loop-again c =
     let v = c .before .before .before in
-    let u = v .before .before in (
+    let u = v .before .before in
+    let a = Begin u .args in
+    let w = u .before .before .contact-width .ensures .0 in (
       omega arith,
-      returned-next Fluid _ (Begin u .args .list) _ (v .before .mass .ensures) (v .vector .ensures) _ _ _
+      returned-next Fluid _ _ (a .list) _ w (v .before .mass .ensures) (v .vector .ensures) _ _ _
           (u .before .loop .inv .1)
-          (c .before .before .scale .ensures)
-          (c .before .sub .ensures)
+          (c .before .before .scale .ensures (a .dim))
+          (c .before .sub .ensures (a .dim))
           (c .dot .ensures),
     )
 
@@ -69,15 +85,16 @@ fluid-aii-spec =
     (tie.spec
     Inv-loop
     μ-loop
+    (λ c κs. search needs)
     loop-holds
-    (λ c. search needs)
-    (λ c. search needs)
+    mul-c
+    add-c
     mass-requires
-    (λ c. search needs)
+    add-vector
     vector-requires
     (λ c κs. search needs)
     (λ c κs. search needs)
-    (λ c κs. search needs)
+    dot-requires
     (λ c. search needs)
     (λ c. search needs)
     loop-again

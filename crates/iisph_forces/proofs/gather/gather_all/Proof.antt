@@ -17,16 +17,16 @@ use Rattle.iisph_forces.proofs.gather.gather_all.Statement.{statement}
 use Rattle.iisph_forces.proofs.gather.gather_all.Tie as tie
 
 abbrev Inv-loop : tie.InvT-loop
-Inv-loop scene index work n forces answers₀ i₀ answers i =
+Inv-loop scene index work dim n forces answers₀ i₀ answers i =
     (i ≤ n)
     × (length answers ≡ length answers₀)
-    × (answers ≡ gatheredAll (sceneOf scene) (pressuresIn n work) i answers₀)
+    × (answers ≡ gatheredAll dim (sceneOf scene) (pressuresIn dim n work) i answers₀)
 
 abbrev μ-loop : tie.MeasureT-loop
-μ-loop scene index work n forces answers₀ i₀ answers i = n - i
+μ-loop scene index work dim n forces answers₀ i₀ answers i = n - i
 
 loop-holds : tie.Need-loop-holds Inv-loop μ-loop
-loop-holds c = (omega arith, refl, no-particles _ _ _)
+loop-holds c = (omega arith, refl, no-particles _ _ _ _)
 
 abbrev Begin : tie.In-loop Inv-loop μ-loop → tie.Start Inv-loop μ-loop
 Begin c = c .before .before .before .before .before .before .before
@@ -40,7 +40,10 @@ pressure-state-of-requires c κs =
     ((p .0 .0, c .loop-test .taken), p .0 .1)
 
 contacts-of-requires : tie.Need-contacts-of-requires Inv-loop μ-loop
-contacts-of-requires c κs = (Begin (c .before) .pre .0 .0 .indexed, below (c .before))
+contacts-of-requires c κs =
+    let i = c .before in
+    let over = Begin i .pre .0 .0 in
+    ((over .indexed, over .axes), below i)
 
 gather-list-requires : tie.Need-gather-list-requires Inv-loop μ-loop
 gather-list-requires c κs =
@@ -49,7 +52,7 @@ gather-list-requires c κs =
     let p = Begin i .pre in (
       p .0,
       (
-        force-contacts (p .0 .0 .indexed) (i .before .loop .i) (below i) (l .contacts-of .ensures),
+        force-contacts (p .0 .0 .indexed) (i .before .loop .i) (below i) (p .0 .0 .axes) (l .contacts-of .ensures),
         p .1 .0,
         omega (arith, i .before .loop .inv .1, p .1 .1),
       ),
@@ -69,14 +72,16 @@ loop-again c =
     let loop = i .before .loop in
     let b = Begin i in
     let s = sceneOf (now (b .args .scene)) in
-    let ps = pressuresIn (b .args .n) (now (b .args .work)) in
-    let made = from-made (b .pre .0 .0 .indexed) (loop .i) (below i) (l .contacts-of .ensures)
+    let d = b .args .dim in
+    let ps = pressuresIn d (b .args .n) (now (b .args .work)) in
+    let over = b .pre .0 .0 in
+    let made = from-made (over .indexed) (loop .i) (below i) (over .axes) (l .contacts-of .ensures)
     (o .pressure-state-of .ensures)
     (loop .answers)
     (g .gather-list .ensures) in (
       omega arith,
-      ap length made ∙ length-gathered-from s ps (loop .answers) (loop .i) ∙ loop .inv .1,
-      one-more-particle s ps (now (b .args .answers)) (loop .i) (loop .inv .2) made,
+      ap length made ∙ length-gathered-from d s ps (loop .answers) (loop .i) ∙ loop .inv .1,
+      one-more-particle d s ps (now (b .args .answers)) (loop .i) (loop .inv .2) made,
     )
 
 same-length : tie.Need-same-length Inv-loop μ-loop
@@ -88,7 +93,7 @@ returns c =
     let a = c .before .before .before .before .before .before .before .args in
     let s = sceneOf (now (a .scene)) in
     l .inv .2
-    ∙ ap (λ (k : ℕ). gatheredAll s (pressuresIn (a .n) (now (a .work))) k (now (a .answers)))
+    ∙ ap (λ (k : ℕ). gatheredAll (a .dim) s (pressuresIn (a .dim) (a .n) (now (a .work))) k (now (a .answers)))
     (le-antisymm (l .inv .0) (c .loop-test .left))
 
 pub gather-all-spec : {M : Type 1} → statement M

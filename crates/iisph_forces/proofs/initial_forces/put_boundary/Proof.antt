@@ -9,14 +9,14 @@ use Rattle.iisph_forces.proofs.initial_forces.put_boundary.Statement.{s
 use Rattle.iisph_forces.proofs.initial_forces.put_boundary.Tie as tie
 
 abbrev Inv-loop : tie.InvT-loop
-Inv-loop scene index work n first count keeps at answers₀ to₀ p₀ answers to p =
-    BoundaryPut scene answers₀ first count p to answers
+Inv-loop scene index work dim n first count keeps at answers₀ to₀ p₀ answers to p =
+    BoundaryPut dim scene answers₀ first count p to answers
 
 abbrev μ-loop : tie.MeasureT-loop
-μ-loop scene index work n first count keeps at answers₀ to₀ p₀ answers to p = count - p
+μ-loop scene index work dim n first count keeps at answers₀ to₀ p₀ answers to p = count - p
 
 loop-holds : tie.Need-loop-holds Inv-loop μ-loop
-loop-holds c = none-put _ _ _ _ (c .before .before .before .before .pre .1 .1)
+loop-holds c = none-put _ _ _ _ _ (c .before .before .before .before .pre .1 .1)
 
 abbrev Begin : tie.In-loop Inv-loop μ-loop → tie.Start Inv-loop μ-loop
 Begin c = c .before .before .before .before .before .before
@@ -37,7 +37,7 @@ put-particle-requires c κs =
       (
         omega (arith, here, run .within),
         run-keeps run (l .p) here,
-        particle-room _ _ _ _ (p .0 .0 .indexed .accepted) (run .within) (l .inv) here (p .1 .2),
+        particle-room _ _ _ _ _ (p .0 .0 .axes) (p .0 .0 .indexed .accepted) (run .within) (l .inv) here (p .1 .2),
       ),
     )
 
@@ -51,14 +51,15 @@ loop-again c =
     let r = c .before .before in
     let i = r .before .before in
     let p = Begin i .pre in
-    one-more-put _ _ _ _ (p .0 .0 .indexed .accepted) (p .1 .0 .within) (i .before .loop .inv) (i .loop-test .taken)
-    (r .put-particle .ensures .0) (r .put-particle .ensures .1)
+    one-more-put _ _ _ _ _ (p .0 .0 .axes) (p .0 .0 .indexed .accepted) (p .1 .0 .within) (i .before .loop .inv)
+    (i .loop-test .taken) (r .put-particle .ensures .0) (r .put-particle .ensures .1)
 
 returns : tie.Need-returns Inv-loop μ-loop
 returns c =
     let p = c .before .before .before .before .before .before .pre in
     rw (p .1 .1)
-    (all-put _ _ _ _ (p .0 .0 .indexed .accepted) (p .1 .0 .within) (c .before .loop .inv) (c .loop-test .left))
+    (all-put _ _ _ _ _ (p .0 .0 .axes) (p .0 .0 .indexed .accepted) (p .1 .0 .within) (c .before .loop .inv)
+    (c .loop-test .left))
 
 pub put-boundary-spec : {M : Type 1} → statement M
 put-boundary-spec =

@@ -18,11 +18,11 @@ use Rattle.iisph_iterations.proofs.errors.max_error.Statement.{statemen
 use Rattle.iisph_iterations.proofs.errors.max_error.Tie as tie
 
 abbrev Inv-loop : tie.InvT-loop
-Inv-loop scene work n criterion summation heads number error₀ from₀ m₀ error from m =
-    Averaged criterion summation (countsOf Fluid scene) n work m from error
+Inv-loop scene work dim n criterion summation heads number error₀ from₀ m₀ error from m =
+    Averaged criterion summation (countsOf Fluid scene) dim n work m from error
 
 abbrev μ-loop : tie.MeasureT-loop
-μ-loop scene work n criterion summation heads number error₀ from₀ m₀ error from m = number - m
+μ-loop scene work dim n criterion summation heads number error₀ from₀ m₀ error from m = number - m
 
 abbrev start : tie.In-loop Inv-loop μ-loop → tie.Start Inv-loop μ-loop
 start c = c .before .before .before .before .before .before .before .before
@@ -44,7 +44,7 @@ room : (c : tie.After-particles Inv-loop μ-loop)
     → let i = c .before in i .before .loop .from + c .particles .result ≤ start i .args .n
 room c =
     let i = c .before in
-    omega (arith, next-rows _ _ _ _ _ (i .before .loop .inv) (below i), count c)
+    omega (arith, next-rows _ _ _ _ _ _ (i .before .loop .inv) (below i), count c)
 
 criterion-requires : tie.Need-criterion-requires Inv-loop μ-loop
 criterion-requires c κs = omega (arith, accepted-header _ (c .before .before .pre .0 .walk))
@@ -55,7 +55,7 @@ summation-requires c κs = omega (arith, accepted-header _ (c .before .before .b
 loop-holds : tie.Need-loop-holds Inv-loop μ-loop
 loop-holds c =
     let s = c .before .before .before .before .before .before in
-    none-averaged _ _ _ _ _ (sym (s .pre .1 .0 ∙ fluid-size-sum (now (s .args .scene))))
+    none-averaged _ _ _ _ _ _ (sym (s .pre .1 .1 ∙ fluid-size-sum (now (s .args .scene))))
 
 mul-particles : tie.Need-mul-particles Inv-loop μ-loop
 mul-particles c = omega (arith, turn c .small)
@@ -67,10 +67,10 @@ particles-requires : tie.Need-particles-requires Inv-loop μ-loop
 particles-requires c κs = turn c .within .headRoom
 
 with-fluid-requires : tie.Need-with-fluid-requires Inv-loop μ-loop
-with-fluid-requires c κs = (room c, start (c .before) .pre .1 .1)
+with-fluid-requires c κs = let p = start (c .before) .pre .1 in (p .0, room c, p .2)
 
 add-from : tie.Need-add-from Inv-loop μ-loop
-add-from c = let p = c .before in omega (arith, room p, start (p .before) .pre .1 .1)
+add-from c = let p = c .before in omega (arith, room p, start (p .before) .pre .1 .2)
 
 add-m : tie.Need-add-m Inv-loop μ-loop
 add-m c = omega (arith, turn (c .before .before) .small)
@@ -79,7 +79,7 @@ loop-again : tie.Need-loop-again Inv-loop μ-loop
 loop-again c =
     let p = c .before in
     let i = p .before in
-    next-averaged _ _ _ _ _ (i .before .loop .inv) (below i) (count p) (c .with-fluid .ensures)
+    next-averaged _ _ _ _ _ _ (i .before .loop .inv) (below i) (count p) (c .with-fluid .ensures)
 
 returns : tie.Need-returns Inv-loop μ-loop
 returns c =
@@ -88,7 +88,7 @@ returns c =
     let s = k .before .before .before in
     let b = now (s .args .scene) in
     rw (scene-counts b, scene-criterion b, scene-summation b, ← k .criterion .ensures, ← w .summation .ensures)
-    (all-averaged _ _ _ _ _ (c .before .loop .inv)
+    (all-averaged _ _ _ _ _ _ (c .before .loop .inv)
     (omega (arith, length-counts Fluid b, fluid-number b (s .pre .0 .layoutIs), c .loop-test .left)))
 
 pub max-error-spec : {M : Type 1} → statement M

@@ -1,7 +1,6 @@
 -- `iisph_iterations::errors::term_sum` meets its contract: by the summation; by halves the part of the list that is
 -- handed on is the fluid's terms. Assumes nothing.
-use mathlib.Core.Path.{refl, ap, _∙_}
-use native.Mathlib.Omega.{arith}
+use mathlib.Core.Path.{ap, _∙_}
 use borrow.Author.Needs.{needs}
 use denote.Ref.{now}
 use Rattle.sums.specs.Halves.{sumByHalves}
@@ -18,10 +17,12 @@ returns-2 : tie.Need-returns-2
 unfolding termSum
 returns-2 c =
     let t = c .before .before in
-    let a = t .before .before .before .args in
-    rw (t .enum-told2 .given .1)
+    let e = t .before in
+    let a = e .before .before .before .args in
+    rw (e .enum-told2 .given .1)
     (c .sum-by-halves .ensures
-    ∙ ap sumByHalves (terms-part (now (a .work)) (a .n) (a .from) (a .count) refl (omega arith)))
+    ∙ ap sumByHalves (terms-part (now (a .work)) (a .dim) (a .n) (a .from) (t .terms-at .ensures .0) (a .count)
+    (t .terms-at .ensures .1)))
 
 pub term-sum-spec : {M : Type 1} → statement M
 term-sum-spec =
@@ -30,8 +31,7 @@ term-sum-spec =
     (λ c. search needs)
     (λ c κs. search needs)
     (λ c. search needs)
-    (λ c. search needs)
-    (λ c. search needs)
+    (λ c κs. search needs)
     (λ c. search needs)
     (λ c. search needs)
     (λ c. search needs)

@@ -1,6 +1,8 @@
 -- `iisph_iterations::pressure_solve::iterate` meets its contract: each pass finds what it needs, which the earlier ones
 -- stored, and the error is that of the terms in their column. Assumes nothing.
 use native.Mathlib.Omega.{arith}
+use denote.Ref.{now}
+use Rattle.iisph_pressures.proofs.IterationTerms.{axes-are}
 use Rattle.iisph_passes.specs.Traverse.{Ready}
 use Rattle.iisph_iterations.proofs.Iterated.{quotients-there, dij-there, next-room, iterated-ready}
 use Rattle.iisph_iterations.proofs.Iterated.{iterates-made}
@@ -31,8 +33,10 @@ traverse-requires-2 : tie.Need-traverse-requires-2
 unfolding Ready
 traverse-requires-2 c κs =
     let t = c .before .before .before in
-    let p = First t .pre in
-    let q = quotients-there _ (p .0 .timed .over .size) _ (p .1 .1) (t .traverse .ensures) in
+    let s = First t in
+    let p = s .pre in
+    let q = quotients-there (now (s .args .scene)) (p .0 .timed .over .axes) (p .0 .timed .over .size) _ (p .1 .1)
+    (t .traverse .ensures) in
     (p .0, (q .room, q))
 
 traverse-requires-3 : tie.Need-traverse-requires-3
@@ -40,8 +44,10 @@ unfolding Ready
 traverse-requires-3 c κs =
     let u = c .before .before .before in
     let t = Second u in
-    let p = First t .pre in
-    let q = dij-there _ (p .0 .timed .over .size) _ (p .1 .1) (t .traverse .ensures) (u .traverse2 .ensures) in
+    let s = First t in
+    let p = s .pre in
+    let q = dij-there (now (s .args .scene)) (p .0 .timed .over .axes) (p .0 .timed .over .size) _ (p .1 .1)
+    (t .traverse .ensures) (u .traverse2 .ensures) in
     (p .0, (q .room, q))
 
 traverse-requires-4 : tie.Need-traverse-requires-4
@@ -50,10 +56,12 @@ traverse-requires-4 c κs =
     let v = c .before .before .before in
     let u = Third v in
     let t = Second u in
-    let p = First t .pre in (
+    let s = First t in
+    let p = s .pre in (
       p .0,
       (
-        next-room _ (p .0 .timed .over .size) _ (p .1 .1) (t .traverse .ensures) (u .traverse2 .ensures)
+        next-room (now (s .args .scene)) (p .0 .timed .over .axes) (p .0 .timed .over .size) _ (p .1 .1)
+            (t .traverse .ensures) (u .traverse2 .ensures)
             (v .traverse3 .ensures),
         tt,
       ),
@@ -65,10 +73,14 @@ max-error-requires c κs =
     let v = Fourth w in
     let u = Third v in
     let t = Second u in
-    let p = First t .pre in
-    let q = iterated-ready _ (p .0 .timed .over .size) _ (p .1 .1) (t .traverse .ensures) (u .traverse2 .ensures)
-    (v .traverse3 .ensures) (w .traverse4 .ensures) in
-    (p .1 .0, (p .0 .timed .over .size, omega (arith, q .room)))
+    let s = First t in
+    let p = s .pre in
+    let q = iterated-ready (now (s .args .scene)) (p .0 .timed .over .axes) (p .0 .timed .over .size) _ (p .1 .1)
+    (t .traverse .ensures) (u .traverse2 .ensures)
+    (v .traverse3 .ensures) (w .traverse4 .ensures) in (
+      p .1 .0,
+      (axes-are (now (s .args .scene)) (p .0 .timed .over .axes), p .0 .timed .over .size, omega (arith, q .room)),
+    )
 
 returns : tie.Need-returns
 returns c =
@@ -76,8 +88,10 @@ returns c =
     let v = Fourth w in
     let u = Third v in
     let t = Second u in
-    let p = First t .pre in
-    iterates-made _ (p .0 .timed .over .size) _ (p .1 .1) (t .traverse .ensures) (u .traverse2 .ensures)
+    let s = First t in
+    let p = s .pre in
+    iterates-made (now (s .args .scene)) (p .0 .timed .over .axes) (p .0 .timed .over .size) _ (p .1 .1)
+    (t .traverse .ensures) (u .traverse2 .ensures)
     (v .traverse3 .ensures) (w .traverse4 .ensures)
     (c .max-error .ensures)
 

@@ -13,19 +13,21 @@ use Rattle.iisph_iterations.proofs.«pressure_solve».pressure_solve.St
 use Rattle.iisph_iterations.proofs.«pressure_solve».pressure_solve.Tie as tie
 
 abbrev Inv-loop : tie.InvT-loop
-Inv-loop scene layout index n dt gravity work₀ least most limit error₀ i₀ work error i =
-    Solving scene n work₀ i error work
+Inv-loop scene layout index dim n dt gravity work₀ least most limit error₀ i₀ work error i =
+    Solving scene dim n work₀ i error work
 
 abbrev μ-loop : tie.MeasureT-loop
-μ-loop scene layout index n dt gravity work₀ least most limit error₀ i₀ work error i = most - i
+μ-loop scene layout index dim n dt gravity work₀ least most limit error₀ i₀ work error i = most - i
 
 abbrev Begin : tie.At-loop Inv-loop μ-loop → tie.Start Inv-loop μ-loop
 Begin c = c .before .before .before .before
 
 loop-holds : tie.Need-loop-holds Inv-loop μ-loop
 loop-holds c =
-    let p = c .before .before .before .pre in
-    none-solved _ (p .0 .0 .timed .over .size) _ (p .1 .1) (p .1 .0 .1) _
+    let s = c .before .before .before in
+    let p = s .pre in
+    none-solved (now (s .args .scene)) (p .0 .0 .timed .over .axes) (p .0 .0 .timed .over .size) _ (p .1 .1)
+    (p .1 .0 .1) _
 
 iterate-requires : tie.Need-iterate-requires Inv-loop μ-loop
 iterate-requires c κs =
@@ -45,8 +47,8 @@ few c =
 add-i : tie.Need-add-i Inv-loop μ-loop
 add-i c = omega (arith, few (c .before .before .before .before .before))
 
-cast-t20 : tie.Need-cast-t20 Inv-loop μ-loop
-cast-t20 c = omega (arith, few (c .before .before .before .before .before .before .before .before))
+cast-t21 : tie.Need-cast-t21 Inv-loop μ-loop
+cast-t21 c = omega (arith, few (c .before .before .before .before .before .before .before .before))
 
 returns : tie.Need-returns Inv-loop μ-loop
 returns c =
@@ -54,7 +56,8 @@ returns c =
     let n = k .before .before in
     let s = Begin (n .before) in
     let p = s .pre in
-    solved-early _ (p .0 .0 .timed .over .size) _ (n .before .loop .inv) (below n) (k .iterate .ensures)
+    solved-early (now (s .args .scene)) (p .0 .0 .timed .over .axes) (p .0 .0 .timed .over .size) _
+    (n .before .loop .inv) (below n) (k .iterate .ensures)
     (is-last (sceneOf (now (s .args .scene))) (n .before .loop .i) (k .iterate .result .value)
     (sym (ap (λ x. Ieee.le (k .iterate .result .value) x) (p .0 .1 .limit)) ∙ c .before .if1 .taken)
     (omega (arith, p .0 .1 .least, c .if2 .taken)))
@@ -67,7 +70,8 @@ loop-again c =
     let n = k .before .before in
     let s = Begin (n .before) in
     let p = s .pre in
-    next-solved _ (p .0 .0 .timed .over .size) _ (n .before .loop .inv) (below n) (k .iterate .ensures)
+    next-solved (now (s .args .scene)) (p .0 .0 .timed .over .axes) (p .0 .0 .timed .over .size) _
+    (n .before .loop .inv) (below n) (k .iterate .ensures)
     (not-least (sceneOf (now (s .args .scene))) (n .before .loop .i) (k .iterate .result .value)
     (omega (arith, p .0 .1 .least, c .if2 .left)))
 
@@ -77,19 +81,22 @@ loop-again-2 c =
     let n = k .before .before in
     let s = Begin (n .before) in
     let p = s .pre in
-    next-solved _ (p .0 .0 .timed .over .size) _ (n .before .loop .inv) (below n) (k .iterate .ensures)
+    next-solved (now (s .args .scene)) (p .0 .0 .timed .over .axes) (p .0 .0 .timed .over .size) _
+    (n .before .loop .inv) (below n) (k .iterate .ensures)
     (not-small (sceneOf (now (s .args .scene))) (n .before .loop .i) (k .iterate .result .value)
     (sym (ap (λ x. Ieee.le (k .iterate .result .value) x) (p .0 .1 .limit)) ∙ c .if1 .left))
 
-cast-t22 : tie.Need-cast-t22 Inv-loop μ-loop
-cast-t22 c = omega (arith, few (c .before .before))
+cast-t23 : tie.Need-cast-t23 Inv-loop μ-loop
+cast-t23 c = omega (arith, few (c .before .before))
 
 returns-2 : tie.Need-returns-2 Inv-loop μ-loop
 returns-2 c =
     let e = c .before in
     let l = e .before in
-    let p = Begin l .pre in
-    solved _ (p .0 .0 .timed .over .size) _ (l .loop .inv) (omega (arith, e .loop-test .left, p .0 .1 .most)) refl
+    let s = Begin l in
+    let p = s .pre in
+    solved (now (s .args .scene)) (p .0 .0 .timed .over .axes) (p .0 .0 .timed .over .size) _ (l .loop .inv)
+    (omega (arith, e .loop-test .left, p .0 .1 .most)) refl
     (c .ending-after .ensures)
 
 pub pressure-solve-spec : {M : Type 1} → statement M
@@ -101,7 +108,7 @@ pressure-solve-spec =
     loop-holds
     iterate-requires
     add-i
-    cast-t20
+    cast-t21
     (λ c. search needs)
     returns
     (λ c. search needs)
@@ -109,6 +116,6 @@ pressure-solve-spec =
     (λ c. search needs)
     loop-again-2
     (λ c κs. search needs)
-    cast-t22
+    cast-t23
     (λ c. search needs)
     returns-2)

@@ -1,16 +1,16 @@
 -- `iisph_lines::lines::put_models` meets its contract. The loop's invariant: the lines of the first m models are
 -- written. Assumes nothing.
 use Prim.Native.Nat.{_+_, _-_, _*_, _≤_}
-use mathlib.Core.Path.{_≡_, ap, _∙_}
+use mathlib.Core.Path.{_≡_, _∙_}
 use native.Mathlib.Nat.{le-antisymm}
 use native.Mathlib.Omega.{arith}
 use denote.Ref.{now}
 use lib.ListN.{length, getD}
 use borrow.Author.Needs.{needs}
 use Rattle.lists.specs.Stores.{Writes}
-use Rattle.scene_format.specs.Format.{axes, modelNumber, countsOf, keepsOf}
+use Rattle.scene_format.specs.Format.{axesOf, modelNumber, countsOf, keepsOf}
 use Rattle.scene_layout.proofs.Turns.{Turn, this-turn, number-is}
-use Rattle.scene_lengths.specs.Lengths.{answerWidth, widthIn, answersBefore}
+use Rattle.scene_lengths.specs.Lengths.{widthIn, answersBefore}
 use Rattle.scene_lengths.proofs.Needed.{answers-none}
 use Rattle.iisph_lines.specs.Lines.{modelsUpto}
 use Rattle.iisph_lines.proofs.ModelLines.{model-next, model-fits, none-modelled, model-room, model-written}
@@ -18,16 +18,16 @@ use Rattle.iisph_lines.proofs.lines.put_models.Statement.{statement}
 use Rattle.iisph_lines.proofs.lines.put_models.Tie as tie
 
 abbrev Inv-loop : tie.InvT-loop
-Inv-loop out₀ at scene kind xs k number heads next₀ from₀ m₀ out next from m =
+Inv-loop out₀ at scene kind xs k dim number heads next₀ from₀ m₀ out next from m =
     (m ≤ modelNumber kind scene)
-    × (from ≡ k + answersBefore kind (keepsOf kind scene) (countsOf kind scene) m)
-    × Writes out₀ at (modelsUpto m kind (keepsOf kind scene) (countsOf kind scene) k xs) out next
+    × (from ≡ k + answersBefore (axesOf scene) kind (keepsOf kind scene) (countsOf kind scene) m)
+    × Writes out₀ at (modelsUpto m (axesOf scene) kind (keepsOf kind scene) (countsOf kind scene) k xs) out next
 
 abbrev μ-loop : tie.MeasureT-loop
-μ-loop out₀ at scene kind xs k number heads next₀ from₀ m₀ out next from m = number - m
+μ-loop out₀ at scene kind xs k dim number heads next₀ from₀ m₀ out next from m = number - m
 
 abbrev start : tie.In-loop Inv-loop μ-loop → tie.Start Inv-loop μ-loop
-start c = c .before .before .before .before .before .before
+start c = c .before .before .before .before .before .before .before
 
 -- from behind the lines back to the model's width, and to the turn
 abbrev written : tie.After-slice-known2 Inv-loop μ-loop → tie.After-answer-width Inv-loop μ-loop
@@ -50,10 +50,11 @@ count w = w .before .before .particles .ensures .0 ∙ turn (inside w) .count
 width : (w : tie.After-answer-width Inv-loop μ-loop)
     → let i = inside w in
     let a = start i .args in
-    w .answer-width .result ≡ widthIn (a .kind) (keepsOf (a .kind) (now (a .scene))) (i .before .loop .m)
+    let b = now (a .scene) in
+    w .answer-width .result ≡ widthIn (axesOf b) (a .kind) (keepsOf (a .kind) b) (i .before .loop .m)
 width w =
-    w .answer-width .ensures
-    ∙ ap (answerWidth axes (start (inside w) .args .kind)) (w .before .keeps .ensures .0 ∙ turn (inside w) .keeps)
+    let i = inside w in
+    w .answer-width .ensures .0 ∙ cc (w .before .keeps .ensures .0, turn i .keeps)
 
 -- its answers are there
 fits : (w : tie.After-answer-width Inv-loop μ-loop)
@@ -63,12 +64,12 @@ fits : (w : tie.After-answer-width Inv-loop μ-loop)
 fits w =
     let i = inside w in
     let l = i .before .loop in
-    model-fits _ _ _ _ (l .m) (l .inv .1) (width w) (count w) (turn i .below) (start i .pre .1 .0)
+    model-fits _ _ _ _ _ (l .m) (l .inv .1) (width w) (count w) (turn i .below) (start i .pre .1 .0)
 
 loop-holds : tie.Need-loop-holds Inv-loop μ-loop
 loop-holds c =
-    let s = c .before .before .before .before in
-    (omega arith, rw answers-none (omega arith), none-modelled _ _ _ _ _ (omega (arith, s .pre .1 .1)))
+    let s = c .before .before .before .before .before in
+    (omega arith, rw answers-none (omega arith), none-modelled _ _ _ _ _ _ (omega (arith, s .pre .1 .1)))
 
 mul-head : tie.Need-mul-head Inv-loop μ-loop
 mul-head c = omega (arith, turn c .small)
@@ -88,7 +89,7 @@ put-model-requires c κs =
     let i = inside w in
     let l = i .before .loop in (
       fits w,
-      model-room _ _ _ _ _ (l .m) (l .inv .1) (width w) (count w) (l .inv .2) (turn i .below) (start i .pre .1 .1),
+      model-room _ _ _ _ _ _ (l .m) (l .inv .1) (width w) (count w) (l .inv .2) (turn i .below) (start i .pre .1 .1),
     )
 
 mul-from : tie.Need-mul-from Inv-loop μ-loop
@@ -106,15 +107,15 @@ loop-again c =
     let i = inside w in
     let l = i .before .loop in (
       omega (arith, turn i .below),
-      model-next _ _ _ _ (l .m) (l .inv .1) (width w) (count w),
-      model-written _ _ _ _ _ (l .m) (l .inv .1) (width w) (count w) (l .inv .2)
+      model-next _ _ _ _ _ (l .m) (l .inv .1) (width w) (count w),
+      model-written _ _ _ _ _ _ (l .m) (l .inv .1) (width w) (count w) (l .inv .2)
           (c .before .before .put-model .ensures),
     )
 
 returns : tie.Need-returns Inv-loop μ-loop
 returns c =
     let l = c .before .loop in
-    let s = c .before .before .before .before .before .before in
+    let s = c .before .before .before .before .before .before .before in
     let all : l .m ≡ modelNumber (s .args .kind) (now (s .args .scene)) =
     le-antisymm (l .inv .0) (rw (← number-is (s .pre .0 .0) (s .pre .0 .1)) (c .loop-test .left)) in
     rw all at (l .inv .2)
@@ -125,6 +126,7 @@ put-models-spec =
     (tie.spec
     Inv-loop
     μ-loop
+    (λ c κs. search needs)
     loop-holds
     mul-head
     array-read-head

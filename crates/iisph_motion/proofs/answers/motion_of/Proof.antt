@@ -4,10 +4,10 @@ use native.Mathlib.Omega.{arith}
 use borrow.Author.Needs.{needs}
 use denote.Ref.{now}
 use Rattle.scene_check.specs.Accepted.{FluidParticleOk}
-use Rattle.iisph_rows.proofs.Particles.{record-asked, record-here}
+use Rattle.iisph_rows.proofs.Particles.{record-asked, record-here, velocity-read, velocity-within}
 use Rattle.scene_format.specs.Format.{locationOf}
 use Rattle.scene_format.specs.declared.Kind.the-variants.{Fluid}
-use Rattle.iisph_motion.proofs.Motions.{velocity-made, position-made}
+use Rattle.iisph_motion.proofs.Motions.{position-read, velocity-made, position-made}
 use Rattle.iisph_motion.proofs.answers.motion_of.Statement.{statement}
 use Rattle.iisph_motion.proofs.answers.motion_of.Tie as tie
 
@@ -30,13 +30,21 @@ record-of-requires c κs =
     record-asked (p .0 .0 .timed .over) (p .0 .1)
 
 add-vector : tie.Need-add-vector
-add-vector c = omega (arith, here c .own .counts)
+add-vector c =
+    let k = c .before in
+    let over = Begin k .pre .0 .0 .timed .over in
+    omega (arith, velocity-within (over .axes) (here k) (c .vector-width .ensures .0))
 
 vector-requires : tie.Need-vector-requires
-vector-requires c κs = here c .own .velocity
+vector-requires c κs =
+    let k = c .before in
+    let over = Begin k .pre .0 .0 .timed .over in
+    velocity-read (over .axes) (here k) (c .vector-width .ensures .0)
 
 vector-requires-2 : tie.Need-vector-requires-2
-vector-requires-2 c κs = here (c .before .before) .own .position
+vector-requires-2 c κs =
+    let k = c .before .before .before in
+    position-read (Begin k .pre .0 .0 .timed .over .axes) (here k)
 
 returns : tie.Need-returns
 returns c =
@@ -44,16 +52,21 @@ returns c =
     let y = w .before in
     let x = y .before in
     let v = x .before in
-    let k = v .before in
+    let o = v .before in
+    let k = o .before in
     let s = Begin k in
-    let d = k .before .final-change-of .ensures in
+    let d = s .args .dim in
+    let timed = s .pre .0 .0 .timed in
+    let change = k .before .final-change-of .ensures in
+    let offset = o .vector-width .ensures .0 in
     record {
       position =
-          position-made (here k) _ d (v .vector .ensures) (x .add .ensures) (s .pre .0 .0 .timed .dtIs)
+          position-made (timed .over .axes) (here k) _ change offset (v .vector .ensures) (x .add .ensures d)
+          (timed .dtIs)
           (y .vector2 .ensures)
-          (w .scale .ensures)
-          (c .add2 .ensures);
-      velocity = velocity-made (here k) _ d (v .vector .ensures) (x .add .ensures);
+          (w .scale .ensures d)
+          (c .add2 .ensures d);
+      velocity = velocity-made (timed .over .axes) (here k) _ change offset (v .vector .ensures) (x .add .ensures d);
     }
 
 pub motion-of-spec : {M : Type 1} → statement M
@@ -62,6 +75,7 @@ motion-of-spec =
     (tie.spec
     final-change-of-requires
     record-of-requires
+    (λ c κs. search needs)
     add-vector
     vector-requires
     (λ c κs. search needs)

@@ -14,46 +14,47 @@ use Rattle.iisph_rules.specs.Coefficients.{coefficients}
 use Rattle.iisph_rules.specs.Step.{fluidAnswer}
 use Rattle.iisph_pressures.specs.IterationRows.{pressuresIn}
 use Rattle.lists.specs.Stores.{inRows, stored}
+use Rattle.lists.proofs.Addressings.{rows-apart}
 use Rattle.lists.proofs.Stores.{stored-none}
-use Rattle.scene_format.specs.Format.{axes}
 use Rattle.scene_lengths.specs.Lengths.{fluidAnswerWidth}
 use Rattle.iisph_motion.proofs.Motions.{answers-next}
 use Rattle.iisph_motion.proofs.answers.update_velocities_and_positions.Statement.{statement}
 use Rattle.iisph_motion.proofs.answers.update_velocities_and_positions.Tie as tie
 
 abbrev Inv-loop : tie.InvT-loop
-Inv-loop scene index work n dt gravity answers₀ i₀ answers i =
+Inv-loop scene index work dim n dt gravity answers₀ i₀ answers i =
     (i ≤ n)
     × (length answers ≡ length answers₀)
     × (answers
-    ≡ stored (fluidAnswerWidth axes) i 0
-    (fluidAnswer (sceneOf scene) (coefficients (sceneOf scene)) (pressuresIn n work)) answers₀)
+    ≡ stored (fluidAnswerWidth dim) i 0
+    (fluidAnswer (sceneOf scene) (coefficients (sceneOf scene)) (pressuresIn dim n work)) answers₀)
 
 abbrev μ-loop : tie.MeasureT-loop
-μ-loop scene index work n dt gravity answers₀ i₀ answers i = n - i
+μ-loop scene index work dim n dt gravity answers₀ i₀ answers i = n - i
 
 abbrev Begin : tie.At-loop Inv-loop μ-loop → tie.Start Inv-loop μ-loop
 Begin c = c .before .before .before .before .before
 
 loop-holds : tie.Need-loop-holds Inv-loop μ-loop
-loop-holds c = (omega arith, refl, stored-none nan (inRows (fluidAnswerWidth axes)) 0 _ _)
+loop-holds c = (omega arith, refl, stored-none nan (inRows _) 0 _ _)
 
 put-answer-requires : tie.Need-put-answer-requires Inv-loop μ-loop
 put-answer-requires c κs =
     let l = c .before .before in
     let p = Begin l .pre in
     let h = c .before .loop-test .taken in
-    (p .0, (h, omega (arith, h, p .1, l .loop .inv .1)))
+    (p .0, (h, omega (arith, rows-apart (fluidAnswerWidth (Begin l .args .dim)) h, p .1, l .loop .inv .1)))
 
 loop-again : tie.Need-loop-again Inv-loop μ-loop
 loop-again c =
     let t = c .before .before in
     let l = t .before .before .before in
     let a = Begin l .args in
-    let s = sceneOf (now (a .scene)) in (
+    let s = sceneOf (now (a .scene)) in
+    let ps = pressuresIn (a .dim) (a .n) (now (a .work)) in (
       omega arith,
       ap length (t .put-answer .ensures) ∙ simp length-sets (l .loop .inv .1),
-      answers-next (fluidAnswer s (coefficients s) (pressuresIn (a .n) (now (a .work)))) (now (a .answers)) (l .loop .i)
+      answers-next (fluidAnswerWidth (a .dim)) (fluidAnswer s (coefficients s) ps) (now (a .answers)) (l .loop .i)
           (l .loop .inv .2)
           (t .put-answer .ensures),
     )
@@ -63,9 +64,9 @@ returns c =
     let l = c .before .loop in
     let a = Begin (c .before) .args in
     let s = sceneOf (now (a .scene)) in
-    let ps = pressuresIn (a .n) (now (a .work)) in
+    let ps = pressuresIn (a .dim) (a .n) (now (a .work)) in
     l .inv .2
-    ∙ ap (λ (k : ℕ). stored (fluidAnswerWidth axes) k 0 (fluidAnswer s (coefficients s) ps) (now (a .answers)))
+    ∙ ap (λ (k : ℕ). stored (fluidAnswerWidth (a .dim)) k 0 (fluidAnswer s (coefficients s) ps) (now (a .answers)))
     (le-antisymm (l .inv .0) (c .loop-test .left))
 
 pub update-velocities-and-positions-spec : {M : Type 1} → statement M

@@ -7,7 +7,9 @@ use native.Mathlib.Omega.{arith}
 use denote.Ref.{now}
 use lib.Ieee.{nan}
 use lib.ListN.{length}
+use Rattle.math.specs.Vector.{Axes}
 use Rattle.scene_format.specs.SceneOf.{sceneOf}
+use Rattle.iisph_pressures.proofs.IterationTerms.{axes-are}
 use Rattle.iisph_rows.specs.Rows.{slotAt}
 use Rattle.lists.specs.Stores.{storedAt}
 use Rattle.iisph_passes.specs.Traverse.{slotOf, rowOf}
@@ -18,17 +20,20 @@ use Rattle.iisph_passes.proofs.traverse.traverse.Statement.{statement}
 use Rattle.iisph_passes.proofs.traverse.traverse.Tie as tie
 
 abbrev Inv-loop : tie.InvT-loop
-Inv-loop pass scene index n dt gravity work₀ i₀ work i = (i ≤ n) × (length work ≡ length work₀)
-    × (work ≡ storedAt (slotAt n) i (slotOf pass) (rowOf (sceneOf scene) work₀ pass) work₀)
+Inv-loop pass scene index dim n dt gravity work₀ i₀ work i = (i ≤ n) × (length work ≡ length work₀)
+    × (work ≡ storedAt (slotAt dim n) i (slotOf dim pass) (rowOf dim (sceneOf scene) work₀ pass) work₀)
 
 abbrev μ-loop : tie.MeasureT-loop
-μ-loop pass scene index n dt gravity work₀ i₀ work i = n - i
+μ-loop pass scene index dim n dt gravity work₀ i₀ work i = n - i
 
 abbrev Begin : tie.After-slice-known Inv-loop μ-loop → tie.Start Inv-loop μ-loop
 Begin c = c .before .before .before
 
+axes : (b : tie.Start Inv-loop μ-loop) → Axes (b .args .dim)
+axes b = axes-are (now (b .args .scene)) (b .pre .0 .timed .over .axes)
+
 loop-holds : tie.Need-loop-holds Inv-loop μ-loop
-loop-holds c = (omega arith, refl, stored-none nan (slotAt _) _ _ _)
+loop-holds c = (omega arith, refl, stored-none nan (slotAt _ _) _ _ _)
 
 update-row-requires : tie.Need-update-row-requires Inv-loop μ-loop
 update-row-requires c κs =
@@ -38,7 +43,8 @@ update-row-requires c κs =
       (b .pre .0, c .before .loop-test .taken),
       (
         omega (arith, b .pre .1 .0),
-        ready-kept (now (a .scene)) (b .pre .0 .timed .over .size) (l .loop .i) (l .loop .inv .0) (now (a .work))
+        ready-kept (now (a .scene)) (b .pre .0 .timed .over .axes) (axes b) (b .pre .0 .timed .over .size) (l .loop .i)
+            (l .loop .inv .0) (now (a .work))
             (a .pass) (l .loop .inv .2) (b .pre .1 .1),
       ),
     )
@@ -47,13 +53,16 @@ loop-again : tie.Need-loop-again Inv-loop μ-loop
 loop-again c =
     let t = c .before .before in
     let l = t .before .before .before in
-    let a = Begin (l .before) .args in (
+    let s = Begin (l .before) in
+    let a = s .args in (
       omega arith,
-      ap length (t .update-row .ensures) ∙ (length-slots (slotAt (a .n) (l .loop .i)) _ _ _ ∙ l .loop .inv .1),
-      stored-next nan (slotAt (a .n)) (slotOf (a .pass)) (rowOf (sceneOf (now (a .scene))) (now (a .work)) (a .pass))
+      ap length (t .update-row .ensures) ∙ (length-slots (slotAt (a .dim) (a .n) (l .loop .i)) _ _ _ ∙ l .loop .inv .1),
+      stored-next nan (slotAt (a .dim) (a .n)) (slotOf (a .dim) (a .pass))
+          (rowOf (a .dim) (sceneOf (now (a .scene))) (now (a .work)) (a .pass))
           (now (a .work)) (l .loop .i) (l .loop .inv .2)
           (t .update-row .ensures
-          ∙ row-again (now (a .scene)) (Begin (l .before) .pre .0 .timed .over .size) (l .loop .i)
+          ∙ row-again (now (a .scene)) (s .pre .0 .timed .over .axes) (axes s) (s .pre .0 .timed .over .size)
+          (l .loop .i)
           (t .before .before .loop-test .taken) (now (a .work)) (a .pass) (l .loop .inv .2)),
     )
 
@@ -62,8 +71,8 @@ returns c =
     let l = c .before .loop in
     let a = Begin (c .before .before) .args in
     l .inv .2
-    ∙ ap (λ (k : ℕ). storedAt (slotAt (a .n)) k (slotOf (a .pass))
-    (rowOf (sceneOf (now (a .scene))) (now (a .work)) (a .pass)) (now (a .work)))
+    ∙ ap (λ (k : ℕ). storedAt (slotAt (a .dim) (a .n)) k (slotOf (a .dim) (a .pass))
+    (rowOf (a .dim) (sceneOf (now (a .scene))) (now (a .work)) (a .pass)) (now (a .work)))
     (le-antisymm (l .inv .0) (c .loop-test .left))
 
 pub traverse-spec : {M : Type 1} → statement M

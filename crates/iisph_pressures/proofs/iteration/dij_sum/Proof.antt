@@ -10,87 +10,104 @@ use Rattle.lists.specs.Lists.{fold, table}
 use Rattle.math.specs.Vector.{coordinates, origin}
 use Rattle.scene_format.specs.SceneOf.{contactAt, contactList, sceneOf}
 use Rattle.iisph_pressures.specs.IterationRows.{pressuresIn, quotient, withDij}
-use Rattle.scene_format.specs.Format.{axes, contactWidth, startsOf}
+use Rattle.scene_format.specs.Format.{startsOf}
 use Rattle.scene_format.specs.declared.Kind.the-variants.{Fluid}
 use Rattle.scene_index.specs.Contacts.{ContactReady, overFirst}
-use Rattle.iisph_pressures.proofs.IterationTerms.{dij-step}
-use Rattle.scene_index.proofs.ContactLists.{fold-next}
+use Rattle.iisph_pressures.proofs.IterationTerms.{dij-step, quotient-there}
+use Rattle.scene_index.proofs.ContactLists.{fold-next, contact-here, contact-room, target-ready}
 use Rattle.scene_index.proofs.Targets.{fluid-named}
-use Rattle.iisph_rows.proofs.RowReads.{column-value}
 use Rattle.iisph_pressures.proofs.iteration.dij_sum.Statement.{statement}
 use Rattle.iisph_pressures.proofs.iteration.dij_sum.Tie as tie
 
 abbrev Inv-loop : tie.InvT-loop
-Inv-loop scene index work n count at sum₀ k₀ sum k =
+Inv-loop scene index work dim n count at width quotients sum₀ k₀ sum k =
     (k ≤ count)
-    × (coordinates sum
-    ≡ overFirst Fluid scene at (withDij (sceneOf scene) (pressuresIn n work)) (origin axes) k)
+    × (coordinates dim sum
+    ≡ overFirst Fluid dim scene at (withDij (sceneOf scene) (pressuresIn dim n work)) (origin dim) k)
 
 abbrev μ-loop : tie.MeasureT-loop
-μ-loop scene index work n count at sum₀ k₀ sum k = count - k
+μ-loop scene index work dim n count at width quotients sum₀ k₀ sum k = count - k
 
 loop-holds : tie.Need-loop-holds Inv-loop μ-loop
 unfolding contactList table fold
-loop-holds c = (omega arith, c .zero .ensures)
+loop-holds c =
+    let s = c .before .before .before .before .before .before in
+    (omega arith, c .zero .ensures (s .args .dim) (s .pre .1 .axes .most))
 
 abbrev Begin : tie.In-loop Inv-loop μ-loop → tie.Start Inv-loop μ-loop
-Begin c = c .before .before .before .before .before .before
+Begin c = c .before .before .before .before .before .before .before .before
 
 -- the contact of a turn
+abbrev Width : tie.In-loop Inv-loop μ-loop → tie.After-contact-width Inv-loop μ-loop
+Width c = c .before .before .before .before
+
 here : (c : tie.In-loop Inv-loop μ-loop)
-    → ContactReady Fluid (now (Begin c .args .scene))
-    (Begin c .args .list .at + contactWidth axes * c .before .loop .k)
-here c = Begin c .pre .1 .each (c .before .loop .k) (c .loop-test .taken)
+    → let a = Begin c .args in
+    ContactReady Fluid (a .dim) (now (a .scene)) (a .list .at + Width c .contact-width .result * c .before .loop .k)
+here c = contact-here (Begin c .pre .1) _ (Width c .contact-width .ensures .0) (c .loop-test .taken)
+
+mul-c : tie.Need-mul-c Inv-loop μ-loop
+mul-c c = omega (arith, target-ready (here c) .1)
+
+add-c : tie.Need-add-c Inv-loop μ-loop
+add-c c = omega (arith, target-ready (here c) .1)
 
 target-of-requires : tie.Need-target-of-requires Inv-loop μ-loop
-target-of-requires c κs = (Begin c .pre .0 .0 .indexed, here c)
+target-of-requires c κs = (Begin c .pre .0 .0 .indexed, target-ready (here c))
 
 -- the particle that it names
 below : (c : tie.After-target-of Inv-loop μ-loop) → c .target-of .result < Begin (c .before) .args .n
 below c =
     let p = Begin (c .before) .pre in
-    omega (arith, p .0 .0 .size, fluid-named (here (c .before)) (c .target-of .ensures) refl)
+    omega (arith, p .0 .0 .size, fluid-named (here (c .before) .target) (c .target-of .ensures) refl)
 
 vector-requires : tie.Need-vector-requires Inv-loop μ-loop
-vector-requires c κs = here (c .before) .doubles .gradient
+vector-requires c κs = (Begin (c .before) .pre .1 .axes, here (c .before) .doubles .gradient)
 
-mul-scale : tie.Need-mul-scale Inv-loop μ-loop
-mul-scale c =
-    let p = Begin (c .before .before) .pre in
-    omega (arith, below (c .before), p .0 .0 .indexed .fewFluid, p .0 .0 .size)
+add-vector : tie.Need-add-vector Inv-loop μ-loop
+add-vector c = omega (arith, contact-room (Begin (c .before) .pre .1 .axes) (here (c .before)))
 
-add-scale : tie.Need-add-scale Inv-loop μ-loop
-add-scale c =
-    let p = Begin (c .before .before) .pre in
-    omega (arith, below (c .before), p .0 .0 .indexed .fewFluid, p .0 .0 .size)
+column-at-requires : tie.Need-column-at-requires Inv-loop μ-loop
+column-at-requires c κs =
+    let t = c .before in
+    let p = Begin (t .before) .pre in (
+      omega (arith, t .before .before .before .before .quotient-column .ensures, p .1 .axes .least),
+      below t,
+      omega (arith, p .0 .1 .room),
+    )
 
-mul-scale-2 : tie.Need-mul-scale-2 Inv-loop μ-loop
-mul-scale-2 c =
-    let p = Begin (c .before .before) .pre in
-    omega (arith, below (c .before), p .0 .0 .indexed .fewFluid, p .0 .0 .size)
+-- there are few contacts, since each takes bytes
+few : (c : tie.In-loop Inv-loop μ-loop) → c .before .loop .k + 1 < 0x1_0000_0000_0000_0000
+few c = omega (arith, Begin c .pre .1 .room, c .loop-test .taken)
 
-shared-slice-read-scale : tie.Need-shared-slice-read-scale Inv-loop μ-loop
-shared-slice-read-scale c =
-    let t = c .before .before in
-    omega (arith, below t, Begin (t .before) .pre .0 .1 .room)
+add-k : tie.Need-add-k Inv-loop μ-loop
+add-k c = omega (arith, few (c .before .before .before .before .before .before))
 
 loop-again : tie.Need-loop-again Inv-loop μ-loop
 unfolding contactAt
 loop-again c =
-    let v = c .before .before .before in
+    let x = c .before .before .before in
+    let v = x .before in
     let t = v .before in
-    let l = t .before .before .loop in
-    let s = Begin (t .before) in
+    let i = t .before in
+    let l = i .before .loop in
+    let s = Begin i in
     let a = s .args in
+    let d = a .dim in
     let scene = sceneOf (now (a .scene)) in
-    let ps = pressuresIn (a .n) (now (a .work)) in (
+    let ps = pressuresIn d (a .n) (now (a .work)) in (
       omega arith,
-      fold-next (withDij scene ps) (origin axes) Fluid (now (a .scene)) (a .list .at) (l .k) (l .inv .1)
+      fold-next (withDij scene ps) (origin d) Fluid d (now (a .scene)) (a .list .at) (l .k)
+          (Width i .contact-width .ensures .0)
+          (l .inv .1)
           (dij-step scene ps
-          (contactAt (startsOf Fluid (now (a .scene))) (now (a .scene))
-          (a .list .at + contactWidth axes * l .k)) (coordinates (l .sum)) (c .add .ensures) (c .before .scale .ensures)
+          (contactAt d (startsOf Fluid (now (a .scene))) (now (a .scene))
+          (a .list .at + Width i .contact-width .result * l .k)) (coordinates d (l .sum)) (c .add .ensures d)
+          (c .before .scale .ensures d)
           (v .vector .ensures)
-          (column-value (quotient scene ps) (s .pre .0 .1 .quotients) (omega arith) (t .target-of .result) (below t)
+          (quotient-there scene ps d (s .pre .0 .1 .quotients) (i .before .before .before .quotient-column .ensures)
+          (below t)
+          (x .column-at .ensures .0)
           ∙ ap (quotient scene ps) (t .target-of .ensures))),
     )
 
@@ -106,19 +123,20 @@ dij-sum-spec =
     Inv-loop
     μ-loop
     (λ c κs. search needs)
+    (λ c κs. search needs)
+    (λ c κs. search needs)
     loop-holds
-    (λ c. search needs)
-    (λ c. search needs)
+    mul-c
+    add-c
     target-of-requires
-    (λ c. search needs)
+    add-vector
     vector-requires
-    mul-scale
-    add-scale
-    mul-scale-2
-    shared-slice-read-scale
-    (λ c κs. search needs)
-    (λ c κs. search needs)
+    column-at-requires
     (λ c. search needs)
+    (λ c. search needs)
+    (λ c κs. search needs)
+    (λ c κs. search needs)
+    add-k
     (λ c. search needs)
     loop-again
     returns)

@@ -1,7 +1,8 @@
 -- `iisph_rows::boundary_volumes::compute_boundary_volumes` meets its contract: boundary by boundary, each a run of
 -- volumes behind those done. Assumes nothing.
-use Prim.Native.Nat.{_-_}
-use mathlib.Core.Path.{_∙_}
+use Prim.Native.Nat.{_-_, _*_}
+use mathlib.Core.Path.{_≡_, _∙_}
+use native.Mathlib.Nat.{mul-le-mul-right}
 use native.Mathlib.Omega.{arith}
 use borrow.Author.Needs.{needs}
 use denote.Ref.{now}
@@ -16,13 +17,21 @@ use Rattle.iisph_rows.proofs.boundary_volumes.compute_boundary_volumes.
 use Rattle.iisph_rows.proofs.boundary_volumes.compute_boundary_volumes.Tie as tie
 
 abbrev Inv-loop : tie.InvT-loop
-Inv-loop scene index n work₀ heads number first₀ m₀ work first m = Stored scene work₀ (volumesAt n) first m work
+Inv-loop scene index dim n work₀ behind heads number first₀ m₀ work first m = Stored scene work₀ behind first m work
 
 abbrev μ-loop : tie.MeasureT-loop
-μ-loop scene index n work₀ heads number first₀ m₀ work first m = number - m
+μ-loop scene index dim n work₀ behind heads number first₀ m₀ work first m = number - m
 
 abbrev Begin : tie.In-loop Inv-loop μ-loop → tie.Start Inv-loop μ-loop
-Begin c = c .before .before .before .before .before .before .before
+Begin c = c .before .before .before .before .before .before .before .before
+
+-- where the volumes begin
+behind-is : (c : tie.After-work-width Inv-loop μ-loop)
+    → let a = c .before .before .before .before .args in c .work-width .result * a .n ≡ volumesAt (a .dim) (a .n)
+behind-is c = rw (c .work-width .ensures .0)
+
+abbrev widths : tie.In-loop Inv-loop μ-loop → tie.After-work-width Inv-loop μ-loop
+widths c = c .before .before .before .before
 
 abbrev inside : tie.After-keeps Inv-loop μ-loop → tie.In-loop Inv-loop μ-loop
 inside c = c .before .before
@@ -58,20 +67,30 @@ particles-requires c κs = turn c .within .headRoom
 keeps-requires : tie.Need-keeps-requires Inv-loop μ-loop
 keeps-requires c κs = turn (c .before) .within .headRoom
 
-mul-put-volumes : tie.Need-mul-put-volumes Inv-loop μ-loop
-mul-put-volumes c = omega (arith, Begin (inside c) .pre .0 .0 .fewFluid)
+mul-behind : tie.Need-mul-behind Inv-loop μ-loop
+mul-behind c = omega (arith, behind-is c, c .before .before .before .before .pre .1 .1)
 
 add-put-volumes : tie.Need-add-put-volumes Inv-loop μ-loop
 add-put-volumes c =
     let s = Begin (inside c) in
-    omega (arith, s .pre .0 .0 .fewFluid, s .pre .0 .0 .fewBoundary, run c .within)
+    let w = widths (inside c) .work-width .ensures .1 in
+    omega (
+      arith,
+      mul-le-mul-right (s .args .n) w,
+      s .pre .1 .0,
+      s .pre .0 .0 .fewFluid,
+      s .pre .0 .0 .fewBoundary,
+      run c .within,
+    )
 
 put-volumes-requires : tie.Need-put-volumes-requires Inv-loop μ-loop
 put-volumes-requires c κs =
     let k = c .before in
     let i = inside k in
-    let s = Begin i in
-    (s .pre .0 .0, (run k, omega (arith, s .pre .1 .1, run k .within, i .before .loop .inv .long)))
+    let s = Begin i in (
+      s .pre .0 .0,
+      (run k, omega (arith, behind-is (widths i), s .pre .1 .1, run k .within, i .before .loop .inv .long)),
+    )
 
 add-first : tie.Need-add-first Inv-loop μ-loop
 add-first c =
@@ -90,8 +109,10 @@ loop-again c =
 
 returns : tie.Need-returns Inv-loop μ-loop
 returns c =
-    let p = c .before .before .before .before .before .before .before .pre .0 .1 in
-    all-stored _ _ _ (c .before .loop .inv) (rw (← boundary-number _ (p .layoutIs)) (c .loop-test .left))
+    let w = c .before .before .before .before in
+    let p = w .before .before .before .before .pre .0 .1 in
+    rw (w .work-width .ensures .0) at
+    (all-stored _ _ _ (c .before .loop .inv) (rw (← boundary-number _ (p .layoutIs)) (c .loop-test .left)))
 
 pub compute-boundary-volumes-spec : {M : Type 1} → statement M
 compute-boundary-volumes-spec =
@@ -99,12 +120,13 @@ compute-boundary-volumes-spec =
     (tie.spec
     Inv-loop
     μ-loop
+    (λ c κs. search needs)
+    mul-behind
     loop-holds
     mul-head
     array-read-head
     particles-requires
     keeps-requires
-    mul-put-volumes
     add-put-volumes
     put-volumes-requires
     add-first

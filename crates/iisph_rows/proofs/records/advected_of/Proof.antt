@@ -6,6 +6,7 @@ use Rattle.scene_check.specs.Accepted.{FluidParticleOk}
 use Rattle.scene_format.specs.Format.{locationOf}
 use Rattle.scene_format.specs.declared.Kind.the-variants.{Fluid}
 use Rattle.iisph_rows.proofs.Particles.{record-asked, record-here, advected-made}
+use Rattle.iisph_rows.proofs.Particles.{velocity-read, velocity-within}
 use borrow.Author.Needs.{needs}
 use Rattle.iisph_rows.proofs.records.advected_of.Statement.{statement}
 use Rattle.iisph_rows.proofs.records.advected_of.Tie as tie
@@ -24,22 +25,33 @@ record-of-requires : tie.Need-record-of-requires
 record-of-requires c κs = let p = c .before .before .pre in record-asked (p .0 .timed .over) (p .1)
 
 add-vector : tie.Need-add-vector
-add-vector c = omega (arith, here (c .before) .own .counts)
+add-vector c =
+    let r = c .before .before in
+    let p = Begin r .pre .0 .timed .over in
+    omega (arith, velocity-within (p .axes) (here r) (c .vector-width .ensures .0))
 
 vector-requires : tie.Need-vector-requires
-vector-requires c κs = here (c .before) .own .velocity
+vector-requires c κs =
+    let r = c .before .before in
+    let p = Begin r .pre .0 .timed .over in
+    velocity-read (p .axes) (here r) (c .vector-width .ensures .0)
 
 returns : tie.Need-returns
 returns c =
     let v = c .before in
-    let w = v .before in
-    c .add .ensures ∙ advected-made (here (w .before)) (v .vector .ensures) (w .velocity-change-of .ensures)
+    let o = v .before in
+    let w = o .before in
+    let b = Begin (w .before) in
+    c .add .ensures (b .args .dim)
+    ∙ advected-made (b .pre .0 .timed .over .axes) (here (w .before)) (o .vector-width .ensures .0) (v .vector .ensures)
+    (w .velocity-change-of .ensures)
 
 pub advected-of-spec : {M : Type 1} → statement M
 advected-of-spec =
     tie.close
     (tie.spec
     record-of-requires
+    (λ c κs. search needs)
     (λ c κs. search needs)
     add-vector
     vector-requires

@@ -8,7 +8,8 @@ use Rattle.math.specs.Vector.{Vector, coordinates, _⊞_, _⊡_}
 use Rattle.scene_check.specs.Accepted.{FluidParticleOk}
 use Rattle.scene_format.specs.Format.{locationOf}
 use Rattle.scene_format.specs.declared.Kind.the-variants.{Fluid}
-use Rattle.iisph_rows.proofs.Particles.{record-asked, record-here, change-made}
+use Rattle.iisph_rows.proofs.Particles.{few-axes, record-asked, record-here, change-made}
+use Rattle.iisph_rows.proofs.Particles.{acceleration-read, acceleration-within}
 use Rattle.iisph_rows.proofs.records.velocity_change_of.Statement.{statement}
 use Rattle.iisph_rows.proofs.records.velocity_change_of.Tie as tie
 
@@ -26,28 +27,38 @@ record-of-requires : tie.Need-record-of-requires
 record-of-requires c κs = let p = c .before .before .pre in record-asked (p .0 .timed .over) (p .1)
 
 add-vector : tie.Need-add-vector
-add-vector c = omega (arith, here c .own .counts)
+add-vector c =
+    let p = Begin (c .before) .pre .0 .timed .over in
+    omega (arith, acceleration-within (p .axes) (here (c .before)) (c .acceleration .ensures .0))
 
 vector-requires : tie.Need-vector-requires
-vector-requires c κs = here c .own .acceleration
+vector-requires c κs =
+    let p = Begin (c .before) .pre .0 .timed .over in
+    acceleration-read (p .axes) (here (c .before)) (c .acceleration .ensures .0)
 
 returns : tie.Need-returns
 returns c =
     let s = c .before in
-    let a = s .before .before in
+    let z = s .before in
+    let a = z .before in
     let v = a .before in
-    let b = Begin (v .before) in
-    c .add2 .ensures
-    ∙ ap (λ (x : Vector). coordinates (s .before .zero .result) ⊞ x)
-    (s .scale .ensures ∙ ap (λ (x : Vector). x ⊡ b .args .dt) (a .add .ensures))
-    ∙ change-made (here (v .before)) (v .vector .ensures) (b .pre .0 .gravityIs) (b .pre .0 .timed .dtIs)
-    (s .before .zero .ensures)
+    let o = v .before in
+    let b = Begin (o .before) in
+    let p = b .pre .0 in
+    let d = b .args .dim in
+    c .add2 .ensures d
+    ∙ ap (λ (x : Vector). coordinates d (z .zero .result) ⊞ x)
+    (s .scale .ensures d ∙ ap (λ (x : Vector). x ⊡ b .args .dt) (a .add .ensures d))
+    ∙ change-made (p .timed .over .axes) (here (o .before)) (o .acceleration .ensures .0) (v .vector .ensures)
+    (p .gravityIs)
+    (p .timed .dtIs) (z .zero .ensures d (few-axes _ (p .timed .over .axes)))
 
 pub velocity-change-of-spec : {M : Type 1} → statement M
 velocity-change-of-spec =
     tie.close
     (tie.spec
     record-of-requires
+    (λ c κs. search needs)
     add-vector
     vector-requires
     (λ c κs. search needs)

@@ -16,10 +16,10 @@ use Rattle.iisph_rows.proofs.zeros.first_zero.Statement.{statement}
 use Rattle.iisph_rows.proofs.zeros.first_zero.Tie as tie
 
 abbrev Inv-loop : tie.InvT-loop
-Inv-loop work n number i₀ i = (i ≤ n) × NoZero (λ j. getD work (number * n + j) nan) i
+Inv-loop work dim n number i₀ i = (i ≤ n) × NoZero (λ j. getD work (number * n + j) nan) i
 
 abbrev μ-loop : tie.MeasureT-loop
-μ-loop work n number i₀ i = n - i
+μ-loop work dim n number i₀ i = n - i
 
 loop-holds : tie.Need-loop-holds Inv-loop μ-loop
 loop-holds c = (omega arith, λ j h. absurd (not-suc-le-zero h))
@@ -27,10 +27,10 @@ loop-holds c = (omega arith, λ j h. absurd (not-suc-le-zero h))
 -- the column stands before the volumes
 within : (c : tie.In-loop Inv-loop μ-loop)
     → let a = c .before .before .before .args in
-    a .number * a .n + a .n ≤ volumesAt (a .n)
+    a .number * a .n + a .n ≤ volumesAt (a .dim) (a .n)
 within c =
     let s = c .before .before .before in
-    column-within (s .args .n) (s .args .number) (s .pre .0)
+    column-within (s .args .dim) (s .args .n) (s .args .number) (s .pre .0)
 
 mul-is-zero : tie.Need-mul-is-zero Inv-loop μ-loop
 mul-is-zero c = omega (arith, within c, c .before .before .before .pre .1)

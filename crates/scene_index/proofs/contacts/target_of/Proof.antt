@@ -30,7 +30,7 @@ fluid : (c : tie.After-enum-told)
 fluid c =
     let k = c .before .before in
     let s = Begin k in
-    base-found (s .pre .0) (s .args .kind) _ (k .contact-name .ensures) (s .pre .1)
+    base-found (s .pre .0) (s .args .kind) _ (k .contact-name .ensures) (s .pre .1 .0)
     (sym (ap (λ κ. basesAt κ (now (s .args .scene))) (c .enum-told .given .1)))
 
 boundary : (c : tie.After-enum-told2)
@@ -44,7 +44,7 @@ boundary : (c : tie.After-enum-told2)
 boundary c =
     let k = c .before .before in
     let s = Begin k in
-    base-found (s .pre .0) (s .args .kind) _ (k .contact-name .ensures) (s .pre .1)
+    base-found (s .pre .0) (s .args .kind) _ (k .contact-name .ensures) (s .pre .1 .0)
     (bases-begin (s .pre .0) ∙ sym (ap (λ κ. basesAt κ (now (s .args .scene))) (c .enum-told2 .given .1)))
 
 shared-slice-read-result : tie.Need-shared-slice-read-result
@@ -56,7 +56,7 @@ returns c = fluid (c .before) .1
 add-result-2 : tie.Need-add-result-2
 add-result-2 c =
     let p = Begin (c .before .before .before) .pre in
-    omega (arith, returns c, target-few (p .0) _ _ (p .1))
+    omega (arith, returns c, target-few (p .0) _ _ (p .1 .0))
 
 shared-slice-read-bases : tie.Need-shared-slice-read-bases
 shared-slice-read-bases c = omega (arith, Begin (c .before .before .before) .pre .0 .room)
@@ -76,7 +76,7 @@ returns-2 c = boundary (c .before .before) .1
 add-result-4 : tie.Need-add-result-4
 add-result-4 c =
     let p = Begin (c .before .before .before .before) .pre in
-    omega (arith, returns-2 c, target-few (p .0) _ _ (p .1))
+    omega (arith, returns-2 c, target-few (p .0) _ _ (p .1 .0))
 
 pub target-of-spec : {M : Type 1} → statement M
 target-of-spec =
