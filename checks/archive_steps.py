@@ -19,7 +19,7 @@ import subprocess
 import sys
 import tempfile
 
-from parts.packing import unpack
+from parts.packing import axes_of, unpack
 from parts.step_rules import LONGEST, row
 from reference import Stop, unbatch
 
@@ -80,12 +80,13 @@ def told(ending, counts, numbers, answers, data):
     """The lines of a step."""
     first = row("step %s %d" % (ending, counts[0]), numbers[0])[:-1] + " %d\n" % counts[1]
     lines, at = ["step unswept 0\n" if ending == ENDINGS[0] else first, row("clock", *numbers[1:])], 0
-    s = unpack(data)
-    for kind, name, width in ("fluids", "fluid", lambda _: 7), ("walls", "wall", lambda keeps: 4 if keeps else 1):
-        for m, (of_model, particles) in enumerate(s[kind]):
-            for k in range(len(particles)):
-                lines.append(row("%s %d %d" % (name, m, k), *answers[at:at + width(of_model)]))
-                at += width(of_model)
+    s, axes = unpack(data), axes_of(data)
+    models = [("fluid", m, 1 + 2 * axes, particles) for m, (_, particles) in enumerate(s["fluids"])]
+    models += [("wall", m, 1 + keeps * axes, particles) for m, (keeps, particles) in enumerate(s["walls"])]
+    for name, m, width, particles in models:
+        for k in range(len(particles)):
+            lines.append(row("%s %d %d" % (name, m, k), *answers[at:at + width]))
+            at += width
     return "".join(lines)
 
 

@@ -2,12 +2,13 @@
 """Runs two built benchmarks of oracle/ in turn, such as of the archive before a change and after it.
 A benchmark, not a test: it prints times and ratios and judges nothing.
 
-  checks/bench_pair.py OLD NEW [ROUNDS] [--repeats N] [--sizes LIST]
+  checks/bench_pair.py OLD NEW [ROUNDS] [--repeats N] [--sizes LIST] [--flat]
 
   OLD, NEW      copies of oracle/target/release/bench, each linked to its archive
   ROUNDS        each is run so many times (5), on one core, the last that this process may use
   --repeats N   each run keeps the best of so many timings (15)
   --sizes LIST  these sizes alone, such as 1,8,10000x8
+  --flat        the scenes with two axes
 
 A line for each row of the benchmark and for each way of ours to step, `step` or `lent` (with an
 index that the caller lends). For OLD and for NEW: our time by the Rust's, of the best times of all
@@ -86,9 +87,10 @@ def main():
     parser.add_argument("new")
     parser.add_argument("rounds", type=count, nargs="?", default=5)
     parser.add_argument("--repeats", type=count, default=15)
-    parser.add_argument("--sizes")
+    parser.add_argument("--sizes", default="all")
+    parser.add_argument("--flat", action="store_true")
     options = parser.parse_args()
-    arguments = [str(options.repeats)] + ([options.sizes] if options.sizes else [])
+    arguments = [str(options.repeats), options.sizes] + ["flat"] * options.flat
     os.sched_setaffinity(0, {max(os.sched_getaffinity(0))})      # the programs inherit it
     old, new = [], []
     try:

@@ -9,7 +9,7 @@ scene, or those up to and with the one that is refused; of a scene that is refus
 looks are the list's contacts, or those up to and with the one that is refused.
 
 The answers come from a reader written from the specification alone: it knows nothing of the code or
-its definitions.
+its definitions. Solid scenes come first, then flat ones.
 """
 import argparse
 import math
@@ -17,10 +17,12 @@ import pathlib
 import struct
 
 from parts import list_scenes
+from parts.packing import flat
+from parts.step_rules import AXES, FLAT, SOLID
 from reference import batch
 
 CRATE = pathlib.Path(__file__).resolve().parent.parent / "crates" / "cases_check"
-LAST_RULES = {1: 0, 2: 3}      # of each version that there is
+LAST_RULES = {1: 0, 2: 3, 4: 3}      # of each version that there is
 
 
 class Refused(Exception):
@@ -74,9 +76,10 @@ def contact_lists(data):
         raise Refused(3, 1)
     if second & 15 > LAST_RULES[first >> 4]:
         raise Refused(2, 1)
+    axes = AXES[first >> 4]
     r.take(1)
     r.take(1)
-    r.doubles(6)
+    r.doubles(3 + axes)
     fluids, boundaries = [], []      # the models' counts
     lists = []                       # of each list the counts, once they are all read, for its names; and these
     for _ in range(first & 15):
@@ -84,15 +87,15 @@ def contact_lists(data):
         fluids.append(r.count(n, here))
         r.doubles(1)
         for _ in range(n):
-            r.doubles(11)
+            r.doubles(3 * axes + 2)
             _, a = r.take(1)
             _, b = r.take(1)
-            lists += [(fluids, r.names(a, 4)), (boundaries, r.names(b, 4))]
+            lists += [(fluids, r.names(a, 1 + axes)), (boundaries, r.names(b, 1 + axes))]
     for _ in range(second >> 4):
         here, n = r.take(2)
         boundaries.append(r.count(n & 0x7FFF, here))
         for _ in range(n & 0x7FFF):
-            r.doubles(6 if n >> 15 else 3)
+            r.doubles((1 + (n >> 15)) * axes)
             _, a = r.take(1)
             lists.append((boundaries, r.names(a, 1)))
     if r.at < len(data):
@@ -122,7 +125,7 @@ def line(data):
     return " ".join([verdict, *map(str, looks)]) + "\n"
 
 
-# ---- scenes
+# ---- solid scenes
 
 def doubles(*xs):
     return b"".join(struct.pack(">d", x) for x in xs)
@@ -150,7 +153,7 @@ def boundary(keeps, records, count=None):
 
 
 def boundary_record(keeps, contacts):
-    return doubles(*[0.5] * (6 if keeps else 3)) + bytes([len(contacts)]) + b"".join(contacts)
+    return doubles(*[0.5] * ((1 + keeps) * SOLID)) + bytes([len(contacts)]) + b"".join(contacts)
 
 
 def to(model, particle):
@@ -176,15 +179,17 @@ def changed(data, *bytes_at):
     return bytes(data)
 
 
-def forms(whole):
-    """Byte 0 with each version, and byte 1 with each rule, alone and with other faults of these two
-    bytes."""
+# ---- solid scenes and flat ones; `turned` makes either of a solid one, `behind` is where its header ends
+
+def forms(whole, versions):
+    """Byte 0 with each version, and byte 1 with each rule of these, alone and with other faults of
+    these two bytes."""
     fluids, boundaries = whole[0] & 15, whole[1] >> 4
     for version in range(16):
         yield changed(whole, (0, version << 4 | fluids))
         yield bytes([version << 4 | 9])
         yield bytes([version << 4 | 8])
-    for version in LAST_RULES:
+    for version in versions:
         for rule in range(16):
             head = version << 4 | fluids
             yield changed(whole, (0, head), (1, boundaries << 4 | rule))
@@ -192,57 +197,73 @@ def forms(whole):
                 yield bytes([head, b << 4 | rule])
 
 
-def of_version_2():
+def of_rules(version, turned, behind):
     """Under each rule: cut, with bytes that follow, and with each other refusal of the check."""
-    for rule in range(LAST_RULES[2] + 1):
-        whole, lost = (changed(data, (0, 0x22), (1, 0x30 | rule)) for data in (rich(), rich(own_name=(0, 1))))
-        yield changed(header(0, 0), (0, 0x20), (1, rule))
+    for rule in range(LAST_RULES[version] + 1):
+        whole, lost = (changed(turned(data), (0, version << 4 | 2), (1, 0x30 | rule))
+                       for data in (rich(), rich(own_name=(0, 1))))
+        yield changed(turned(header(0, 0)), (0, version << 4), (1, rule))
         yield from (whole[:n] for n in range(0, len(whole), 7))
         yield from (whole + b"\0", lost, lost + b"\0")
-        for at in 4, 44, 54, 52, 62:
+        for at in 4, behind - 8, behind + 2, behind, behind + 10:
             yield changed(whole, (at, 0x7F), (at + 1, 0xF0))
             yield changed(lost, (at, 0x7F), (at + 1, 0xF0))
 
 
-def cases():
-    whole = rich()
+def named(turned):
+    """Names: the last particle's follower, an empty model, one that is not there."""
+    for name in ((1, 1), (0, 0), (2, 0), (15, 4095)):
+        yield turned(rich(fluid_name=name))
+    for name in ((2, 1), (1, 0), (3, 0), (15, 0)):
+        yield turned(rich(boundary_name=name))
+    for name in ((0, 1), (1, 0), (3, 0)):
+        yield turned(rich(own_name=name))
+
+
+def several_faults(turned, behind):
+    """At once."""
+    whole, lost = turned(rich()), turned(rich((2, 0)))
+    version = whole[0] >> 4
+    yield turned(rich((2, 0), (3, 0), (3, 0)))
+    yield lost + b"\0"
+    yield whole + b"\0"
+    for first in 0x29, version << 4 | 9:
+        yield changed(whole, (0, first), (1, 0x9F))
+    yield changed(whole, (1, 0x9F))
+    yield changed(whole, (1, 0x8F))
+    yield changed(lost, (4, 0x7F), (5, 0xF0))
+    yield changed(whole, (4, 0x7F), (5, 0xF0), (behind, 0xFF))
+    yield changed(whole, (4, 0xFF), (5, 0xF8))[:12]
+    yield changed(whole, (4, 0xFF), (5, 0xF8))[:11]
+
+
+def of_axes(versions, turned, behind):
+    whole = turned(rich())
     yield whole
     for n in range(len(whole)):
         yield whole[:n]
     for value in (0xFF, 0x00):
         for at in range(len(whole)):
             yield changed(whole, (at, value))
-    yield header(0, 0)
+    yield turned(header(0, 0))
     # counts at and above 4,096, with nothing behind them
     for n in (4095, 4096, 4097, 0x7FFF, 0x8000, 0xFFFF):
-        yield header(1, 0) + fluid([], n)
-        yield header(0, 1) + struct.pack(">H", n)
+        for data in header(1, 0) + fluid([]), header(0, 1) + boundary(0, []):
+            yield changed(turned(data), (behind, n >> 8), (behind + 1, n & 0xFF))
     # eight models of each kind, empty, and nine
-    yield header(8, 8) + fluid([]) * 8 + boundary(0, []) * 4 + boundary(1, []) * 4
-    yield header(9, 0) + fluid([]) * 9
-    yield header(0, 9) + boundary(0, []) * 9
-    # names: the last particle's follower, an empty model, one that is not there
-    for name in ((1, 1), (0, 0), (2, 0), (15, 4095)):
-        yield rich(fluid_name=name)
-    for name in ((2, 1), (1, 0), (3, 0), (15, 0)):
-        yield rich(boundary_name=name)
-    for name in ((0, 1), (1, 0), (3, 0)):
-        yield rich(own_name=name)
-    # several faults at once
-    yield rich((2, 0), (3, 0), (3, 0))
-    yield rich((2, 0)) + b"\0"
-    yield whole + b"\0"
-    yield changed(whole, (0, 0x29), (1, 0x9F))
-    yield changed(whole, (0, 0x19), (1, 0x9F))
-    yield changed(whole, (1, 0x9F))
-    yield changed(whole, (1, 0x8F))
-    yield changed(rich((2, 0)), (4, 0x7F), (5, 0xF0))
-    yield changed(whole, (4, 0x7F), (5, 0xF0), (52, 0xFF))
-    yield changed(whole, (4, 0xFF), (5, 0xF8))[:12]
-    yield changed(whole, (4, 0xFF), (5, 0xF8))[:11]
-    yield from forms(whole)
-    yield from of_version_2()
-    yield from list_scenes.scenes()
+    yield turned(header(8, 8) + fluid([]) * 8 + boundary(0, []) * 4 + boundary(1, []) * 4)
+    yield turned(header(9, 0) + fluid([]) * 9)
+    yield turned(header(0, 9) + boundary(0, []) * 9)
+    yield from named(turned)
+    yield from several_faults(turned, behind)
+    yield from forms(whole, versions)
+    yield from of_rules(versions[-1], turned, behind)
+    yield from map(turned, list_scenes.scenes())
+
+
+def cases():
+    for axes, turned in (SOLID, lambda data: data), (FLAT, flat):
+        yield from of_axes([version for version in AXES if AXES[version] == axes], turned, 28 + 8 * axes)
 
 
 def files():

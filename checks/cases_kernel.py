@@ -115,13 +115,17 @@ def order(b):
 
 ONE, TWO, THREE, SIX, EIGHT, HALF = (rounded(False, Fraction(x)) for x in (1, 2, 3, 6, 8, Fraction(1, 2)))
 PI, EPS = 0x400921FB54442D18, rounded(False, Fraction(1, 100000))
+NUMERATORS = {2: rounded(False, Fraction(40, 7)), 3: EIGHT}
 
 
-def normalizer(h):
-    return div(EIGHT, mul(mul(mul(PI, h), h), h))
+def normalizer(axes, h):
+    divisor = PI
+    for _ in range(axes):
+        divisor = mul(divisor, h)
+    return div(NUMERATORS[axes], divisor)
 
 
-def weight(r, h):
+def weight(axes, r, h):
     q = div(r, h)
     if at_most(q, HALF):
         q2 = mul(q, q)
@@ -131,10 +135,10 @@ def weight(r, h):
         shape = mul(mul(mul(t, t), t), TWO)
     else:
         shape = 0
-    return mul(normalizer(h), shape)
+    return mul(normalizer(axes, h), shape)
 
 
-def slope(r, h):
+def slope(axes, r, h):
     q = div(r, h)
     if (not at_most(q, ONE) and not is_nan(q)) or at_most(q, EPS):
         shape = 0
@@ -143,7 +147,7 @@ def slope(r, h):
     else:
         t = sub(ONE, q)
         shape = mul(mul(neg(t), t), SIX)
-    return div(mul(normalizer(h), shape), h)
+    return div(mul(normalizer(axes, h), shape), h)
 
 
 def refusal(r, h):
@@ -177,6 +181,9 @@ def pairs():
               (b(1e-105), b(1.5e-105))]
     cases += [(b(1e200), b(2e200)), (b(1.5e308), b(1.7e308)), (b(1.7e308), b(1e-300)), (b(1e100), b(3e102)),
               (b(1.0), b(1e103)), (0, b(1e-320))]
+    # where a normalizer becomes infinite and where it becomes 0, in three dimensions and in two
+    cases += [(0, b(2.0**-340)), (0, b(2.0**-341)), (0, b(2.0**-511)), (0, b(2.0**-512)), (b(1e-154), b(1.5e-154)),
+              (b(1.0), b(7e153)), (b(3e153), b(7e153)), (b(1.0), b(1e154))]
     refused = [(b(-1.0), ONE), (SIGN | 1, ONE), (inf, ONE), (SIGN | inf, ONE), (nan, ONE), (other_nan, ONE),
                (b(-1.0), 0)]
     refused += [(ONE, 0), (ONE, SIGN), (ONE, b(-2.0)), (ONE, inf), (ONE, SIGN | inf), (ONE, nan), (SIGN, SIGN | 1)]
@@ -206,9 +213,10 @@ def float_div(a, b):
     return float("inf") * (1 if (a > 0) == (struct.pack(">d", b)[0] < 128) else -1)
 
 
-def float_kernel(r, h):
+def float_kernel(axes, r, h):
     r, h = as_float(r), as_float(h)
-    norm, q = float_div(8.0, as_float(PI) * h * h * h), r / h
+    area = as_float(PI) * h * h
+    norm, q = float_div(8.0, area * h) if axes == 3 else float_div(40.0 / 7.0, area), r / h
     q2, t = q * q, 1.0 - q
     w = 1.0 + (q2 * q - q2) * 6.0 if q <= 0.5 else t * t * t * 2.0 if q <= 1.0 else 0.0
     s = 0.0 if q > 1.0 or q <= 1e-5 else (q * 3.0 - 2.0) * q * 6.0 if q <= 0.5 else -t * t * 6.0
@@ -226,11 +234,12 @@ def lines():
     out = []
     for r, h in pairs():
         number = refusal(r, h)
-        answers = (weight(r, h), slope(r, h))
-        if number == 0:
-            assert all(agrees(a, x) for a, x in zip(answers, float_kernel(r, h))), (hex(r), hex(h))
-        for name, a in zip(("weight", "slope"), answers):
-            out.append(f"{name} {hexed(r, h)} " + (f"refused {number}" if number else hexed(a)))
+        for axes, names in (3, ("weight", "slope")), (2, ("weight_2d", "slope_2d")):
+            answers = weight(axes, r, h), slope(axes, r, h)
+            if number == 0:
+                assert all(agrees(a, x) for a, x in zip(answers, float_kernel(axes, r, h))), (axes, hex(r), hex(h))
+            for name, a in zip(names, answers):
+                out.append(f"{name} {hexed(r, h)} " + (f"refused {number}" if number else hexed(a)))
     for step, remaining in clocks():
         dt, inverse, left = advanced(step, remaining)
         assert agrees(left, as_float(remaining) - as_float(step))

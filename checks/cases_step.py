@@ -21,9 +21,12 @@ data/longest. The step itself is parts/step_rules.py.
 import pathlib
 import sys
 
+from parts.flat_cases import flat_cases
+from parts.flat_faults import flat_faults
+from parts.packing import flat
 from parts.rule_cases import rules
 from parts.step_cases import readings, starred, swept
-from parts.step_drawn import drawn
+from parts.step_drawn import drawn, drawn_flat
 from parts.step_faults import faults, most_particles, sizes
 from parts.step_rules import LONGEST, lines, step, walk
 from parts.step_scenes import pair, rich, scene, scene_a, under
@@ -41,14 +44,21 @@ LENT = ((scene_a(), 6, 14, "refused 8 0\n"), (scene_a(), 7, 13, "refused 8 0\n")
           for data, answers, work, line in (
               (scene_a(), 7, 14, "refused 8 0\n"), (scene_a(), 6, 15, "refused 8 0\n"),
               (scene_a(), 7, 15, swept("settled", 2)), (rich(), 18, 32, "refused 8 0\n"),
-              (rich(), 19, 31, "refused 8 0\n"), (rich(), 19, 32, "step "))])
+              (rich(), 19, 31, "refused 8 0\n"), (rich(), 19, 32, "step "))],
+        *[(flat(data, rule=rule), answers, work + particles * (rule // 2), line) for rule in range(4)
+          for data, particles, answers, work, line in (
+              (scene_a(), 1, 4, 11, "refused 8 0\n"), (scene_a(), 1, 5, 10, "refused 8 0\n"),
+              (scene_a(), 1, 5, 11, swept("settled", 2)), (rich(own=(3, 0)), 2, 0, 0, "refused 7 335\n"),
+              (rich(), 2, 13, 24, "refused 8 0\n"), (rich(), 2, 14, 23, "refused 8 0\n"),
+              (rich(), 2, 14, 24, "step "))])
 
 
 # ---- the files
 
 def cases():
     """Comment, scene, and pieces of its text."""
-    return [*starred(), *readings(), *rules(), *sums(), *as_rule_0(), *faults(), *sizes(), *drawn()]
+    return [*starred(), *readings(), *rules(), *sums(), *as_rule_0(), *faults(), *sizes(), *drawn(),
+            *flat_cases(), *flat_faults(), *drawn_flat()]
 
 
 def files():

@@ -3,13 +3,16 @@
 output. The Rust has rule 0 alone: of a scene with another rule the first line is held against
 checks/parts/step_rules.py, and the others against the Rust's step with as many iterations.
 
-  checks/compare.py [--scenes N] [--seed N] [--only CLASS] [--subject COMMAND | --reference]
-                    [--stdin] [--oracle FILE] [--out FILE] [--bytes N]
-  checks/compare.py --kernel N [--seed N] [--subject COMMAND]
+  checks/compare.py [--scenes N] [--seed N] [--axes D] [--only CLASS]
+                    [--subject COMMAND | --reference] [--stdin] [--oracle FILE] [--out FILE]
+                    [--bytes N]
+  checks/compare.py --kernel N [--seed N] [--axes D] [--subject COMMAND]
 
   --scenes N        so many scenes, shared out over the classes of checks/made_scenes.py (15,000),
                     after the cases of checks/cases_step.py
   --seed N          another seed gives other scenes (1)
+  --axes D          solid scenes alone (3) or flat ones alone (2); without it half of each class is
+                    flat. The kernel is that of so many axes (3)
   --only CLASS      this class alone; `large` and `many` are there only so, and their scenes are
                     then never `too long` to the oracle; checks/archive_steps.py is a subject that
                     steps them too
@@ -41,8 +44,10 @@ import time
 from cases_step import cases
 from made_scenes import CLASSES, LARGE, made
 from parts.kernel_pairs import NAN, kernel_run
+from parts.packing import axes_of
 from parts.sides import SKIPPED, Failed, Sides, files_full, form_name
 from parts.smaller import shrunk
+from parts.step_rules import FLAT, SOLID
 from reference import Stop
 
 ROOT = pathlib.Path(__file__).resolve().parent.parent
@@ -53,13 +58,15 @@ MINUS_ZERO = "8000000000000000"
 
 def stream(options):
     """Class and scene, in the order of the classes."""
+    wanted = [options.axes] if options.axes else [SOLID, FLAT]
     if not options.only:
-        for case in cases():
-            yield "cases_step", case[1]
+        for _, data, *_ in cases():
+            if axes_of(data) in wanted:
+                yield "cases_step", data
     names = [options.only] if options.only else list(CLASSES)
-    for k, name in enumerate(names):
-        source = made(options.seed, name)
-        for _ in range((options.scenes + k) // len(names)):
+    for k, (name, axes) in enumerate(itertools.product(names, wanted)):
+        source = made(options.seed, name, axes)
+        for _ in range((options.scenes + k) // (len(names) * len(wanted))):
             yield name, next(source)
 
 
@@ -171,6 +178,7 @@ def main():
     parser = argparse.ArgumentParser(usage=__doc__, add_help=True)
     parser.add_argument("--scenes", type=whole, default=15000)
     parser.add_argument("--seed", type=whole, default=1)
+    parser.add_argument("--axes", type=int, choices=[FLAT, SOLID])
     parser.add_argument("--only", choices=[*CLASSES, *LARGE])
     parser.add_argument("--subject")
     parser.add_argument("--reference", action="store_true")

@@ -1,8 +1,8 @@
 """Packed scenes for compare.py and record.py, made by a fixed generator: the same seed gives the
 same scenes everywhere. Each is in one of FORMS, a version with a rule.
 
-`made(seed, name)` goes on yielding scenes of a class (CLASSES has the names and what is in each).
-parts/packing.py says what an unpacked scene looks like.
+`made(seed, name, axes)` goes on yielding scenes of a class (CLASSES has the names and what is in
+each), solid ones or flat. parts/packing.py says what an unpacked scene looks like.
 """
 import math
 
@@ -11,6 +11,7 @@ from parts.drawing import LIMITS, Draw, drop, few, lattice_scene, mixed, pair, s
 from parts.limits import at_an_error
 from parts.many_terms import many, sums
 from parts.packing import pack, unpack
+from parts.step_rules import FLAT, SOLID
 from parts.step_scenes import FORMS
 
 LONGEST = 32768
@@ -32,17 +33,21 @@ def empty_density(d):
         for (m, f) in enumerate(s["fluids"]):
             if len(f[1]) > 1:
                 f[0] = 1.0
-                a, b = f[1][:2]
-                a[0], b[0] = [0.0] * 9 + [1.0, d.nice()], [0.0] * 9 + [1.0, d.nice()]
-                a[1:], b[1:] = [[[m, 1, weight, 1.0, 0.0, 0.0]], []], [[[m, 0, weight, -1.0, 0.0, 0.0]], []]
-                s["head"][0], s["head"][3:] = 1.0, [0.0, 0.0, 0.0]
-                a[0][3], b[0][3] = -0.5 * weight, 0.5 * weight
+                f[1][:2] = pair(d, -0.5 * weight, 1.0, weight, warm=(d.nice(), d.nice()), model=m)
+                s["head"][0], s["head"][3:] = 1.0, d.along(0.0)
     return s
+
+
+# What is put into bytes 0 and 1 of a damaged scene.
+FIRST = {SOLID: bytes.fromhex("00 10 11 18 19 1F 20 21 28 29 2F 30 31 39 F1"),
+         FLAT: bytes.fromhex("00 11 21 30 31 39 40 41 42 43 48 49 4F 50 51 59 F1")}
+SECOND = bytes.fromhex("00 01 02 03 04 0F 10 11 13 14 80 81 83 84 90 91 93 94 9F F0")
 
 
 def damaged(d, data):
     """A copy that is cut, longer, or changed in some bytes, a double, a count or a name."""
-    data = bytearray(data)
+    data, gravity = bytearray(data), [28 + 8 * k for k in range(d.axes)]
+    behind = gravity[-1] + 8      # the header
 
     def put(at, new):
         data[at:at + len(new)] = new[:max(0, len(data) - at)]
@@ -58,16 +63,14 @@ def damaged(d, data):
         elif kind == 3:
             put(at, bytes([d.of((0, 1, 0x7F, 0x80, 0xFF, d.below(256)))]))
         elif kind == 4:
-            put(d.of((4, 12, 20, 28, 36, 44, 54, at)),
+            put(d.of((4, 12, 20, *gravity, behind + 2, at)),
                 bytes.fromhex(d.of(("7FF0", "FFF0", "7FF8", "FFF8")) + d.of(("000000000000", "000000000001"))))
         elif kind == 5:
-            put(d.of((52, 52, at)), d.of((b"\x10\x00", b"\x10\x01", b"\x90\x01", b"\xFF\xFF", b"\x00\x02")))
+            put(d.of((behind, behind, at)), d.of((b"\x10\x00", b"\x10\x01", b"\x90\x01", b"\xFF\xFF", b"\x00\x02")))
         elif kind == 6:
-            put(0, bytes([d.of((0x00, 0x10, 0x11, 0x18, 0x19, 0x1F, 0x20, 0x21, 0x28, 0x29, 0x2F, 0x30, 0x31, 0x39,
-                                0xF1))]))
+            put(0, bytes([d.of(FIRST[d.axes])]))
         elif kind == 7:
-            put(1, bytes([d.of((0x00, 0x01, 0x02, 0x03, 0x04, 0x0F, 0x10, 0x11, 0x13, 0x14, 0x80, 0x81, 0x83, 0x84,
-                                0x90, 0x91, 0x93, 0x94, 0x9F, 0xF0))]))
+            put(1, bytes([d.of(SECOND)]))
         else:
             s = unpack(bytes(data))
             lists = s and [c for kind in ("fluids", "walls") for _, particles in s[kind]
@@ -108,7 +111,7 @@ def crowd(d):
     n, value = 4 + d.below(d.of((8, 24))), mixed(d, (3, d.random), (1, d.nice))
     s = few(d, value, [n - d.below(n), d.below(4)], [(1, 2), (0, 2)], twice=2, most=(1, 2, 3, 6))
     for p in s["fluids"][0][1]:
-        p[1] += [[0, d.below(len(s["fluids"][0][1])), abs(value()), value(), value(), value()]
+        p[1] += [[0, d.below(len(s["fluids"][0][1])), abs(value()), *d.vector(value)]
                  for _ in range(d.of((4, 8, 8, 40)))]
     return s
 
@@ -118,10 +121,11 @@ def settling(d):
     late or never."""
     s = few(d, mixed(d, (1, d.random)), [2 + d.below(2)], [(1, 1)] if d.one_in(2) else [], most=(0, 1, 2, 3, 5, 12, 50))
     for p in s["fluids"][0][1]:
-        p[0][9], s["fluids"][0][0] = 0.5 + d.unit(), 0.5 + d.unit()
+        p[0][-2], s["fluids"][0][0] = 0.5 + d.unit(), 0.5 + d.unit()
         for c in p[1] + p[2]:
             c[2] = abs(c[2]) + 0.1
-    s["head"] = [d.of((0.1, 0.5, 1.0)), d.unit(), d.of((1e-6, 1e-3, 0.01, 0.05, 0.2, 1.0)), 0.0, 0.0, -d.unit()]
+    s["head"] = [d.of((0.1, 0.5, 1.0)), d.unit(), d.of((1e-6, 1e-3, 0.01, 0.05, 0.2, 1.0)),
+                 *d.upward(-d.unit())]
     return s
 
 
@@ -130,25 +134,25 @@ def aimed(d):
     rest, near_one, kind = 1.0, 1.0 - d.unit() / 16.0, d.below(7)
     if kind == 0:      # |aii| at 1e-9 and beside it
         small = d.sign(d.of((1e-9, math.nextafter(1e-9, 1.0), math.nextafter(1e-9, 0.0), 1e-8, 1e-9)))
-        itself, steep = [0, 0, 2.0, 0.0, 0.0, 0.0], [0, 1, 0.0, d.sign(2.0**21), 0.0, 0.0]
-        drops = [drop([itself, steep], d.nice()), drop([itself], volume=small * 2.0**-40)]
+        itself, steep = [0, 0, 2.0, *d.along(0.0)], [0, 1, 0.0, *d.along(d.sign(2.0**21))]
+        drops = [drop(d, [itself, steep], d.nice()), drop(d, [itself], volume=small * 2.0**-40)]
     elif kind == 1:    # errors and limits that are small whole numbers or halves
-        drops = pair(d.of((1.0, 0.5, 2.0, 0.0)), d.of((1.0, 2.0)), d.of((1.0, 2.0)),
+        drops = pair(d, d.of((1.0, 0.5, 2.0, 0.0)), d.of((1.0, 2.0)), d.of((1.0, 2.0)),
                      warm=(abs(d.nice()), abs(d.nice())))
     elif kind == 2:    # a quotient that overflows before it is halved
-        drops = pair(near_one * 0.89e308, d.sign(0.4 * near_one))
+        drops = pair(d, near_one * 0.89e308, d.sign(0.4 * near_one))
     elif kind == 3:    # aii at the end of the range
-        drops = pair(d.random(), 2.0**511 * (1.0 + 0.41 * d.unit()))
+        drops = pair(d, d.random(), 2.0**511 * (1.0 + 0.41 * d.unit()))
     elif kind == 4:    # next pressures of exactly 0
-        drops = pair(0.0, d.of((1.0, 2.0, 0.5)), warm=(abs(d.nice()), abs(d.nice())))
+        drops = pair(d, 0.0, d.of((1.0, 2.0, 0.5)), warm=(abs(d.nice()), abs(d.nice())))
     elif kind == 5:    # a rest density below 0: Ihmsen's terms become -0
         rest = -d.of((1.0, 0.5, 2.0))
-        drops = pair(d.of((1.0, 0.5, 2.0)), d.of((1.0, 2.0)), volume=1.0 / rest)
+        drops = pair(d, d.of((1.0, 0.5, 2.0)), d.of((1.0, 2.0)), volume=1.0 / rest)
     else:              # terms, and an average, of a few subnormals
         rest = d.sign(2.0**500)
-        drops = pair(0.0, 2.0**250, rest * 2.0**-250, rest * 2.0**-750,
+        drops = pair(d, 0.0, 2.0**250, rest * 2.0**-250, rest * 2.0**-750,
                      (d.below(9) * 2.0**-572, d.below(9) * 2.0**-572))
-    least, most, head = d.of((0, 1, 2)), d.of((1, 1, 2, 3, 4)), [1.0, d.nice(), d.of(LIMITS), 0.0, 0.0, 0.0]
+    least, most, head = d.of((0, 1, 2)), d.of((1, 1, 2, 3, 4)), [1.0, d.nice(), d.of(LIMITS), *d.along(0.0)]
     return {"least": least, "most": most, "head": head, "fluids": [[rest, drops]], "walls": []}
 
 
@@ -175,7 +179,10 @@ CLASSES = {
 }
 
 
-def large(d): return lattice_scene(d, ((6, 6, 6), (8, 8, 4), (5, 10, 10)), (1, 2, 5))
+SIDES = {SOLID: ((6, 6, 6), (8, 8, 4), (5, 10, 10)), FLAT: ((15, 15), (32, 8), (20, 25))}
+
+
+def large(d): return lattice_scene(d, SIDES, (1, 2, 5))
 
 
 KEPT = LONGEST + 1      # bytes of a scene that is too long, and that a case program still keeps
@@ -185,7 +192,7 @@ LARGE = {"large": (large, "lattices of some hundred particles"),
 SOUND = [make for make, _ in CLASSES.values() if make]
 
 
-def packed(d, make): return pack(dict(make(d), form=d.of(FORMS)))
+def packed(d, make): return pack(dict(make(d), form=d.of(FORMS[d.axes])))
 
 
 def one_of(d, name):
@@ -197,13 +204,13 @@ def one_of(d, name):
     return packed(d, CLASSES[name][0])
 
 
-def made(seed, name):
+def made(seed, name, axes=SOLID):
     """Scenes of a class, without end."""
     if name in LARGE:
-        d = Draw(seed)
+        d = Draw(seed, axes)
         while True:
             yield packed(d, LARGE[name][0])
-    d = Draw(seed * 1000003 + list(CLASSES).index(name) * 7919)
+    d = Draw(seed * 1000003 + list(CLASSES).index(name) * 7919, axes)
     while True:
         data = one_of(d, name)
         if len(data) <= LONGEST or d.one_in(16) and len(data) <= KEPT:

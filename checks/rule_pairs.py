@@ -2,9 +2,11 @@
 """Steps drawn scenes in order and by halves: under rule 0 and 2, and under rule 1 and 3. Each runs
 out after as many iterations, as its least is set to its most, so nothing but the error may differ.
 
-  checks/rule_pairs.py [--scenes N] [--seed N] [--only CLASS] [--subject COMMAND] [--bytes N]
+  checks/rule_pairs.py [--scenes N] [--seed N] [--axes D] [--only CLASS] [--subject COMMAND]
+                       [--bytes N]
 
   --scenes N, --seed N, --bytes N    as for compare.py (2,000 scenes, seed 1)
+  --axes D                           solid scenes (3, which is what it does without) or flat ones (2)
   --only CLASS                       this class alone, or one of those that are longer than the
                                      program takes
   --subject COMMAND                  as for compare.py; without it checks/parts/step_rules.py
@@ -14,29 +16,24 @@ apart they are, in units in the last place: 1 (or a zero's sign), 2 to 8, more, 
 Then how many are not finite under one of the two, or have another yes or no of an average that was
 passed over. Ends with 1 if anything else differs.
 """
-import argparse
 import collections
 import math
 import struct
 import sys
 
-from compare import command_of, whole
-from made_scenes import CLASSES, LARGE, made
-from parts.sides import Failed, files_full, texts_of
+from made_scenes import CLASSES, made
+from parts.drawn_pairs import Different, run
+from parts.packing import VERSIONS, axes_of
+from parts.sides import files_full
 from parts.step_scenes import changed, under
-from reference import Stop, answering
 
 PAIRS = (0, 2), (1, 3)
 NEAR = 8      # units in the last place: a column of the table ends there
 
 
-class Different(Exception):
-    """More than the error differs. Its arguments are a scene and two texts."""
-
-
 def unending(data, rule):
     """The scene under a rule, with no end before its last iteration."""
-    return changed(under(data, 2, rule), 2, data[3:4])
+    return changed(under(data, VERSIONS[axes_of(data)], rule), 2, data[3:4])
 
 
 def place(word):
@@ -77,7 +74,7 @@ def counted(options, texts):
     found = {}
     names = [options.only] if options.only else list(CLASSES)
     for k, name in enumerate(names):
-        source = made(options.seed, name)
+        source = made(options.seed, name, options.axes)
         scenes = [next(source) for _ in range((options.scenes + k) // len(names))]
         for full in files_full(((name, data) for data in scenes if len(data) > 3), options.bytes):
             for rules, (kind, apart) in pairs_of([data for _, data in full], texts):
@@ -104,31 +101,7 @@ def totals(found):
                                max((farthest for _, farthest in of_rules), default=0))
 
 
-def main():
-    parser = argparse.ArgumentParser(usage=__doc__)
-    parser.add_argument("--scenes", type=whole, default=2000)
-    parser.add_argument("--seed", type=whole, default=1)
-    parser.add_argument("--only", choices=[*CLASSES, *LARGE])
-    parser.add_argument("--subject")
-    parser.add_argument("--bytes", type=whole, default=300000)
-    options = parser.parse_args()
-    try:
-        if options.subject is None:
-            lines = answering(any_length=options.only in LARGE)
-            found = counted(options, lambda scenes: list(map(lines, scenes)))
-        else:
-            command = command_of(options.subject)
-            found = counted(options, lambda scenes: texts_of(command, scenes))
-        print("\n".join(table(found)))
-        return 0
-    except Different as e:
-        print("more than the error differs: %s\n%s%s" % (e.args[0].hex(), *e.args[1:]))
-        return 1
-    except (Stop, Failed, ValueError) as e:      # ValueError: a command with an open quote
-        print(e, file=sys.stderr)
-    except OSError as e:
-        print("%s: %s" % (e.filename or "output", e.strerror), file=sys.stderr)
-    return 2
+def main(): return run(__doc__, True, counted, table, "more than the error differs")
 
 
 if __name__ == "__main__":

@@ -12,6 +12,7 @@ can't be. Ends with 1 if one of NOTICED is not noticed, or one of SAME is.
 import pathlib
 import sys
 
+from parts.wrong_axes import AXES_VERSIONS, SAME_AXES
 from parts.wrong_criteria import CRITERIA, IHMSEN_TERM
 from parts.wrong_endings import AVERAGE, ENDINGS, ERROR, told
 from parts.wrong_reads import READS
@@ -22,7 +23,7 @@ from reference import Stop, load, text, texts, unbatch
 ROOT = pathlib.Path(__file__).resolve().parent.parent
 SCENES, LINES = ROOT / "crates/cases_replay/data/scenes", ROOT / "crates/cases_replay/stdout"
 
-NOTICED = [*RULES, *ENDINGS, *CRITERIA, *SUMS, *READS]
+NOTICED = [*RULES, *ENDINGS, *CRITERIA, *SUMS, *READS, *AXES_VERSIONS]
 
 SAME = [
     ("f's sign after the product", "div((-dt) * dt, p.rho * p.rho), div((dt", "div(-(dt * dt), p.rho * p.rho), div((dt",
@@ -33,12 +34,12 @@ SAME = [
      "only the sign of a zero term can change, and Salva's error keeps that of no average"),
     ("aii that is not a number is taken", "not abs(p.aii) > 1e-9", "abs(p.aii) <= 1e-9",
      "the next pressure then is not a number and becomes +0 with term +0, as without aii"),
-    ("a dot product from 0", DOT, "return ((0.0 + a[0] * b[0]) + a[1] * b[1]) + a[2] * b[2]",
+    ("a dot product from 0", DOT, "return reduce(operator.add, map(operator.mul, a, b), 0.0)",
      "only the sign of a zero can change, and each dot product goes times a mass into a sum from +0, which does not "
      "keep it"),
     ("the other order of a sum in Ihmsen's term", IHMSEN_TERM,
      "div(((found + p.aii * pressure) + p.predicted) - rest, rest)", "a sum's two numbers may change places"),
-    ("vector sums from -0", "return reduce(add, terms, ZERO)", "return reduce(add, terms, (-0.0,) * 3)",
+    ("vector sums from -0", "return reduce(add, terms, zero)", "return reduce(add, terms, scale(zero, -1.0))",
      "only the sign of a zero axis of dii or dij can change, and both go by sums, products and dot products into sums "
      "from +0"),
     ("a density from +0 once more", "p.rho + total(", "total([p.rho]) + total(", "a density that goes on is not -0"),
@@ -53,6 +54,7 @@ SAME = [
      "a sum divided by a count is not a number where the sum is not"),
     ("the second half first", ADDED, "    return by_halves(terms[first:]) + by_halves(terms[:first])\n",
      "a sum's two numbers may change places"),
+    *SAME_AXES,
 ]
 
 

@@ -9,7 +9,8 @@ The text goes to oracle/src/salva, which is not part of the repository. Each edi
 of text that must be there exactly once; otherwise nothing is written and the status is 2. The edits
 show what the step keeps to itself (pressures, iterations, error, remaining time, an average that is
 not a number or -0) and make the two asserts on densities say which particle they mean. No edit
-touches a number that the step works out.
+touches a number that the step works out. Two axes or three are chosen by the text itself, by a
+feature: it is the same for both.
 """
 import pathlib
 import sys

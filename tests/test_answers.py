@@ -58,9 +58,9 @@ def command(*arguments):
 class Reading(unittest.TestCase):
     def test_csv_keeps_every_double(self):
         for text in DONE:
-            lines = iter(text.splitlines()[2:])
-            for row in answers.csv(answers.parse(text)).splitlines()[1:]:
-                cells = [cell for cell in row.split(",")[:14] if cell]      # without a warning
+            lines, answer = iter(text.splitlines()[2:]), answers.parse(text)
+            for row in answers.csv(answer).splitlines()[1:]:      # a warning may end it
+                cells = [cell for cell in row.split(",")[:5 + 3 * len(answer.axes)] if cell]
                 self.assertEqual(next(lines), " ".join(cells[:3] + [step_rules.bits(float(x)) for x in cells[3:]]))
             self.assertIsNone(next(lines, None))
 
@@ -68,7 +68,8 @@ class Reading(unittest.TestCase):
         for text in DONE:
             answer = answers.parse(text)
             self.assertTrue(answers.table(answer) and answers.fluid_vtk(answer))
-            answers.place_walls(answer, "\n".join("%d %d %d 0 %d # here" % (w.model, w.number, w.number, w.model)
+            place = "%d %d %d" + " 0" * (len(answer.axes) - 2) + " %d # here"
+            answers.place_walls(answer, "\n".join(place % (w.model, w.number, w.number, w.model)
                                                   for w in answer.wall), "walls")
             self.assertTrue(answers.wall_vtk(answer))
             try:

@@ -44,6 +44,10 @@ class Pair(unittest.TestCase):
         self.assertEqual(len(pinned.call_args.args[1]), 1)
         return status, [line.split() for line in out.getvalue().splitlines()[1:]], err.getvalue()
 
+    def test_flat(self):
+        self.called(self.program("old", OLD), self.program("new", NEW), "1", "--flat")
+        self.assertEqual((self.folder / "calls").read_text(), "old 15 all flat\nnew 15 all flat\n")
+
     def test_best_middle_and_quotients(self):
         old, new = self.program("old", OLD), self.program("new", NEW)
         status, rows, err = self.called(old, new, "3", "--repeats", "7", "--sizes", "1,64")

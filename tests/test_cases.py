@@ -21,8 +21,9 @@ import reference      # noqa: E402
 import wrong_versions    # noqa: E402
 from parts import limits, list_scenes, packing, rule_cases, sides, step_cases    # noqa: E402
 from parts.branches import BRANCHES, IHMSEN, Branches    # noqa: E402
-from parts.step_rules import LONGEST, lines              # noqa: E402
+from parts.step_rules import FLAT, LONGEST, SOLID, lines    # noqa: E402
 from parts.step_scenes import EMPTY, FORMS, changed, rich, scene_a, to, under    # noqa: E402
+from parts.wrong_axes import AXES_VERSIONS    # noqa: E402
 from parts.wrong_criteria import CRITERIA    # noqa: E402
 from parts.wrong_endings import ENDINGS      # noqa: E402
 from parts.wrong_reads import READS          # noqa: E402
@@ -133,12 +134,12 @@ class Rules(unittest.TestCase):
         answered = PassedOver.LINES + [(data, lines(data)) for name in ("aimed", "zeros", "sums")
                                        for data in itertools.islice(made_scenes.made(1, name), 300)]
         found = {sides.form(data) for data, text in answered if "8000000000000000" in text.split("\n")[0].split(" ")}
-        self.assertEqual(found, {(2, 3)})
+        self.assertEqual(found, {(2, 3), (4, 3)})
 
     def test_each_class_has_all_forms(self):
-        for name in made_scenes.CLASSES:
-            found = {sides.form(data) for data in itertools.islice(made_scenes.made(1, name), 60)}
-            self.assertLessEqual(set(FORMS), found, name)
+        for name, axes in itertools.product(made_scenes.CLASSES, (SOLID, FLAT)):
+            found = {sides.form(data) for data in itertools.islice(made_scenes.made(1, name, axes), 60)}
+            self.assertLessEqual(set(FORMS[axes]), found, name)
 
     def test_limits_are_at_an_error(self):
         beside = collections.Counter()
@@ -171,7 +172,7 @@ class Versions(unittest.TestCase):
             self.assertNotEqual(wrong_versions.edited(source, old, new), source, name)
 
     def test_cases_notice_those_of_the_end(self):
-        for name, old, new in [*ENDINGS, *CRITERIA, *SUMS, *READS]:
+        for name, old, new in [*ENDINGS, *CRITERIA, *SUMS, *READS, *AXES_VERSIONS]:
             wrong = reference.load(wrong_versions.edited(reference.text(), old, new))["lines"]
             self.assertTrue(any(wrong_versions.answer(wrong, data) != text for data, text in PassedOver.LINES), name)
 

@@ -1,4 +1,5 @@
 """The scenes of examples/: packed, answered, and the chamber as its tool writes it."""
+import itertools
 import json
 import math
 import os
@@ -12,26 +13,48 @@ import unittest
 ROOT = pathlib.Path(__file__).resolve().parent.parent
 sys.path[:0] = [str(ROOT / "tools"), str(ROOT / "checks")]
 import chamber                              # noqa: E402
+import lattice                              # noqa: E402
 import scene                                # noqa: E402
+import slot_coater                          # noqa: E402
 from parts import step_rules, step_scenes   # noqa: E402
 
 EXAMPLES = ROOT / "examples"
 NAMES = sorted(path.stem for path in EXAMPLES.glob("*.json"))
 
 
-def stopped(stopping, limit, most):
-    """The chamber, stopping so: after how many iterations, with what error and force on its floor."""
-    text = json.dumps({**chamber.chamber(), "stopping": stopping, "error_limit": limit, "most_iterations": most})
+# What a tool makes, and the wall whose load the README tells: the floor, the web.
+CHAMBER, COATER = (chamber.chamber(), 0), (slot_coater.slot_coater(), 2)
+LIMITS = (("salva", "0.05", 50), ("salva", "-1", 250), ("ihmsen2014", "0.001", 50),
+          ("ihmsen2014", "0.0001", 50), ("ihmsen2014", "0.00001", 50))
+
+
+def stopped(stopping, limit, most, made=CHAMBER):
+    """The chamber or the coater, stopping so: after how many iterations, with what error, and the
+    force on its wall, up."""
+    named, wall = made
+    how = {"stopping": stopping, "error_limit": limit, "most_iterations": most}
+    text = json.dumps({**named, **how})
     read = step_rules.walk(scene.pack(text)[0])
     _, iterations, error, _ = step_rules.step(read).split()
     return (int(iterations), struct.unpack(">d", bytes.fromhex(error))[0],
-            sum(w.force[2] for w in read.walls[0].particles))
+            sum(w.force[-1] for w in read.walls[wall].particles))
+
+
+def without_speeds(named, *walls):
+    """The coater's JSON with these walls still or, where none is named, with everything still."""
+    found = json.loads(json.dumps(named))
+    models = [found["walls"][k] for k in walls] if walls else found["fluids"] + found["walls"]
+    for p in (p for model in models for p in model["particles"]):
+        p["velocity"] = [0, 0]
+    return found
 
 
 class Examples(unittest.TestCase):
     def test_each_is_packed_and_answered(self):
-        self.assertEqual(NAMES, ["chamber", "lost-neighbour", "scene-a", "scene-b", "scene-b-ihmsen", "slow-pair",
-                                 "slow-pair-by-halves", "torn-droplet", "torn-droplet-faint", "torn-droplet-overflow"])
+        self.assertEqual(NAMES, ["chamber", "lost-neighbour", "scene-a", "scene-a-flat", "scene-b",
+                                 "scene-b-flat", "scene-b-ihmsen", "slot-coater", "slow-pair",
+                                 "slow-pair-by-halves", "torn-droplet", "torn-droplet-faint",
+                                 "torn-droplet-overflow"])
         for name in NAMES:
             data, text = (EXAMPLES / (name + ".bin")).read_bytes(), (EXAMPLES / (name + ".txt")).read_text()
             packed, notes = scene.pack((EXAMPLES / (name + ".json")).read_text())
@@ -41,16 +64,18 @@ class Examples(unittest.TestCase):
                 done = subprocess.run([os.environ["IISPH"]], input=data, capture_output=True)
                 self.assertEqual(done.stdout.decode(), text)
 
-    def test_the_chamber_is_what_its_tool_writes(self):
-        self.assertEqual(json.loads((EXAMPLES / "chamber.json").read_text()), json.loads(json.dumps(chamber.chamber())))
-        self.assertEqual((EXAMPLES / "chamber.walls").read_text(), chamber.positions())
+    def test_two_are_what_their_tools_write(self):
+        for name, (made, _), positions in (("chamber", CHAMBER, chamber.positions()),
+                                           ("slot-coater", COATER, slot_coater.positions())):
+            self.assertEqual((EXAMPLES / (name + ".json")).read_text(), scene.written(made) + "\n")
+            self.assertEqual((EXAMPLES / (name + ".walls")).read_text(), positions)
 
-    def test_the_chamber_stops_as_the_readme_says(self):
+    def test_they_stop_as_the_readme_says(self):
         text = (EXAMPLES / "README.md").read_text()
-        for stopping, limit, most in (("salva", "0.05", 50), ("salva", "-1", 250), ("ihmsen2014", "0.001", 50),
-                                      ("ihmsen2014", "0.0001", 50), ("ihmsen2014", "0.00001", 50)):
-            row = stopping, limit, *stopped(stopping, float(limit), most)
-            self.assertIn("\n| %s | %s | %d | %.2g | %.3e |\n" % row, text)
+        for made in CHAMBER, COATER:
+            for stopping, limit, most in LIMITS:
+                row = stopping, limit, *stopped(stopping, float(limit), most, made)
+                self.assertIn("\n| %s | %s | %d | %.2g | %.3e |\n" % row, text)
 
     def test_the_figures_beside_the_picture(self):
         said = re.search(r"after (\d+), with (\S+) N on the floor and error (\S+)\.\sBy the Rust's and its limit of "
@@ -66,11 +91,46 @@ class Examples(unittest.TestCase):
         self.assertTrue(all(a < b for a, b in zip(errors, errors[1:])))
         self.assertEqual([stopped("salva", limit, 50)[0] for limit in (1, 0.0062, 0.0039, 0.0038)], [2, 2, 2, 50])
 
-    def test_its_spline_is_the_specifications(self):
-        for r, shape, fall in ((0.0, 1.0, 0.0), (0.5, 0.25, -1.5), (0.75, 0.03125, -0.375), (1.0, 0.0, 0.0),
-                               (1.5, 0.0, 0.0)):
-            self.assertEqual((chamber.weight(r, 1.0), chamber.slope(r, 1.0)),
-                             (8.0 / math.pi * shape, 8.0 / math.pi * fall))
+    def test_their_spline_is_the_specifications(self):
+        for r, shape, fall in ((0.0, 1.0, 0.0), (0.5, 0.25, -1.5), (0.75, 0.03125, -0.375),
+                               (1.0, 0.0, 0.0), (1.5, 0.0, 0.0)):
+            for axes, normalizer in (2, (40.0 / 7.0) / math.pi), (3, 8.0 / math.pi):
+                self.assertEqual((lattice.weight(r, 1.0, axes), lattice.slope(r, 1.0, axes)),
+                                 (normalizer * shape, normalizer * fall))
+        for h in 0.1, 3.0:
+            self.assertEqual([lattice.normalizer(h, axes) for axes in (2, 3)],
+                             [(40.0 / 7.0) / ((math.pi * h) * h), 8.0 / (((math.pi * h) * h) * h)])
+
+    def test_weights_add_up_to_one_over_the_plane_and_over_space(self):
+        for axes, around in ((2, itertools.product(range(-20, 21), repeat=2)),
+                             (3, itertools.product(range(-10, 11), repeat=3))):
+            h = 19.0 if axes == 2 else 9.0
+            whole = sum(lattice.weight(math.hypot(*place), h, axes) for place in around)
+            self.assertAlmostEqual(whole, 1.0, delta=0.002)
+
+    def test_the_webs_speed_acts_through_the_ink_alone(self):
+        coater, web = COATER
+        moving, still = (scene.pack(json.dumps(named))[0]
+                         for named in (coater, without_speeds(coater, web)))
+        self.assertNotEqual(moving, still)
+        self.assertEqual(step_rules.lines(moving), step_rules.lines(still))
+
+    def test_what_the_readme_says_of_the_coater(self):
+        text, (coater, web) = " ".join((EXAMPLES / "README.md").read_text().split()), COATER
+        load, early, late, still = (stopped(*how, (named, web))[2] for how, named in (
+            (("ihmsen2014", 1e-5, 50), coater), (("salva", 0.05, 50), coater),
+            (("salva", -1, 250), coater), (("ihmsen2014", 1e-5, 50), without_speeds(coater))))
+        self.assertIn("the web still carries %.0f %% of its load" % (100 * still / load), text)
+        self.assertIn("0.001 %% gives %.1f %%" % (100 * load / late), text)
+        self.assertEqual(round(late / early), 8)      # "an eighth"
+        read = step_rules.walk((EXAMPLES / "slot-coater.bin").read_bytes())
+        step_rules.step(read)
+        ink = [p for _, p in read.all]
+        densest, highest = (max(ink, key=lambda p: getattr(p, key)) for key in ("rho", "pressure"))
+        above = 100.0 * (densest.rho / slot_coater.REST - 1.0)
+        self.assertIn("up to %.1f %% above its rest density" % above, text)
+        mouth = slot_coater.LATTICE.position((slot_coater.LIP, slot_coater.GAP - 1))
+        self.assertLess(math.dist(highest.position, mouth), slot_coater.LATTICE.apart)
 
     def test_the_lost_neighbour_is_met_at_the_second_look(self):
         lines, refusals = scene.looks((EXAMPLES / "lost-neighbour.bin").read_bytes())
@@ -89,6 +149,16 @@ class Examples(unittest.TestCase):
         ending, terms = step_rules.step(read), [p.term for _, p in read.all]
         self.assertEqual((ending, terms[:2]), ("settled 2 0000000000000000 1", [2.0, 2.0]))
         self.assertTrue(math.isnan(terms[2]) and read.all[2][1].pressure == math.inf)
+
+    def test_scenes_a_and_b_have_their_answers_in_the_plane_too(self):
+        for name, kept in ("scene-a", (0, 2)), ("scene-b", (0, 1)):      # axes that become x and y
+            solid, flat = ((EXAMPLES / (name + end)).read_text().splitlines()
+                           for end in (".txt", "-flat.txt"))
+            self.assertEqual(solid[:2], flat[:2])
+            for line, found in zip(solid[2:], flat[2:], strict=True):
+                *owner, pressure = line.split()
+                vectors = [owner[3 + axis:][part] for part in (0, 3) for axis in kept]
+                self.assertEqual(found.split(), [*owner[:3], *vectors, pressure])
 
     def test_scene_b_ends_alike_by_both_criteria_but_sooner_by_the_papers(self):
         (rust, answer), (paper, same) = ((EXAMPLES / (name + ".txt")).read_text().split("\n", 1)

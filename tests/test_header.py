@@ -1,5 +1,5 @@
 """include/iisph.h declares the functions of the crates of the C interface, each list as a pointer and a length, and the
-Rust binding declares them alike; both give the rules the same names and numbers."""
+Rust binding declares them alike; both give the versions and the rules the same numbers."""
 import pathlib
 import re
 import unittest
@@ -40,11 +40,18 @@ def bound():
 
 class Header(unittest.TestCase):
     def test_declares_what_is_exported(self):
-        self.assertEqual(len(dict(exported())), 9)
+        self.assertEqual(len(dict(exported())), 11)
         self.assertEqual(dict(declared()), dict(exported()))
 
     def test_is_what_rust_declares(self):
         self.assertEqual(dict(bound()), dict(declared()))
+
+    def test_numbers_the_versions_as_rust_does(self):
+        in_c = re.findall(r"IISPH_VERSION_(\w+) = (\d+)", HEADER)
+        source = (ROOT / "bindings/rust/src/stopping.rs").read_text().split("fn numbers")[1]
+        in_rust = re.findall(r"^ +Version::(\w+).* => (\d),$", source, re.M)
+        self.assertEqual(in_c, [("1", "1"), ("2", "2"), ("FLAT", "4")])
+        self.assertEqual(in_rust, [("One", "1"), ("Two", "2"), ("Four", "4")])
 
     def test_names_the_rules_as_rust_does(self):
         in_c = re.findall(r"IISPH_RULE_(\w+) = (\d+)", HEADER)

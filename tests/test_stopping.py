@@ -48,12 +48,12 @@ class Scenes(unittest.TestCase):
                 ({"version": 2}, "stopping is missing, and version 2 does not tell it; give " + BOTH),
                 ({"version": 1, **PAPER}, 'stopping: "ihmsen2014" is none of version 1, which has "salva"; '
                                           "set version to 2, or leave the version out"),
-                ({"version": 3}, "version: give 1 or 2, not 3"),
-                ({"version": 0, **PAPER}, "version: give 1 or 2, not 0"),
-                ({"version": True}, "version: give 1 or 2, not true"),
-                ({"version": 1.0}, "version: give 1 or 2, not 1.0"),
-                ({"version": "2", **RUST}, 'version: give 1 or 2, not "2"'),
-                ({"version": None}, "version: give 1 or 2, not null"),
+                ({"version": 3}, "version: give 1, 2 or 4, not 3"),
+                ({"version": 0, **PAPER}, "version: give 1, 2 or 4, not 0"),
+                ({"version": True}, "version: give 1, 2 or 4, not true"),
+                ({"version": 1.0}, "version: give 1, 2 or 4, not 1.0"),
+                ({"version": "2", **RUST}, 'version: give 1, 2 or 4, not "2"'),
+                ({"version": None}, "version: give 1, 2 or 4, not null"),
                 ({"stopping": "Salva"}, 'stopping: give %s, not "Salva"' % BOTH),
                 ({"stopping": 1}, "stopping: give %s, not 1" % BOTH),
                 ({"version": 1, "stopping": None}, "stopping: give %s, not null" % BOTH),
@@ -63,7 +63,7 @@ class Scenes(unittest.TestCase):
             self.assertEqual(str(raised.exception), message)
 
     def test_each_form_is_shown_and_packed_again(self):
-        for version, rule in step_scenes.FORMS:
+        for version, rule in step_scenes.FORMS[step_rules.SOLID]:
             words = (STOPPINGS[rule % 2], SUMMATIONS[rule // 2]) if version > 1 else ()
             told = ", rule %d (%s, %s)" % (rule, *words) if words else ""
             data = step_scenes.under(step_scenes.rich(), version, rule)
@@ -84,7 +84,8 @@ class Scenes(unittest.TestCase):
             data = bytes([version << 4 | fluids, walls << 4 | rule]) + step_scenes.EMPTY[2:]
             met.add(refusal(data))
             self.assertEqual(first_fault(data), refusal(data), data[:2].hex())
-        self.assertEqual(met, {None, (1, 52), (2, 0), (3, 0), (3, 1), (2, 1)})
+        self.assertEqual(met, {None, (1, 46), (1, 52), (2, 0), (2, 1), (3, 0), (3, 1), (5, 44),
+                               (5, 46)})
 
     def test_a_rule_that_is_none_says_what_to_put_there(self):
         of_version = "refusal 2 at 1: rule %d, the last four bits of byte 1, is none of version %d; put there "
@@ -103,7 +104,7 @@ class Scenes(unittest.TestCase):
             self.assertEqual([line for line in scene.at(data, 1)[0] if line.startswith("refusal")], said)
             with self.assertRaisesRegex(scene.Wrong, "no JSON packs to these bytes;.*\nrefusal [23] at [01]: "):
                 scene.show(data, True)
-        self.assertIn("the version is 3, not 1 or 2; is this", scene.show(data, False)[1][0])
+        self.assertIn("the version is 3, not 1, 2 or 4; is this", scene.show(data, False)[1][0])
 
 
 def written(data, held=True):
@@ -125,7 +126,7 @@ class Answers(unittest.TestCase):
     """What each command writes of an answer, with its scene or without."""
 
     def test_every_output_names_the_rule_if_the_scene_is_given(self):
-        for version, rule in step_scenes.FORMS:
+        for version, rule in step_scenes.FORMS[step_rules.SOLID]:
             words = [STOPPINGS[rule % 2], SUMMATIONS[rule // 2]]
             named = "stopping by %s, summed %s" % tuple(words)
             ended = ("ran out after 50 iterations, error 2", "settled after 2 iterations, error 0")[rule % 2]

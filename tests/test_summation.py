@@ -45,7 +45,7 @@ class Scenes(unittest.TestCase):
                 ({"version": 1, **HALVES}, of_1 + ", and give a stopping, " + BOTH),
                 ({"version": 1, **PAPER, **HALVES}, 'stopping: "ihmsen2014" is none of version 1, which has "salva"; '
                                                     "set version to 2, or leave the version out"),
-                ({"version": 3, **HALVES}, "version: give 1 or 2, not 3"),
+                ({"version": 3, **HALVES}, "version: give 1, 2 or 4, not 3"),
                 ({**RUST, "summation": "halves"}, 'summation: give %s, not "halves"' % EACH),
                 ({"summation": 1}, "summation: give %s, not 1" % EACH),
                 ({"version": 1, "summation": None}, "summation: give %s, not null" % EACH),

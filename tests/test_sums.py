@@ -1,7 +1,6 @@
 """Sums by halves: what the cases say of them, that nothing but the error hangs on the summation, and
 checks/archive_steps.py with a stand-in for an archive."""
 import contextlib
-import ctypes
 import io
 import itertools
 import math
@@ -19,7 +18,7 @@ import reference        # noqa: E402
 import rule_pairs       # noqa: E402
 from parts import packing, sum_cases    # noqa: E402
 from parts.branches import BRANCHES, HALVES, Branches    # noqa: E402
-from parts.step_rules import Refused, bits, by_halves, lines, step, walk    # noqa: E402
+from parts.step_rules import Refused, bits, by_halves, lines, needed, step, walk    # noqa: E402
 from parts.step_scenes import pair, rich, scene, scene_a, under    # noqa: E402
 
 ALL = [data for _, data, *_ in cases_step.cases()]
@@ -121,22 +120,21 @@ class StandIn:
             s = walk(data)
         except Refused as e:
             return self.refused(e, counts)
-        of_walls = sum(1 if w.force is None else 4 for w in s.stones)
-        counts[:] = [7 * len(s.all) + of_walls, s.summation.work * len(s.all) + len(s.stones)]
+        counts[:] = needed(s)
         return 0
 
     def iisph_step(self, data, _, answers, __, work, ___, numbers, ____, counts, *_____):
-        s, needed = walk(data), (ctypes.c_uint64 * 2)()
-        self.iisph_needed(data, None, needed, None)
+        s = walk(data)
+        _, work_needed = needed(s)
         try:
             ending, *figures = step(s).split(" ")
         except Refused as e:
-            work[:needed[1]] = [0.0] * needed[1]
+            work[:work_needed] = [0.0] * work_needed
             answers[0] = 0.0 if self.fault == "answers after a refusal" else answers[0]
             return self.refused(e, counts)
         found = [x for _, p in s.all for x in (*p.position, *p.velocity, p.pressure)]
         found += [x for w in s.stones for x in (w.volume, *(w.force or ()))]
-        answers[:len(found)], work[:needed[1]] = found, [-0.0 if self.fault == "work" else 0.0] * needed[1]
+        answers[:len(found)], work[:work_needed] = found, [-0.0 if self.fault == "work" else 0.0] * work_needed
         answers[len(found)] = 2.5 if self.fault == "past the answers" else answers[len(found)]
         counts[:] = [int(figures[0]), int(figures[2]) if figures[1:] else 0]
         numbers[:] = [rule_pairs.number(figures[1]) if figures[1:] else 0.0, s.dt, s.inv_dt, s.remaining]

@@ -3,6 +3,9 @@ into checks/parts/step_rules.py's text."""
 import math
 
 from parts import branches_ihmsen, branches_sums
+from parts.packing import axes_of
+from parts.step_rules import AXES, FLAT, SOLID
+from parts.step_scenes import FORM_NAME, FORMS
 from reference import load
 from wrong_versions import edited
 
@@ -32,12 +35,18 @@ unswept|settled|ran out|255 iterations|a warm pressure below 0 stays|a pressure 
 a contact with itself|a repeated contact|no fluid contacts|wall contacts alone|a link to another fluid
 a push on a kept force|a push on no force|a push of pressure 0|two pushes on one force
 refused 9 without contacts|refused 9 by terms|refused 9 at a later fluid
-refused 10|refused 10 at a later particle
-version 1|version 2, rule 0|version 2, rule 1|version 2, rule 2|version 2, rule 3""".replace("\n", "|").split("|")
+refused 10|refused 10 at a later particle""".replace("\n", "|").split("|")
+
+
+# Forms, and refusals of rules, of solid scenes and of flat ones.
+FORM_NAMES = {axes: [FORM_NAME % form for form in FORMS[axes]] for axes in (SOLID, FLAT)}
+WRONG_RULES = {axes: ["refused 2 at 1 in version %d" % version for version in AXES if AXES[version] == axes]
+               for axes in (SOLID, FLAT)}
+BRANCHES += sum(FORM_NAMES.values(), [])
 BRANCHES += ["refused 1 in the %s" % part for part in ("header", "count", "rest density", "records")]
-BRANCHES += ["refused 2 at 0", "refused 2 at 1 in version 1", "refused 2 at 1 in version 2", "refused 3 at 0",
-             "refused 3 at 1", "refused 3 at 1 with a wrong rule", "refused 4 at 52", "refused 4 later", "refused 5",
-             "refused 6 in the header", "refused 6 at the rest density", "refused 6 in the records",
+BRANCHES += ["refused 2 at 0", *sum(WRONG_RULES.values(), []), "refused 3 at 0",
+             "refused 3 at 1", "refused 3 at 1 with a wrong rule", "refused 4 at the first count", "refused 4 later",
+             "refused 5", "refused 6 in the header", "refused 6 at the rest density", "refused 6 in the records",
              "refused 7 by the model", "refused 7 by the number", "refused 7 at a wall contact"]
 # By either criterion; Ihmsen's have this before their names, and those of a sum by halves that.
 IHMSEN, HALVES = "Ihmsen: ", "by halves: "
@@ -45,6 +54,16 @@ ENDS = """error above the limit|limit met before least|limit met at least|limit 
 limit met in the last iteration|ran out with the limit met""".replace("\n", "|").split("|")
 BRANCHES += [*ENDS, *(IHMSEN + name for name in ENDS + branches_ihmsen.NAMES)]
 BRANCHES += [HALVES + name for name in branches_sums.NAMES]
+
+
+def header_end(data): return 28 + 8 * axes_of(data)
+
+
+def of_axes(axes):
+    """The branches that scenes of so many axes can meet."""
+    own = FORM_NAMES[axes] + WRONG_RULES[axes]
+    others = sum([*FORM_NAMES.values(), *WRONG_RULES.values()], [])
+    return [branch for branch in BRANCHES if branch in own or branch not in others]
 
 
 class Branches:
@@ -65,7 +84,7 @@ class Branches:
         if line.startswith("step"):
             endings = {"unswept": "unswept", "settled": "settled", "ranout": "ran out"}
             ending = endings[line.split(" ")[1]]
-            self.add("version 1" if data[0] >> 4 == 1 else "version 2, rule %d" % (data[1] & 15), True)
+            self.add(FORM_NAME % (data[0] >> 4, data[1] & 15), True)
             self.add(ending, True)
             self.add("255 iterations", line.split(" ")[2] == "255")
             found = [(averages, terms, error) for error, _, averages, terms in self.iterations]
@@ -183,13 +202,15 @@ class Branches:
         self.add("a link to another fluid", any(not any(c.named is q for q in f.particles) for c in p.near))
 
     def refusal(self, data, number, place):
-        part = "header" if place < 52 else "count" if place == 52 else "rest density" if place == 54 else "records"
+        behind = header_end(data)
+        parts = {behind: "count", behind + 2: "rest density"}
+        part = "header" if place < behind else parts.get(place, "records")
         if number == 1:
             self.add("refused 1 in the " + part, True)
         elif number in (2, 3):
             self.form(data, number, place)
         elif number == 4:
-            self.add("refused 4 at 52" if place == 52 else "refused 4 later", True)
+            self.add("refused 4 at the first count" if place == behind else "refused 4 later", True)
         elif number == 5:
             self.add("refused 5", True)
         elif number == 6:
@@ -198,12 +219,13 @@ class Branches:
         elif number == 7:
             self.missing(data, place)
         elif number == 9:
-            bare = data[place + 88:place + 90] == b"\0\0"
+            counts = place + 8 * (3 * axes_of(data) + 2)      # behind the record's doubles
+            bare = data[counts:counts + 2] == b"\0\0"
             self.add("refused 9 without contacts" if bare else "refused 9 by terms", True)
-            self.add("refused 9 at a later fluid", place > 62 and data[52:54] == b"\0\0")
+            self.add("refused 9 at a later fluid", place > behind + 10 and data[behind:behind + 2] == b"\0\0")
         else:
             self.add("refused 10", True)
-            self.add("refused 10 at a later particle", place > 62)
+            self.add("refused 10 at a later particle", place > behind + 10)
 
     def form(self, data, number, place):
         """Refusals 2 and 3."""
@@ -222,7 +244,7 @@ class Branches:
 
     def fluids_end(self, data):
         r = self.names["Reader"](data)
-        r.at = 52
+        r.at, r.axes = header_end(data), axes_of(data)
         for _ in range(data[0] & 15):
             n, _ = r.count(0xFFFF)
             r.double()

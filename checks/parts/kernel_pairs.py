@@ -6,6 +6,7 @@ import struct
 
 from parts.drawing import Draw, kernel
 from parts.sides import ran
+from parts.step_rules import FLAT, SOLID
 from reference import Stop
 
 NAN = "7FF8000000000000"
@@ -26,12 +27,12 @@ def pairs(seed, n):
         yield r, d.of((math.inf, math.nan, -h)) if d.one_in(40) else h
 
 
-def kernel_line(r, h):
+def kernel_line(r, h, axes=SOLID):
     if not (math.isfinite(r) and r >= 0.0):
         return "refused 11"
     if not (math.isfinite(h) and h > 0.0):
         return "refused 12"
-    return " ".join(map(bits, kernel(r, h)))
+    return " ".join(map(bits, kernel(r, h, axes)))
 
 
 def answers(command, cases):
@@ -48,9 +49,9 @@ def kernel_kind(answer):
 
 
 def kernel_run(options):
-    cases = list(pairs(options.seed, options.kernel))
-    rust = answers([str(options.oracle), "kernel"], cases)
-    ours = answers(options.command, cases) if options.command else [kernel_line(r, h) for r, h in cases]
+    cases, axes = list(pairs(options.seed, options.kernel)), options.axes or SOLID
+    rust = answers([str(options.oracle), "kernel"] + ["--flat"] * (axes == FLAT), cases)
+    ours = answers(options.command, cases) if options.command else [kernel_line(r, h, axes) for r, h in cases]
     for (r, h), a, b in zip(cases, rust, ours):
         if a != b:
             print("distance %s radius %s\nthe Rust:    %s\nthe subject: %s" % (bits(r), bits(h), a, b))

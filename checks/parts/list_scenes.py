@@ -3,8 +3,7 @@ without. A list's number is its place among all lists of the scene, from 0."""
 import itertools
 
 from parts.step_faults import most_particles
-from parts.step_rules import ZERO
-from parts.step_scenes import beside, fluid, particle, scene, scene_a, stone, to, wall
+from parts.step_scenes import ZERO, beside, fluid, particle, scene, scene_a, stone, to, wall
 
 MODELS = 8                   # of a kind, at most
 MOST, MIDDLE = 255, 127      # contacts of the longest list, and the number of one in its middle

@@ -5,7 +5,6 @@ import math
 
 from parts.drawing import LARGEST, drop
 
-BEDS = [[0, [[[0.0, 0.0, 0.0], [[0, 0, 1.0]]]]], [0, [[[0.0, 0.0, 0.0], [[1, 0, -2.0]]]]]]      # volumes 1 and -0.5
 HIGH, LOW = 0.75 * 2.0**1023, -0.4375 * 2.0**1023
 
 
@@ -15,23 +14,29 @@ def term(d):
                        (1, lambda: d.sign(2.0**54)), (2, lambda: math.ldexp(1.0 + d.unit(), d.below(50)))))()
 
 
-def bearing(x, warm=0.0):
+def beds(d):
+    """Walls of a particle each, with volumes 1 and -0.5."""
+    return [[0, [[d.along(0.0), [[0, 0, 1.0]]]]], [0, [[d.along(0.0), [[1, 0, -2.0]]]]]]
+
+
+def bearing(d, x, warm=0.0):
     """A particle with this term, if its warm pressure is 0."""
     if x < 0.0:
-        return drop([], -4.0 * x, warm=warm, walls=[[1, 0, -2.0, 1.0, 0.0, 0.0]])
-    return drop([], 2.0 * x, warm=warm, walls=[[0, 0, 1.0, 1.0, 0.0, 0.0]])
+        return drop(d, [], -4.0 * x, warm=warm, walls=[[1, 0, -2.0, *d.along(1.0)]])
+    return drop(d, [], 2.0 * x, warm=warm, walls=[[0, 0, 1.0, *d.along(1.0)]])
 
 
 # ---- a fluid's rest density and its n particles; m is its number
 
-def laden(d, n, _): return [1.0, [bearing(term(d)) for _ in range(n)]]
-def warmed(d, n, _): return [1.0, [bearing(term(d), abs(d.random())) for _ in range(n)]]
-def overflowing(d, n, _): return [1.0, [bearing(d.of((HIGH, HIGH, HIGH, LOW, LOW, 0.0))) for _ in range(n)]]
-def faint(d, n, _): return [1.0, [bearing(-0.0, d.of((2e-323, 2e-323, 0.0))) for _ in range(n)]]
+def laden(d, n, _): return [1.0, [bearing(d, term(d)) for _ in range(n)]]
+def warmed(d, n, _): return [1.0, [bearing(d, term(d), abs(d.random())) for _ in range(n)]]
+def overflowing(d, n, _): return [1.0, [bearing(d, d.of((HIGH, HIGH, HIGH, LOW, LOW, 0.0))) for _ in range(n)]]
+def faint(d, n, _): return [1.0, [bearing(d, -0.0, d.of((2e-323, 2e-323, 0.0))) for _ in range(n)]]
 
 
 def level(d, n, _):
-    return [-1.0, [drop([], 3.0, -2.0, d.of((2.0, 2.0, 2.0, -64.0)), [[0, 0, -1.0, 1.0, 0.0, 0.0]]) for _ in range(n)]]
+    against = [0, 0, -1.0, *d.along(1.0)]
+    return [-1.0, [drop(d, [], 3.0, -2.0, d.of((2.0, 2.0, 2.0, -64.0)), [against]) for _ in range(n)]]
 
 
 def linked(d, n, m):
@@ -39,11 +44,11 @@ def linked(d, n, m):
     rest, slope = 0.5 + d.unit(), 0.2 + d.unit()
 
     def near(k):
-        found = [[m, k, 0.5 + d.unit(), 0.0, 0.0, 0.0], [m, (k + 1) % n, d.unit(), slope, d.random() / 8.0, 0.0]]
-        return found + [[m, d.below(n), d.unit(), -slope, 0.0, d.random() / 8.0]] * d.one_in(4)
+        found = [[m, k, 0.5 + d.unit(), *d.along(0.0)], [m, (k + 1) % n, d.unit(), *d.along(slope, d.random() / 8.0)]]
+        return found + [[m, d.below(n), d.unit(), *d.along(-slope, 0.0, d.random() / 8.0)]] * d.one_in(4)
 
-    return [rest, [drop(near(k), 2.0 * d.random(), 0.5 + d.unit(), d.of((0.0, d.unit())),
-                        [[0, 0, d.unit(), 0.0, d.unit(), 0.0]] * d.one_in(4)) for k in range(n)]]
+    return [rest, [drop(d, near(k), 2.0 * d.random(), 0.5 + d.unit(), d.of((0.0, d.unit())),
+                        [[0, 0, d.unit(), *d.along(0.0, d.unit())]] * d.one_in(4)) for k in range(n)]]
 
 
 def empty(d, *_): return [d.nice(), []]
@@ -56,8 +61,8 @@ LARGE_KINDS = laden, warmed, linked, linked, linked
 # ---- the scenes
 
 def scene(d, fluids, most):
-    return {"least": d.of((0, 0, 0, 1)), "most": d.of(most), "fluids": fluids, "walls": BEDS,
-            "head": [1.0, d.nice(), d.of((0.05, 1.0, 2.0**40, LARGEST, 0.0, -0.0, -1.0)), 0.0, 0.0, 0.0]}
+    return {"least": d.of((0, 0, 0, 1)), "most": d.of(most), "fluids": fluids, "walls": beds(d),
+            "head": [1.0, d.nice(), d.of((0.05, 1.0, 2.0**40, LARGEST, 0.0, -0.0, -1.0)), *d.along(0.0)]}
 
 
 def sums(d):

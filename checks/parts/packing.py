@@ -1,4 +1,5 @@
-"""Packed scenes taken apart and put together, for made_scenes.py and compare.py.
+"""Packed scenes taken apart and put together, for made_scenes.py, compare.py and others; and scenes
+with an axis less, or one more.
 
 A scene is a dict: form (version, rule), least, most, head (step length, remaining time, limit,
 gravity), fluids and walls. A fluid is [rest, particles], a wall [keeps, particles]; a particle is [doubles, fluid
@@ -6,6 +7,11 @@ contacts, wall contacts], a wall's particle [doubles, contacts]; a contact is [m
 weight, gradient...].
 """
 import struct
+
+from parts.step_rules import AXES, FLAT, SOLID
+
+# of a number of axes, the version that has all rules
+VERSIONS = {axes: max(version for version, own in AXES.items() if own == axes) for axes in (SOLID, FLAT)}
 
 
 def doubles(xs): return struct.pack(">%dd" % len(xs), *xs)
@@ -27,9 +33,15 @@ def pack(s):
     return b"".join(parts)
 
 
+def axes_of(data):
+    """How many axes a packed scene has; that of a version that is not there counts as solid."""
+    return AXES.get(data[0] >> 4, SOLID) if data else SOLID
+
+
 def unpack(data):
-    """The scene of a packed one that has all its fields and nothing more; None for any other."""
-    at = 0
+    """The scene of a packed one that has all its fields and nothing more; None for any other. One of a
+    version that is not there is read as a solid one."""
+    at, axes = 0, axes_of(data)
 
     def take(form):
         nonlocal at
@@ -41,17 +53,17 @@ def unpack(data):
         return [[c[0] >> 12, c[0] & 0xFFF, *c[1:]] for c in found]
 
     def drop():
-        numbers, (near, walls) = take("11d"), take("2B")
-        return [numbers, named(near, "4d"), named(walls, "4d")]
+        numbers, (near, walls) = take("%dd" % (3 * axes + 2)), take("2B")
+        return [numbers, named(near, "%dd" % (1 + axes)), named(walls, "%dd" % (1 + axes))]
 
     def stone(keeps):
-        numbers, (walls,) = take("6d" if keeps else "3d"), take("B")
+        numbers, (walls,) = take("%dd" % ((1 + keeps) * axes)), take("B")
         return [numbers, named(walls, "d")]
 
     try:
         first, second, least, most = take("4B")
-        s = {"form": (first >> 4, second & 15), "least": least, "most": most, "head": take("6d"), "fluids": [],
-             "walls": []}
+        s = {"form": (first >> 4, second & 15), "least": least, "most": most, "head": take("%dd" % (3 + axes)),
+             "fluids": [], "walls": []}
         for _ in range(first & 15):
             count, rest = take("Hd")
             s["fluids"].append([rest, [drop() for _ in range(count)]])
@@ -61,3 +73,34 @@ def unpack(data):
     except struct.error:
         return None
     return s if at == len(data) and pack(s) == data else None
+
+
+# ---- an axis less, an axis more
+
+def remade(data, axes, vector, rule=None):
+    """The scene with so many axes, each of its vectors made anew; under its own rule or this one."""
+    s, old = unpack(data), axes_of(data)
+
+    def vectors(numbers): return [x for at in range(0, len(numbers), old) for x in vector(numbers[at:at + old])]
+    def links(cs): return [c[:3] + vectors(c[3:]) for c in cs]
+
+    fluids = [[rest, [[vectors(p[:-2]) + p[-2:], links(near), links(walls)] for p, near, walls in particles]]
+              for rest, particles in s["fluids"]]
+    walls = [[keeps, [[vectors(numbers), cs] for numbers, cs in particles]] for keeps, particles in s["walls"]]
+    form = VERSIONS[axes], s["form"][1] if rule is None else rule
+    return pack(dict(s, form=form, head=s["head"][:3] + vectors(s["head"][3:]), fluids=fluids, walls=walls))
+
+
+def flat(data, dropped=1, rule=None):
+    """A solid scene without one of its axes, the first having the number 0."""
+    return remade(data, FLAT, lambda v: v[:dropped] + v[dropped + 1:], rule)
+
+
+def solid(data, added):
+    """A flat scene with an axis of +0 everywhere."""
+    return remade(data, SOLID, lambda v: v[:added] + [0.0] + v[added:])
+
+
+def is_idle(data, axis):
+    """Is this axis +0 in every vector of a solid scene."""
+    return solid(flat(data, axis), axis) == remade(data, SOLID, list)

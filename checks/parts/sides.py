@@ -1,11 +1,13 @@
 """The two sides that compare.py holds against each other: what is expected, from the oracle and the
-reference, and the subject, each asked for the texts of some scenes."""
+reference, and the subject, each asked for the texts of some scenes. The oracle steps solid scenes
+and flat ones."""
 import pathlib
 import subprocess
 import tempfile
 
 from made_scenes import LARGE
-from parts.step_scenes import FORMS, changed, under
+from parts.packing import axes_of
+from parts.step_scenes import FORM_NAME, FORMS, changed, under
 from reference import Stop, answering, batch, texts
 
 SKIPPED = "skipped\n"
@@ -83,13 +85,14 @@ def form(data): return (data[0] >> 4, data[1] & 15) if len(data) > 1 else None
 
 def form_name(data):
     """The name of a scene's version and rule."""
-    return "version %d, rule %d" % form(data) if form(data) in FORMS else "without a form"
+    return FORM_NAME % form(data) if form(data) in sum(FORMS.values(), []) else "without a form"
 
 
 def without_end(data, text):
     """The scene under the Rust's rule, with the iterations of this text and no end before."""
     iterations = int(text.split(maxsplit=3)[2])
-    return changed(under(data, 1, 0), 2, bytes([iterations, iterations]))
+    first_form = FORMS[axes_of(data)][0]      # the Rust's rule
+    return changed(under(data, *first_form), 2, bytes([iterations, iterations]))
 
 
 class Sides:

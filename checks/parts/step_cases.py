@@ -2,10 +2,10 @@
 specification or plain reckoning puts into its text."""
 import math
 
-from parts.step_rules import ZERO, bits, row
-from parts.step_scenes import (EMPTY, LEAST, X, Z, ZEROS, beside, changed, fluid, one, overflowing, pair, particle,
-                               pressing, rich, rising, scene, scene_a, small_aii, stone, to, torn, wall, weighed,
-                               weightless)
+from parts.step_rules import bits, row
+from parts.step_scenes import (EMPTY, LEAST, X, Z, ZERO, ZEROS, beside, changed, fluid, one, overflowing, pair,
+                               particle, pressing, rich, rising, scene, scene_a, small_aii, stone, to, torn, wall,
+                               weighed, weightless)
 
 TEXT_A = ("step settled 2 0000000000000000 0\nclock 3FE0000000000000 4000000000000000 3FE0000000000000\n"
           "fluid 0 0 0000000000000000 0000000000000000 BFF0000000000000 "

@@ -1,6 +1,7 @@
 """Scenes drawn by a fixed generator, and damaged copies of them, for cases_step.py."""
 import struct
 
+from parts.step_rules import FLAT, SOLID
 from parts.step_scenes import FORMS, LEAST, beside, changed, fluid, particle, scene, stone, to, under, wall
 
 NICE = 0.0, 1.0, -1.0, 0.5, -0.5, 2.0, 0.25, 3.0
@@ -9,17 +10,17 @@ SUBNORMAL = LEAST, 2.0**-1023, 3e-310
 
 
 class Draw:
-    """A linear generator; its higher bits are the numbers drawn."""
+    """A linear generator; its higher bits are the numbers drawn. Scenes have so many axes."""
 
-    def __init__(self, seed):
-        self.state = seed
+    def __init__(self, seed, axes):
+        self.state, self.axes = seed, axes
 
     def below(self, n):
         self.state = (self.state * 6364136223846793005 + 1442695040888963407) % 2**64
         return (self.state >> 20) % n
 
     def of(self, pool): return pool[self.below(len(pool))]
-    def vector(self, wild): return self.double(wild), self.double(wild), self.double(wild)
+    def vector(self, wild): return tuple(self.double(wild) for _ in range(self.axes))
 
     def double(self, wild):
         """A nice number or a random one; with a chance of `wild` in 16 an extreme one, a subnormal,
@@ -45,7 +46,7 @@ class Draw:
                     for _ in range(self.below(most + 1) if names else 0)]
 
         def drop(name):
-            near = ([to(*name, size())] if self.below(16) else []) + contacts(fluid_names, 3)
+            near = ([to(*name, size(), (0.0,) * self.axes)] if self.below(16) else []) + contacts(fluid_names, 3)
             return particle(near, contacts(wall_names, 2), self.vector(wild), self.vector(wild), self.vector(wild),
                             size(), self.double(wild))
 
@@ -60,13 +61,17 @@ class Draw:
                      self.of((0.05, 0.5, 5.0, self.double(wild))), self.vector(wild))
 
 
-def drawn():
-    """300 scenes, of each form 60, and here and there one cut short or with a byte changed."""
-    draw = Draw(2014)
-    for k in range(300):
-        data = under(draw.scene(), *FORMS[k % len(FORMS)])
+def of_forms(seed, n, axes):
+    """n scenes, of each form as many, and here and there one cut short or with a byte changed."""
+    draw, forms = Draw(seed, axes), FORMS[axes]
+    for k in range(n):
+        data = under(draw.scene(), *forms[k % len(forms)])
         yield "random", data
         if k % 8 == 3:
             yield "cut short", data[:draw.below(len(data))]
         if k % 8 == 7:
             yield "a byte changed", changed(data, draw.below(len(data)), bytes([draw.below(256)]))
+
+
+def drawn(): return of_forms(2014, 300, SOLID)
+def drawn_flat(): return of_forms(2, 240, FLAT)

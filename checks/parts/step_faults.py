@@ -1,6 +1,6 @@
 """Scenes that are refused, and the longest ones, for cases_step.py and list_scenes.py."""
 from parts.step_cases import swept
-from parts.step_rules import LONGEST, row
+from parts.step_rules import LONGEST, SOLID, row
 from parts.step_scenes import (EMPTY, FORMS, X, beside, changed, doubles, fluid, one, pair, particle, rich, scene,
                                scene_a, stone, to, under, wall)
 
@@ -25,7 +25,7 @@ def header_faults():
         (scene([fluid(1.0, count=4096)]), 62), (scene([], [b"\x10\0"]), 54), (scene([], [b"\x90\0"]), 54)]
     yield 1, "a cut header of version 2", [
         (under(EMPTY, 2, rule)[:n], at) for rule in (1, 3) for n, at in HEADER_CUTS[1:]]
-    wrong_version = [(changed(EMPTY, 0, bytes([16 * x])), 0) for x in (0, *range(3, 16))]
+    wrong_version = [(changed(EMPTY, 0, bytes([16 * x])), 0) for x in (0, 3, *range(5, 16))]
     yield 2, "version", wrong_version + [(b"\0", 0)]
     yield 2, "version, before 3", [(changed(EMPTY, 0, bytes([x])), 0) for x in (0x09, 0x39, 0xFF)]
     yield 3, "fluids", [(changed(EMPTY, 0, bytes([x])), 0) for x in (0x19, 0x1F, 0x29, 0x2F)] + [(b"\x19\x9F", 0)]
@@ -64,7 +64,7 @@ def name_faults():
     yield 7, "fluid contacts", [(scene_a([to(0, 1, 2.0)]), 152)] + [(rich(near=name), 162) for name in no_fluid]
     yield 7, "wall contacts", [(rich(walls=name), 230) for name in no_wall]
     yield 7, "contacts of walls", [(rich(own=name), 439) for name in no_wall]
-    yield 7, "under each form", [(under(rich(own=(3, 0)), *form), 439) for form in FORMS]
+    yield 7, "under each form", [(under(rich(own=(3, 0)), *form), 439) for form in FORMS[SOLID]]
     yield 7, "the earliest; also before 9", [
         (rich(near=(2, 0), walls=(3, 0)), 162), (rich(walls=(3, 0), own=(3, 0)), 230),
         (rich(own=(3, 0), weight=-0.75), 439)]
@@ -85,21 +85,29 @@ def density_faults():
         (scene([pair(), pair(1, speed=-0.5)]), 320)]
 
 
-def faults():
+def told(refusals):
     """The cases: comment, scene and the only line of its text."""
-    for number, comment, scenes in [*header_faults(), *rule_faults(), *field_faults(), *name_faults(),
-                                    *density_faults()]:
+    for number, comment, scenes in refusals:
         for data, at in scenes:
             yield comment, data, "refused %d %d\n" % (number, at)
 
 
+def faults():
+    return told([*header_faults(), *rule_faults(), *field_faults(), *name_faults(), *density_faults()])
+
+
 # ---- the longest scenes
+
+def many_particles(n, fluids, walls):
+    """A fluid of n particles with one contact each, the first two with two; then these models."""
+    many = [particle([to(0, (k + 1) % n, 1.0 + k % 7 / 8.0, (0.5, 0.125 * (k % 5), -0.25))] * (2 if k < 2 else 1),
+                     velocity=(k % 11 / 4.0, k % 3 / 2.0, 0.0), volume=1.0 + k % 4 / 16.0) for k in range(n)]
+    return scene([fluid(1.0, *many), *fluids], walls, most=12, dt=0.25)
+
 
 def most_particles():
     """32,768 bytes with the most fluid particles."""
-    many = [particle([to(0, (k + 1) % 263, 1.0 + k % 7 / 8.0, (0.5, 0.125 * (k % 5), -0.25))] * (2 if k < 2 else 1),
-                     velocity=(k % 11 / 4.0, k % 3 / 2.0, 0.0), volume=1.0 + k % 4 / 16.0) for k in range(263)]
-    return scene([fluid(1.0, *many), fluid(1.0)], [wall()] * 8, most=12, dt=0.25)
+    return many_particles(263, [fluid(1.0)], [wall()] * 8)
 
 
 def sizes():

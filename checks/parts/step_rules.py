@@ -3,16 +3,17 @@ parts, and by reference.py for all that edit its text: checks a packed scene, ru
 gives the program's lines.
 
 Python's floats are IEEE 754 doubles and each operation stands in METHOD's order; `div` adds the
-division by zero that Python refuses. The files wrong_*.py and branches.py quote this text, and it
-needs no other file of checks/.
+division by zero that Python refuses. How many axes a vector has is told by AXES alone. The files
+wrong_*.py and branches.py quote this text, and it needs no other file of checks/.
 """
 import math
+import operator
 import struct
 from functools import reduce
 from types import SimpleNamespace as Record
 
 LONGEST = 32768
-ZERO = (0.0, 0.0, 0.0)
+SOLID, FLAT = 3, 2      # axes
 
 
 # ---- doubles and vectors; a sum starts at +0 and goes in order (Python's own `sum` need not)
@@ -27,9 +28,9 @@ def bits(x): return "7FF8000000000000" if math.isnan(x) else struct.pack(">d", x
 def add(a, b): return tuple(x + y for x, y in zip(a, b))
 def sub(a, b): return tuple(x - y for x, y in zip(a, b))
 def scale(a, s): return tuple(x * s for x in a)
-def dot(a, b): return (a[0] * b[0] + a[1] * b[1]) + a[2] * b[2]
+def dot(a, b): return reduce(operator.add, map(operator.mul, a, b))      # it starts at ax * bx
 def total(terms): return reduce(lambda x, y: x + y, terms, 0.0)
-def vector_total(terms): return reduce(add, terms, ZERO)
+def vector_total(zero, terms): return reduce(add, terms, zero)
 
 
 # ---- the criteria by which iterations end: a particle's term, where its next pressure is above 0;
@@ -59,7 +60,7 @@ SALVA, IHMSEN = Record(term=salva_term, error=salva_error), Record(term=ihmsen_t
 
 
 # ---- the summations of a fluid's terms, and how many doubles of the work list a fluid particle
-# needs under each
+# needs for each
 
 def by_halves(terms):
     """A list of one is its number; a longer one is split after its first half, rounded down."""
@@ -69,13 +70,14 @@ def by_halves(terms):
     return by_halves(terms[:first]) + by_halves(terms[first:])
 
 
-IN_ORDER, BY_HALVES = Record(of=total, work=14), Record(of=by_halves, work=15)
+IN_ORDER, BY_HALVES = Record(of=total, work=0), Record(of=by_halves, work=1)
 
 
-# ---- a rule is a criterion and a summation
+# ---- a rule is a criterion and a summation; a version has its rules and its number of axes
 
 CRITERIA, SUMMATIONS = (SALVA, IHMSEN), (IN_ORDER, BY_HALVES)      # of rule % 2, of rule / 2
-LAST_RULES = {1: 0, 2: 3}                                          # of each version that there is
+LAST_RULES = {1: 0, 2: 3, 4: 3}                                    # of each version that there is
+AXES = {1: SOLID, 2: SOLID, 4: FLAT}
 
 
 # ---- the check of a packed scene: refusals 1 to 7
@@ -88,7 +90,7 @@ class Reader:
     """Goes through the fields in order. Each is first there (1), then tested by its own rule."""
 
     def __init__(self, data):
-        self.data, self.at = data, 0
+        self.data, self.at, self.axes = data, 0, None
 
     def number(self, size):
         here, self.at = self.at, self.at + size
@@ -107,7 +109,7 @@ class Reader:
         return x
 
     def vector(self):
-        return self.double(), self.double(), self.double()
+        return tuple(self.double() for _ in range(self.axes))
 
     def count(self, mask):
         """The count within the mask, and whether a bit beside it is set."""
@@ -141,8 +143,10 @@ def walk(data):
     walls, rule = divmod(r.number(1), 16)
     r.must(walls <= 8, 3, 1)
     r.must(rule <= LAST_RULES[version], 2, 1)
+    r.axes = AXES[version]
     s = Record(criterion=CRITERIA[rule % 2], summation=SUMMATIONS[rule // 2], least=r.number(1), most=r.number(1),
-               dt=r.double(), remaining=r.double(), limit=r.double(), gravity=r.vector(), fluids=[], walls=[])
+               dt=r.double(), remaining=r.double(), limit=r.double(), gravity=r.vector(), fluids=[], walls=[],
+               zero=(0.0,) * r.axes)
     for _ in range(fluids):
         n, _ = r.count(0xFFFF)
         s.fluids.append(Record(rest=r.double(), particles=[r.fluid_particle() for _ in range(n)]))
@@ -174,7 +178,7 @@ def prepare(s):
         w.v = w.velocity
     for fluid, p in s.all:
         p.mass = p.volume * fluid.rest
-        p.change = add(ZERO, scale(add(p.acceleration, s.gravity), dt))
+        p.change = add(s.zero, scale(add(p.acceleration, s.gravity), dt))
         p.v = add(p.velocity, p.change)
     for fluid, p in s.all:
         for c in p.near:
@@ -192,7 +196,7 @@ def prepare(s):
             raise Refused(10, p.place)
     for _, p in s.all:
         f, p.e = div((-dt) * dt, p.rho * p.rho), div((dt * dt) * p.mass, p.rho * p.rho)
-        p.dii = vector_total(scale(c.gradient, c.mass * f) for c in p.links)
+        p.dii = vector_total(s.zero, (scale(c.gradient, c.mass * f) for c in p.links))
         p.aii = total(c.mass * dot(sub(p.dii, scale(c.gradient, p.e)), c.gradient) for c in p.links)
         p.pressure = 0.5 * p.warm
 
@@ -212,8 +216,8 @@ def iteration(s):
     """Module 6, one iteration: moves all pressures on, and gives the error and whether an average
     was passed over for it."""
     for _, p in s.all:
-        p.dij = scale(vector_total(scale(c.gradient, div((-c.mass) * c.named.pressure, c.named.rho * c.named.rho))
-                                   for c in p.near), s.dt * s.dt)
+        pushes = (scale(c.gradient, div((-c.mass) * c.named.pressure, c.named.rho * c.named.rho)) for c in p.near)
+        p.dij = scale(vector_total(s.zero, pushes), s.dt * s.dt)
     for fluid, p in s.all:
         p.next, p.term = relaxed(s.criterion, fluid.rest, p)
     for _, p in s.all:
@@ -237,10 +241,16 @@ def finish(s):
         p.position = add(p.position, scale(p.velocity, s.dt))
 
 
+def needed(s):
+    """The lengths that the lists for answers and for work must have."""
+    axes, drops, stones = len(s.zero), len(s.all), len(s.stones)
+    kept = sum(w.force is not None for w in s.stones)
+    return (1 + 2 * axes) * drops + stones + axes * kept, (5 + 3 * axes + s.summation.work) * drops + stones
+
+
 def step(s, answers=math.inf, work=math.inf):
     """Runs the step, with lists of these lengths lent, and gives line 1 from its second word on."""
-    of_walls = sum(1 if w.force is None else 4 for w in s.stones)
-    if answers < 7 * len(s.all) + of_walls or work < s.summation.work * len(s.all) + len(s.stones):
+    if answers < needed(s)[0] or work < needed(s)[1]:
         raise Refused(8, 0)
     prepare(s)
     s.inv_dt = 0.0 if s.dt == 0.0 else 1.0 / s.dt

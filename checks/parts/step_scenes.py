@@ -1,8 +1,10 @@
 """Packed scenes put together from pieces, for cases_step.py, cases_clock.py, tests/ and other parts:
-the specification's scenes A and B, and others. A stone is a particle of a wall."""
+the specification's scenes A and B, and others, all solid. A stone is a particle of a wall."""
 import struct
 
-from parts.step_rules import ZERO
+from parts.step_rules import AXES, FLAT, LAST_RULES, SOLID
+
+ZERO = (0.0,) * SOLID
 
 
 # ---- packing
@@ -37,7 +39,10 @@ def scene(fluids, walls=(), least=1, most=50, dt=1.0, remaining=0.0, limit=0.05,
 
 # ---- the specification's scenes, and pieces of others
 
-FORMS = (1, 0), (2, 0), (2, 1), (2, 2), (2, 3)      # the versions and rules that are there
+# the versions and rules that are there, by the number of axes
+FORMS = {axes: [(version, rule) for version, own in AXES.items() if own == axes
+                for rule in range(LAST_RULES[version] + 1)] for axes in (SOLID, FLAT)}
+FORM_NAME = "version %d, rule %d"
 X, Z, FALL, STEEP = (1.0, 0.0, 0.0), (0.0, 0.0, 1.0), (0.0, 0.0, -4.0), (2.0**21, 0.0, 0.0)
 ZEROS, LEAST = (-0.0, 0.0, -0.0), 5e-324
 EMPTY = bytes.fromhex("10000132") + bytes(48)

@@ -86,7 +86,7 @@ CRITERIA = [
     ("not a number ends the iterations", "        if settled:\n", "        if settled or math.isnan(error):\n"),
     # which criterion
     ("the criteria mixed up", BY_RULE, "criterion=CRITERIA[1 - rule % 2]"),
-    ("version 2 is Ihmsen's", BY_RULE, "criterion=CRITERIA[version - 1]"),
+    ("version 2 is Ihmsen's", BY_RULE, "criterion=CRITERIA[version == 2]"),
     ("version 2 is Salva's", BY_RULE, "criterion=SALVA"),
     ("version 1 is Ihmsen's", BY_RULE, "criterion=CRITERIA[rule % 2 if version > 1 else 1]"),
     ("the criterion by rule / 2", BY_RULE, "criterion=CRITERIA[rule // 2]"),

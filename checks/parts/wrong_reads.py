@@ -1,7 +1,13 @@
 """Wrong versions of the step's reader, for wrong_versions.py, in the form of wrong_rules.py."""
 
 VERSION, RULE = "    r.must(version in LAST_RULES, 2, 1)", "    r.must(rule <= LAST_RULES[version], 2, 1)"
-LAST = "LAST_RULES = {1: 0, 2: 3}"
+LAST, AXES = "LAST_RULES = {1: 0, 2: 3, 4: 3}", "AXES = {1: SOLID, 2: SOLID, 4: FLAT}"
+
+
+def version_taken(version, last_rule, axes):
+    """One more version."""
+    return AXES + "\nLAST_RULES[%d], AXES[%d] = %d, %s" % (version, version, last_rule, axes)
+
 
 READS = [
     ("lists in the order walls, fluids",
@@ -23,23 +29,25 @@ READS = [
     ("the last field's last byte must be followed", "if self.at > len(self.data):",
      "if self.at > len(self.data) or (size == 8 and self.at == len(self.data) and here == 44):"),
     ("any version", VERSION, "    version = version if version in LAST_RULES else 2"),
-    ("version 0 is taken", LAST, "LAST_RULES = {0: 0, 1: 0, 2: 3}"),
-    ("version 1 is refused", LAST, "LAST_RULES = {2: 3}"),
-    ("version 2 is refused", LAST, "LAST_RULES = {1: 0}"),
-    ("version 3 is taken", LAST, "LAST_RULES = {1: 0, 2: 3, 3: 3}"),
+    ("version 0 is taken", AXES, version_taken(0, 0, "SOLID")),
+    ("version 1 is refused", LAST, "LAST_RULES = {2: 3, 4: 3}"),
+    ("version 2 is refused", LAST, "LAST_RULES = {1: 0, 4: 3}"),
+    ("version 2 has two axes", AXES, AXES.replace("2: SOLID", "2: FLAT")),
+    ("all versions have two axes", AXES, AXES.replace("SOLID", "FLAT")),
+    ("version 3 is taken", AXES, version_taken(3, 3, "SOLID")),
     ("9 fluids are taken", "r.must(fluids <= 8, 3, 1)", "r.must(fluids <= 9, 3, 1)"),
     ("8 fluids are refused", "r.must(fluids <= 8, 3, 1)", "r.must(fluids < 8, 3, 1)"),
     ("9 walls are taken", "r.must(walls <= 8, 3, 1)", "r.must(walls <= 9, 3, 1)"),
     ("8 walls are refused", "r.must(walls <= 8, 3, 1)", "r.must(walls < 8, 3, 1)"),
     ("any rule", RULE, "    rule = min(rule, LAST_RULES[version])"),
     ("any rule in version 1", RULE, "    rule = rule if version > 1 else 0\n" + RULE),
-    ("rule 1 in version 1", LAST, "LAST_RULES = {1: 1, 2: 3}"),
+    ("rule 1 in version 1", LAST, "LAST_RULES = {1: 1, 2: 3, 4: 3}"),
     ("rules 2 and 3 in version 1", RULE, RULE.replace("rule <=", "rule in (2, 3) or rule <=")),
     ("rule 1 is refused", RULE, RULE.replace("rule <=", "rule != 1 and rule <=")),
     ("rule 2 is refused", RULE, RULE.replace("rule <=", "rule != 2 and rule <=")),
-    ("rule 3 is refused", LAST, "LAST_RULES = {1: 0, 2: 2}"),
-    ("rules 2 and 3 are refused", LAST, "LAST_RULES = {1: 0, 2: 1}"),
-    ("rule 4 is taken", LAST, "LAST_RULES = {1: 0, 2: 4}\nSUMMATIONS = (*SUMMATIONS, IN_ORDER)"),
+    ("rule 3 is refused", LAST, "LAST_RULES = {1: 0, 2: 2, 4: 2}"),
+    ("rules 2 and 3 are refused", LAST, "LAST_RULES = {1: 0, 2: 1, 4: 1}"),
+    ("rule 4 is taken", LAST, "LAST_RULES = {1: 0, 2: 4, 4: 4}\nSUMMATIONS = (*SUMMATIONS, IN_ORDER)"),
     ("rule 15 is taken", RULE, RULE.replace("rule <=", "rule == 15 or rule <=") + "\n    rule = rule % 15"),
     ("a rule of one bit", RULE, "    rule = rule & 1\n" + RULE),
     ("a rule of two bits", RULE, "    rule = rule & 3\n" + RULE),

@@ -2,7 +2,7 @@
 a text that is in checks/parts/step_rules.py exactly once, and what stands there instead."""
 
 SUM = "def total(terms): return reduce(lambda x, y: x + y, terms, 0.0)"
-DOT = "return (a[0] * b[0] + a[1] * b[1]) + a[2] * b[2]"
+DOT = "return reduce(operator.add, map(operator.mul, a, b))"
 FACTOR = ("sub(sub(p.dij, scale(c.named.dii, c.named.pressure)),\n" + " " * 19 +
           "sub(c.named.dij, scale(scale(c.gradient, p.e), p.pressure)))")
 NEXT = "0.5 * p.pressure + div(0.5 * ((rest - p.predicted) - found), p.aii)"
@@ -11,14 +11,15 @@ NO_PRESSURE = "if pressure > 0.0 else (0.0, 0.0)"
 DELTA = "total(c.mass * dot(sub(p.v, c.named.v), c.gradient) for c in p.links) * dt"
 AII = "total(c.mass * dot(sub(p.dii, scale(c.gradient, p.e)), c.gradient) for c in p.links)"
 BOTH = "div(p.pressure, p.rho * p.rho) + div(c.named.pressure, c.named.rho * c.named.rho)"
-NEAR = "\n" + " " * 35 + "for c in p.near)"
-DIJ = "scale(c.gradient, div((-c.mass) * c.named.pressure, c.named.rho * c.named.rho))" + NEAR + ", s.dt * s.dt)"
+PUSHES = "scale(c.gradient, div((-c.mass) * c.named.pressure, c.named.rho * c.named.rho)) for c in p.near)"
+DIJ = "p.dij = scale(vector_total(s.zero, pushes), s.dt * s.dt)"
 
 RULES = [
     # sums and the dot product
-    ("a dot product from the back", DOT, "return a[0] * b[0] + (a[1] * b[1] + a[2] * b[2])"),
-    ("a dot product with its ends first", DOT, "return (a[0] * b[0] + a[2] * b[2]) + a[1] * b[1]"),
-    ("a dot product of two axes", DOT, "return a[0] * b[0] + a[1] * b[1]"),
+    ("a dot product from the back", DOT, "return reduce(operator.add, list(map(operator.mul, a, b))[::-1])"),
+    ("a dot product with its ends first", DOT,
+     "return (lambda z: reduce(operator.add, z[::2] + z[1::2]))(list(map(operator.mul, a, b)))"),
+    ("a dot product of two axes", DOT, "return reduce(operator.add, map(operator.mul, a[:2], b))"),
     ("sums from the back", SUM, "def total(terms): return reduce(lambda x, y: x + y, reversed(list(terms)), 0.0)"),
     ("sums rounded once", SUM,
      "def total(terms): return math.fsum(z) if all(map(math.isfinite, z := list(terms))) and max(map(abs, z), "
@@ -29,7 +30,7 @@ RULES = [
      "len(z) > 1 else "
      "0.0 + z[0] if z else 0.0, list(terms))"),
     ("sums from -0", SUM, "def total(terms): return reduce(lambda x, y: x + y, terms, -0.0)"),
-    ("vector sums from the back", "return reduce(add, terms, ZERO)", "return reduce(add, reversed(list(terms)), ZERO)"),
+    ("vector sums from the back", "return reduce(add, terms, zero)", "return reduce(add, reversed(list(terms)), zero)"),
     ("wall contacts before fluid contacts", "p.links = p.near + p.walls", "p.links = p.walls + p.near"),
     ("fluid contacts from the back", "p.links = p.near + p.walls", "p.links = p.near[::-1] + p.walls"),
     ("wall contacts from the back", "p.links = p.near + p.walls", "p.links = p.near + p.walls[::-1]"),
@@ -49,10 +50,10 @@ RULES = [
     ("acceleration left out", "scale(add(p.acceleration, s.gravity), dt)", "scale(s.gravity, dt)"),
     ("gravity times dt added apart", "scale(add(p.acceleration, s.gravity), dt)",
      "add(scale(p.acceleration, dt), scale(s.gravity, dt))"),
-    ("a velocity change that does not start at +0", "p.change = add(ZERO, scale(",
-     "p.change = (lambda z, v: v)(ZERO, scale("),
+    ("a velocity change that does not start at +0", "p.change = add(s.zero, scale(",
+     "p.change = (lambda z, v: v)(s.zero, scale("),
     ("predicted by the old velocities", "p.v = add(p.velocity, p.change)", "p.v = p.velocity"),
-    ("a wall that stands still", "w.v = w.velocity", "w.v = ZERO"),
+    ("a wall that stands still", "w.v = w.velocity", "w.v = s.zero"),
     # densities
     ("density of fluid contacts alone", "p.rho = total(c.mass * c.weight for c in p.links)",
      "p.rho = total(c.mass * c.weight for c in p.near)"),
@@ -91,8 +92,8 @@ RULES = [
     ("e as a quotient times mass", "div((dt * dt) * p.mass, p.rho * p.rho)", "div(dt * dt, p.rho * p.rho) * p.mass"),
     ("e without the mass", "div((dt * dt) * p.mass, p.rho * p.rho)", "div(dt * dt, p.rho * p.rho)"),
     ("dii with the gradient times mass first", "scale(c.gradient, c.mass * f)", "scale(scale(c.gradient, c.mass), f)"),
-    ("dii with f after the sum", "p.dii = vector_total(scale(c.gradient, c.mass * f) for c in p.links)",
-     "p.dii = scale(vector_total(scale(c.gradient, c.mass) for c in p.links), f)"),
+    ("dii with f after the sum", "p.dii = vector_total(s.zero, (scale(c.gradient, c.mass * f) for c in p.links))",
+     "p.dii = scale(vector_total(s.zero, (scale(c.gradient, c.mass) for c in p.links)), f)"),
     ("dii of fluid contacts alone", "scale(c.gradient, c.mass * f) for c in p.links",
      "scale(c.gradient, c.mass * f) for c in p.near"),
     ("aii with the mass inside", AII,
@@ -114,20 +115,17 @@ RULES = [
      "(-c.mass) * div(c.named.pressure, c.named.rho * c.named.rho)"),
     ("dij divided twice", "div((-c.mass) * c.named.pressure, c.named.rho * c.named.rho)",
      "div(div((-c.mass) * c.named.pressure, c.named.rho), c.named.rho)"),
-    ("dij with the square of dt in each term", DIJ,
-     "scale(scale(c.gradient, div((-c.mass) * c.named.pressure, c.named.rho * c.named.rho)), s.dt * s.dt) for c in "
-     "p.near), 1.0)"),
-    ("dij times dt once", DIJ, DIJ.replace("s.dt * s.dt)", "s.dt)")),
-    ("dij times dt and again times dt", "p.dij = scale(vector_total(" + DIJ, "p.dij = scale(scale(vector_total("
-     + DIJ.replace("s.dt * s.dt)", "s.dt), s.dt)")),
-    ("dij by the own density", "c.named.rho * c.named.rho))" + NEAR, "p.rho * p.rho))" + NEAR),
+    ("dij with the square of dt in each term", PUSHES + "\n        " + DIJ,
+     "scale(%s, s.dt * s.dt) for c in p.near)" % PUSHES.replace(" for c in p.near)", "")
+     + "\n        " + DIJ.replace("s.dt * s.dt", "1.0")),
+    ("dij times dt once", DIJ, DIJ.replace("s.dt * s.dt", "s.dt")),
+    ("dij times dt and again times dt", DIJ, "p.dij = scale(scale(vector_total(s.zero, pushes), s.dt), s.dt)"),
+    ("dij by the own density", PUSHES, PUSHES.replace("c.named.rho * c.named.rho", "p.rho * p.rho")),
     ("dij by the own pressure", "div((-c.mass) * c.named.pressure, c.named.rho",
      "div((-c.mass) * p.pressure, c.named.rho"),
-    ("dij also of walls", "c.named.rho * c.named.rho))" + NEAR + ", s.dt * s.dt)",
-     "c.named.rho * c.named.rho)) for c in p.near) if not p.walls else "
-     "vector_total(scale(c.gradient, div((-c.mass) * getattr(c.named, 'pressure', p.pressure), getattr(c.named, 'rho', "
-     "p.rho) * getattr(c.named, 'rho', p.rho))) "
-     "for c in p.links), s.dt * s.dt)"),
+    ("dij also of walls", PUSHES,
+     "scale(c.gradient, div((-c.mass) * getattr(c.named, 'pressure', p.pressure), "
+     "getattr(c.named, 'rho', p.rho) * getattr(c.named, 'rho', p.rho))) for c in p.links)"),
     ("aii below 0 counts as none", "not abs(p.aii) > 1e-9", "not p.aii > 1e-9"),
     ("aii above 0 counts as none", "not abs(p.aii) > 1e-9", "not -p.aii > 1e-9"),
     ("aii of exactly 1e-9 is taken", "not abs(p.aii) > 1e-9", "not abs(p.aii) >= 1e-9"),
@@ -153,7 +151,7 @@ RULES = [
      "scale(scale(c.gradient, p.e), c.named.pressure)"),
     ("the own dii", "scale(c.named.dii, c.named.pressure)", "scale(p.dii, c.named.pressure)"),
     ("the own pressure with dii", "scale(c.named.dii, c.named.pressure)", "scale(c.named.dii, p.pressure)"),
-    ("the neighbour's dij left out", "sub(c.named.dij, scale(scale(", "sub(ZERO, scale(scale("),
+    ("the neighbour's dij left out", "sub(c.named.dij, scale(scale(", "sub((0.0,) * len(c.gradient), scale(scale("),
     ("no sum over walls", "factors + [p.dij] * len(p.walls)", "factors"),
     ("the mass inside the sum's dot product", "found = total(c.mass * dot(factor, c.gradient) for",
      "found = total(dot(scale(factor, c.mass), c.gradient) for"),
@@ -219,7 +217,7 @@ RULES = [
      '    """Module 7, after the last iteration."""\n    for _, p in s.all[::-1]:'),
     ("velocity by the change before the solve", "p.velocity = add(p.velocity, p.change)", "p.velocity = p.v"),
     ("the change joined with the predicted velocity", "p.velocity = add(p.velocity, p.change)",
-     "p.velocity = add(p.v, sub(p.change, add(ZERO, scale(add(p.acceleration, s.gravity), s.dt))))"),
+     "p.velocity = add(p.v, sub(p.change, add(s.zero, scale(add(p.acceleration, s.gravity), s.dt))))"),
     ("the position moved by the old velocity",
      "        p.velocity = add(p.velocity, p.change)\n        p.position = add(p.position, scale(p.velocity, s.dt))",
      "        p.position = add(p.position, scale(p.velocity, s.dt))\n        p.velocity = add(p.velocity, p.change)"),

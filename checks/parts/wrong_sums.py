@@ -4,7 +4,7 @@ from parts.wrong_endings import AVERAGE
 
 OF_FLUIDS = "[%s for f in s.fluids if f.particles]" % AVERAGE
 BY_SUMMATION = "summation=SUMMATIONS[rule // 2]"
-BOTH = "IN_ORDER, BY_HALVES = Record(of=total, work=14), Record(of=by_halves, work=15)"
+BOTH = "IN_ORDER, BY_HALVES = Record(of=total, work=0), Record(of=by_halves, work=1)"
 LONE = "    if len(terms) == 1:\n        return terms[0]\n"
 SPLIT = "    first = len(terms) // 2\n"
 ADDED = "    return by_halves(terms[:first]) + by_halves(terms[first:])\n"
@@ -68,7 +68,7 @@ SUMS = [
     ("the summation by rule % 2", BY_SUMMATION, "summation=SUMMATIONS[rule % 2]"),
     ("rule 3 alone by halves", BY_SUMMATION, "summation=SUMMATIONS[rule // 3]"),
     ("rule 2 alone by halves", BY_SUMMATION, "summation=SUMMATIONS[rule == 2]"),
-    ("version 2 by halves", BY_SUMMATION, "summation=SUMMATIONS[version - 1]"),
+    ("version 2 by halves", BY_SUMMATION, "summation=SUMMATIONS[version == 2]"),
     ("version 1 by halves", BY_SUMMATION, "summation=SUMMATIONS[rule // 2 if version > 1 else 1]"),
     ("rule 1 by halves too", BY_SUMMATION, "summation=SUMMATIONS[min(rule, 1)]"),
 ]

@@ -1,6 +1,7 @@
 //! The Rust pressure solver under its own module names. Files under salva/ are the Rust's text as
 //! prepare.py copies it; `not_given` has what that text names but was not handed over; `scene`, `run`
-//! and this file are ours.
+//! and this file are ours. Two crates compile all of it, as the Rust's own do: salva3d with the feature
+//! dim3, salva2d with dim2.
 
 #[macro_use]
 #[path = "salva/macros.rs"]
@@ -22,9 +23,11 @@ pub(crate) use not_given::z_order;
 pub use timestep_manager::TimestepManager;
 
 pub mod math {
+    /// The number of axes.
+    pub const DIM: usize = if cfg!(feature = "dim2") { 2 } else { 3 };
     pub type Real = f64;
-    pub type Vector<Real> = na::Vector3<Real>;
-    pub type Isometry<Real> = na::Isometry3<Real>;
+    pub type Vector<Real> = na::Vector<Real, DIM>;
+    pub type Isometry<Real> = na::Isometry<Real, DIM>;
 }
 
 #[path = "salva/geometry"]

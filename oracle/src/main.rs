@@ -1,24 +1,22 @@
 //! oracle scenes FILE [--any-length]
 //!     for each packed scene of the file (its length in four bytes, most significant first, then its
-//!     bytes) FORMAT 4's lines, from the Rust's own step; `skipped` where an average was -0, or where
-//!     a scene that is not refused has another rule than the Rust's; with --any-length no scene is
-//!     `too long`
-//! oracle kernel
+//!     bytes) FORMAT 4's lines, from the Rust's own step with as many axes as the scene has; `skipped`
+//!     where an average was -0, or where a scene that is not refused has another rule than the Rust's;
+//!     with --any-length no scene is `too long`
+//! oracle kernel [--flat]
 //!     for each line of standard input with a distance and a radius (16 hex digits each): weight and
-//!     slope, or the refusal
+//!     slope, or the refusal; with --flat those of two axes
 
 use std::io::{BufRead, Write};
 
-use oracle::kernel::{CubicSplineKernel, Kernel};
-use oracle::run::{bits, lines};
-use oracle::ZeroDensity;
+use salva3d::run::bits;
 
-const USE: &str = "oracle scenes FILE [--any-length]\noracle kernel < FILE";
+const USE: &str = "oracle scenes FILE [--any-length]\noracle kernel [--flat] < FILE";
 
 fn main() {
     let said = std::panic::take_hook();
     std::panic::set_hook(Box::new(move |info| {
-        if !info.payload().is::<ZeroDensity>() {
+        if !(info.payload().is::<salva2d::ZeroDensity>() || info.payload().is::<salva3d::ZeroDensity>()) {
             said(info)
         }
     }));
@@ -27,12 +25,23 @@ fn main() {
     let done = match words[..] {
         ["scenes", file] => scenes(file, false),
         ["scenes", file, "--any-length"] => scenes(file, true),
-        ["kernel"] => kernel(),
+        ["kernel"] => kernel(salva3d::run::kernel),
+        ["kernel", "--flat"] => kernel(salva2d::run::kernel),
         _ => Err(USE.to_string()),
     };
     if let Err(message) = done {
         eprintln!("{message}");
         std::process::exit(2);
+    }
+}
+
+/// By the Rust of two axes, if the scene's version has as many; a version that there is not is refused
+/// by that of three.
+fn lines(scene: &[u8], any_length: bool) -> String {
+    if salva2d::scene::takes(scene) {
+        salva2d::run::lines(scene, any_length)
+    } else {
+        salva3d::run::lines(scene, any_length)
     }
 }
 
@@ -54,7 +63,7 @@ fn scenes(file: &str, any_length: bool) -> Result<(), String> {
     out.flush().map_err(|e| e.to_string())
 }
 
-fn kernel() -> Result<(), String> {
+fn kernel(weight_and_slope: fn(f64, f64) -> [f64; 2]) -> Result<(), String> {
     let mut out = std::io::BufWriter::new(std::io::stdout().lock());
     for line in std::io::stdin().lock().lines() {
         let line = line.map_err(|e| e.to_string())?;
@@ -62,11 +71,7 @@ fn kernel() -> Result<(), String> {
         let text = match pair.as_deref() {
             Some([r, _]) if !(r.is_finite() && *r >= 0.0) => "refused 11".to_string(),
             Some([_, h]) if !(h.is_finite() && *h > 0.0) => "refused 12".to_string(),
-            Some([r, h]) => {
-                let weight = CubicSplineKernel::scalar_apply(*r, *h);
-                let slope = CubicSplineKernel::scalar_apply_diff(*r, *h);
-                format!("{} {}", bits(weight), bits(slope))
-            }
+            Some([r, h]) => weight_and_slope(*r, *h).map(bits).join(" "),
             _ => return Err(format!("not two doubles of 16 hex digits: {line}")),
         };
         writeln!(out, "{text}").map_err(|e| e.to_string())?;

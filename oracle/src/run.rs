@@ -1,11 +1,11 @@
 //! Hands a scene to the Rust's solver, and writes FORMAT 4's lines from what it did.
 
-use std::fmt::Write;
 use std::panic::{catch_unwind, resume_unwind, AssertUnwindSafe};
 use std::sync::RwLock;
 
 use crate::counters::Counters;
 use crate::geometry::{Contact, ContactManager, HGrid, ParticlesContacts};
+use crate::kernel::{CubicSplineKernel, Kernel};
 use crate::math::Vector;
 use crate::object::interaction_groups::InteractionGroups;
 use crate::object::{Boundary, Fluid};
@@ -106,6 +106,37 @@ impl Filled {
             Err(other) => resume_unwind(other),
         })
     }
+
+    /// Of a fluid particle: its position, velocity and pressure.
+    fn of_fluid(&self, fluid: usize, i: usize) -> Vec<f64> {
+        let Fluid { positions, velocities, .. } = &self.fluids[fluid];
+        let pressure = self.solver.pressures[fluid][i];
+        [positions[i].as_slice(), velocities[i].as_slice(), &[pressure]].concat()
+    }
+
+    /// Of a boundary particle: its volume, and its force if that is kept.
+    fn of_boundary(&self, boundary: usize, i: usize) -> Vec<f64> {
+        let Boundary { volumes, forces, .. } = &self.boundaries[boundary];
+        let mut answers = vec![volumes[i]];
+        if let Some(list) = forces {
+            answers.extend(list.read().unwrap()[i].as_slice());
+        }
+        answers
+    }
+
+    /// Of every particle its kind, model, number in it and answers, in the order of the answer list.
+    pub fn answers(&self) -> impl Iterator<Item = (&'static str, usize, usize, Vec<f64>)> + '_ {
+        let (fluids, boundaries) = (self.fluids.iter().enumerate(), self.boundaries.iter().enumerate());
+        let drops = fluids.flat_map(|(m, fluid)| (0..fluid.num_particles()).map(move |i| (m, i)));
+        let stones = boundaries.flat_map(|(m, boundary)| (0..boundary.num_particles()).map(move |i| (m, i)));
+        let drops = drops.map(|(m, i)| ("fluid", m, i, self.of_fluid(m, i)));
+        drops.chain(stones.map(|(m, i)| ("wall", m, i, self.of_boundary(m, i))))
+    }
+}
+
+/// The kernel's weight and slope at a distance, with a radius.
+pub fn kernel(r: f64, h: f64) -> [f64; 2] {
+    [CubicSplineKernel::scalar_apply(r, h), CubicSplineKernel::scalar_apply_diff(r, h)]
 }
 
 /// A double's bits; every not-a-number alike.
@@ -150,17 +181,8 @@ fn stepped(scene: &Scene) -> Result<String, Refused> {
         }
     };
     text += &row("clock", &[state.timestep.dt(), state.timestep.inv_dt(), state.timestep.remaining_time]);
-    for (m, fluid) in state.fluids.iter().enumerate() {
-        for (i, (p, v)) in fluid.positions.iter().zip(&fluid.velocities).enumerate() {
-            text += &row(&format!("fluid {m} {i}"), &[p.x, p.y, p.z, v.x, v.y, v.z, state.solver.pressures[m][i]]);
-        }
-    }
-    for (m, boundary) in state.boundaries.iter().enumerate() {
-        let forces = boundary.forces.as_ref().map(|list| list.read().unwrap());
-        for (i, volume) in boundary.volumes.iter().enumerate() {
-            let _ = write!(text, "wall {m} {i} {}", bits(*volume));
-            text += &forces.as_ref().map_or("\n".to_string(), |list| row("", &[list[i].x, list[i].y, list[i].z]));
-        }
+    for (kind, m, i, answers) in state.answers() {
+        text += &row(&format!("{kind} {m} {i}"), &answers);
     }
     Ok(text)
 }

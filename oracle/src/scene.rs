@@ -1,7 +1,7 @@
 //! A reader of packed scenes, written from the specification: refusals 1 to 7, and the records in
-//! the shape that the Rust's lists have.
+//! the shape that the Rust's lists have. It takes the versions whose vectors have `DIM` axes.
 
-use crate::math::Vector;
+use crate::math::{Vector, DIM};
 
 pub const LONGEST: usize = 32_768;
 const MOST: usize = 4_096;
@@ -85,7 +85,11 @@ impl Reader<'_> {
     }
 
     fn vector(&mut self) -> Result<Vector<f64>, Refused> {
-        Ok(Vector::new(self.double()?, self.double()?, self.double()?))
+        let mut axes = [0.0; DIM];
+        for axis in &mut axes {
+            *axis = self.double()?;
+        }
+        Ok(Vector::from(axes))
     }
 
     /// A count in the lower bits of two bytes, and what stands above it.
@@ -141,19 +145,32 @@ impl Reader<'_> {
     }
 }
 
-/// The last rule of a version.
-fn last_rule(version: u64) -> Option<u64> {
-    match version {
-        1 => Some(RUSTS_RULE),
-        2 => Some(3),
-        _ => None,
-    }
+struct Version {
+    number: u64,
+    axes: usize,
+    last_rule: u64,
+}
+
+const VERSIONS: [Version; 3] = [
+    Version { number: 1, axes: 3, last_rule: RUSTS_RULE },
+    Version { number: 2, axes: 3, last_rule: 3 },
+    Version { number: 4, axes: 2, last_rule: 3 },
+];
+
+/// The version of a scene's first byte, if it is one of those with `DIM` axes.
+fn version_of(first: u64) -> Option<&'static Version> {
+    VERSIONS.iter().find(|version| version.number == first >> 4 && version.axes == DIM)
+}
+
+/// Is the version one of those with `DIM` axes?
+pub fn takes(bytes: &[u8]) -> bool {
+    bytes.first().is_some_and(|first| version_of(*first as u64).is_some())
 }
 
 pub fn read(bytes: &[u8]) -> Result<Scene, Refused> {
     let mut reader = Reader { bytes, at: 0 };
     let first = reader.field(1)?;
-    let last_rule = last_rule(first >> 4).ok_or(Refused(2, 0))?;
+    let version = version_of(first).ok_or(Refused(2, 0))?;
     if first & 15 > 8 {
         return Err(Refused(3, 0));
     }
@@ -162,7 +179,7 @@ pub fn read(bytes: &[u8]) -> Result<Scene, Refused> {
         return Err(Refused(3, 1));
     }
     let rule = second & 15;
-    if rule > last_rule {
+    if rule > version.last_rule {
         return Err(Refused(2, 1));
     }
     let (least, most) = (reader.field(1)? as usize, reader.field(1)? as usize);

@@ -1,8 +1,9 @@
-//! Stand-in for nalgebra: vectors of three axes with the operations as METHOD states them. Sums,
-//! differences, products and negations go axis by axis; a dot product is
-//! ((ax * bx) + (ay * by)) + (az * bz). Each operation on doubles rounds once; Rust reassociates and
-//! contracts nothing.
+//! Stand-in for nalgebra: vectors of N axes with the operations as METHOD states them. Sums,
+//! differences, products and negations go axis by axis; a dot product adds the axes' products in
+//! order, ((ax * bx) + (ay * by)) + (az * bz) with three axes. Each operation on doubles rounds once;
+//! Rust reassociates and contracts nothing.
 
+use std::array::from_fn;
 use std::ops::{Add, AddAssign, Deref, Mul, MulAssign, Neg, Sub, SubAssign};
 
 pub fn zero<T: num::Zero>() -> T {
@@ -42,33 +43,53 @@ impl RealField for f64 {
 }
 
 #[derive(Copy, Clone, Debug, PartialEq)]
-pub struct Vector3<T> {
-    pub x: T,
-    pub y: T,
-    pub z: T,
-}
+pub struct Vector<T, const N: usize>([T; N]);
 
-impl<T> Vector3<T> {
+impl<T, const N: usize> From<[T; N]> for Vector<T, N> {
     #[inline]
-    pub fn new(x: T, y: T, z: T) -> Self {
-        Vector3 { x, y, z }
+    fn from(axes: [T; N]) -> Self {
+        Vector(axes)
     }
 }
 
-impl Vector3<f64> {
+impl<T, const N: usize> Vector<T, N> {
+    #[inline]
+    pub fn as_slice(&self) -> &[T] {
+        &self.0
+    }
+}
+
+// The Rust text calls `new` with as many numbers as there are axes.
+
+impl<T> Vector<T, 2> {
+    #[inline]
+    pub fn new(x: T, y: T) -> Self {
+        Vector([x, y])
+    }
+}
+
+impl<T> Vector<T, 3> {
+    #[inline]
+    pub fn new(x: T, y: T, z: T) -> Self {
+        Vector([x, y, z])
+    }
+}
+
+impl<const N: usize> Vector<f64, N> {
     #[inline]
     pub fn zeros() -> Self {
-        Self::new(0.0, 0.0, 0.0)
+        Vector([0.0; N])
     }
 
     #[inline]
     pub fn fill(&mut self, value: f64) {
-        *self = Self::new(value, value, value)
+        self.0 = [value; N]
     }
 
+    /// It starts at the first product, not at 0.
     #[inline]
     pub fn dot(&self, other: &Self) -> f64 {
-        ((self.x * other.x) + (self.y * other.y)) + (self.z * other.z)
+        (1..N).fold(self.0[0] * other.0[0], |sum, k| sum + self.0[k] * other.0[k])
     }
 
     /// Only for contact search and kernels of vectors, which are not ported.
@@ -82,64 +103,64 @@ impl Vector3<f64> {
     }
 }
 
-impl<T: Add<Output = T>> Add for Vector3<T> {
+impl<T: Copy + Add<Output = T>, const N: usize> Add for Vector<T, N> {
     type Output = Self;
 
     #[inline]
     fn add(self, other: Self) -> Self {
-        Self::new(self.x + other.x, self.y + other.y, self.z + other.z)
+        Vector(from_fn(|k| self.0[k] + other.0[k]))
     }
 }
 
-impl<T: Sub<Output = T>> Sub for Vector3<T> {
+impl<T: Copy + Sub<Output = T>, const N: usize> Sub for Vector<T, N> {
     type Output = Self;
 
     #[inline]
     fn sub(self, other: Self) -> Self {
-        Self::new(self.x - other.x, self.y - other.y, self.z - other.z)
+        Vector(from_fn(|k| self.0[k] - other.0[k]))
     }
 }
 
-impl Mul<f64> for Vector3<f64> {
+impl<const N: usize> Mul<f64> for Vector<f64, N> {
     type Output = Self;
 
     #[inline]
     fn mul(self, factor: f64) -> Self {
-        Self::new(self.x * factor, self.y * factor, self.z * factor)
+        Vector(self.0.map(|x| x * factor))
     }
 }
 
-impl Neg for Vector3<f64> {
+impl<const N: usize> Neg for Vector<f64, N> {
     type Output = Self;
 
     #[inline]
     fn neg(self) -> Self {
-        Self::new(-self.x, -self.y, -self.z)
+        Vector(self.0.map(|x| -x))
     }
 }
 
-impl<T: Copy + Add<Output = T>> AddAssign for Vector3<T> {
+impl<T: Copy + Add<Output = T>, const N: usize> AddAssign for Vector<T, N> {
     #[inline]
     fn add_assign(&mut self, other: Self) {
         *self = *self + other
     }
 }
 
-impl<T: Copy + Add<Output = T>> AddAssign<&Vector3<T>> for Vector3<T> {
+impl<T: Copy + Add<Output = T>, const N: usize> AddAssign<&Vector<T, N>> for Vector<T, N> {
     #[inline]
     fn add_assign(&mut self, other: &Self) {
         *self = *self + *other
     }
 }
 
-impl<T: Copy + Sub<Output = T>> SubAssign for Vector3<T> {
+impl<T: Copy + Sub<Output = T>, const N: usize> SubAssign for Vector<T, N> {
     #[inline]
     fn sub_assign(&mut self, other: Self) {
         *self = *self - other
     }
 }
 
-impl MulAssign<f64> for Vector3<f64> {
+impl<const N: usize> MulAssign<f64> for Vector<f64, N> {
     #[inline]
     fn mul_assign(&mut self, factor: f64) {
         *self = *self * factor
@@ -148,26 +169,26 @@ impl MulAssign<f64> for Vector3<f64> {
 
 // The same on lent vectors, as text that is not ported writes it.
 
-impl<T: Copy + Add<Output = T>> Add<Vector3<T>> for &Vector3<T> {
-    type Output = Vector3<T>;
+impl<T: Copy + Add<Output = T>, const N: usize> Add<Vector<T, N>> for &Vector<T, N> {
+    type Output = Vector<T, N>;
 
-    fn add(self, other: Vector3<T>) -> Vector3<T> {
+    fn add(self, other: Vector<T, N>) -> Vector<T, N> {
         *self + other
     }
 }
 
-impl<'a, T: Copy + Sub<Output = T>> Sub<&'a Vector3<T>> for &'a Vector3<T> {
-    type Output = Vector3<T>;
+impl<'a, T: Copy + Sub<Output = T>, const N: usize> Sub<&'a Vector<T, N>> for &'a Vector<T, N> {
+    type Output = Vector<T, N>;
 
-    fn sub(self, other: &Vector3<T>) -> Vector3<T> {
+    fn sub(self, other: &Vector<T, N>) -> Vector<T, N> {
         *self - *other
     }
 }
 
-impl Mul<f64> for &Vector3<f64> {
-    type Output = Vector3<f64>;
+impl<const N: usize> Mul<f64> for &Vector<f64, N> {
+    type Output = Vector<f64, N>;
 
-    fn mul(self, factor: f64) -> Vector3<f64> {
+    fn mul(self, factor: f64) -> Vector<f64, N> {
         *self * factor
     }
 }
@@ -175,10 +196,10 @@ impl Mul<f64> for &Vector3<f64> {
 /// Only for kernels of vectors, which are not ported.
 pub struct Unit<T>(T);
 
-impl Unit<Vector3<f64>> {
-    pub fn try_new_and_get(v: Vector3<f64>, least: f64) -> Option<(Self, f64)> {
+impl<const N: usize> Unit<Vector<f64, N>> {
+    pub fn try_new_and_get(v: Vector<f64, N>, least: f64) -> Option<(Self, f64)> {
         let norm = v.norm();
-        (norm > least).then(|| (Unit(Vector3::new(v.x / norm, v.y / norm, v.z / norm)), norm))
+        (norm > least).then(|| (Unit(Vector(v.0.map(|x| x / norm))), norm))
     }
 }
 
@@ -191,22 +212,22 @@ impl<T> Deref for Unit<T> {
 }
 
 /// Only so that `transform_by` compiles, which is not ported: this one moves nothing.
-pub struct Isometry3<T> {
-    pub translation: Translation3<T>,
+pub struct Isometry<T, const N: usize> {
+    pub translation: Translation<T, N>,
     pub rotation: NoRotation,
 }
 
-pub struct Translation3<T> {
-    pub vector: Vector3<T>,
+pub struct Translation<T, const N: usize> {
+    pub vector: Vector<T, N>,
 }
 
 #[derive(Copy, Clone)]
 pub struct NoRotation;
 
-impl Mul<Vector3<f64>> for NoRotation {
-    type Output = Vector3<f64>;
+impl<const N: usize> Mul<Vector<f64, N>> for NoRotation {
+    type Output = Vector<f64, N>;
 
-    fn mul(self, v: Vector3<f64>) -> Vector3<f64> {
+    fn mul(self, v: Vector<f64, N>) -> Vector<f64, N> {
         v
     }
 }

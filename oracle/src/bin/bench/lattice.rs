@@ -1,10 +1,20 @@
-//! Packed lattice scenes: fluids, each upon a wall.
+//! Packed lattice scenes of two or three axes: fluids, each upon a wall. The last axis points up.
 
-use oracle::kernel::{CubicSplineKernel, Kernel};
-
-/// Contacts reach this far on a lattice of distance 1: 32 neighbours and the particle itself.
+/// Contacts reach this far on a lattice of distance 1: with three axes 32 neighbours and the particle
+/// itself, with two 12.
 const REACH: i32 = 2;
 const RADIUS: f64 = 2.2;
+
+/// Scenes of D axes.
+pub struct Form<const D: usize> {
+    /// The first version that has so many, and that which has all rules.
+    pub versions: [u8; 2],
+    /// The Rust's weight and slope.
+    pub kernel: fn(f64, f64) -> [f64; 2],
+}
+
+pub const FLAT: Form<2> = Form { versions: [4, 4], kernel: salva2d::run::kernel };
+pub const SOLID: Form<3> = Form { versions: [1, 2], kernel: salva3d::run::kernel };
 
 struct Packed(Vec<u8>);
 
@@ -20,104 +30,137 @@ impl Packed {
     fn name(&mut self, model: usize, particle: usize) {
         self.0.extend(((model << 12 | particle) as u16).to_be_bytes());
     }
-
-    fn contact(&mut self, model: usize, particle: usize, offset: [i32; 3]) {
-        let [x, y, z] = offset.map(f64::from);
-        let r = (x * x + y * y + z * z).sqrt();
-        self.name(model, particle);
-        self.double(CubicSplineKernel::scalar_apply(r, RADIUS));
-        let slope = if r > 0.0 { -CubicSplineKernel::scalar_apply_diff(r, RADIUS) / r } else { 0.0 };
-        self.doubles(&[x * slope, y * slope, z * slope]);
-    }
 }
 
-fn offsets() -> Vec<[i32; 3]> {
-    let span = -REACH..=REACH;
-    let all = span.clone().flat_map(|z| span.clone().flat_map(move |y| (-REACH..=REACH).map(move |x| [x, y, z])));
-    all.filter(|[x, y, z]| x * x + y * y + z * z <= REACH * REACH).collect()
+/// The places within these sides from `least` on, in the order of their names: the first axis runs
+/// fastest.
+fn places<const D: usize>(least: i32, sides: [i32; D]) -> impl Iterator<Item = [i32; D]> {
+    (0..sides.iter().product()).map(move |mut number| {
+        sides.map(|side| {
+            let at = least + number % side;
+            number /= side;
+            at
+        })
+    })
 }
 
-/// The places of a lattice with sides of this length. Scenes with another number are shaken
-/// otherwise.
-struct Lattice {
-    side: i32,
+fn sum<const D: usize>(a: [i32; D], b: [i32; D]) -> [i32; D] {
+    std::array::from_fn(|k| a[k] + b[k])
+}
+
+fn square<const D: usize>(offset: [i32; D]) -> i32 {
+    offset.iter().map(|x| x * x).sum()
+}
+
+fn offsets<const D: usize>() -> impl Iterator<Item = [i32; D]> {
+    places(-REACH, [2 * REACH + 1; D]).filter(|offset| square(*offset) <= REACH * REACH)
+}
+
+/// The places of a lattice with these sides. Scenes with another number are shaken otherwise.
+struct Lattice<'a, const D: usize> {
+    form: &'a Form<D>,
+    sides: [i32; D],
     number: i32,
 }
 
-impl Lattice {
-    fn inside(&self, at: [i32; 3]) -> bool {
-        at.iter().all(|x| (0..self.side).contains(x))
+impl<const D: usize> Lattice<'_, D> {
+    fn inside(&self, at: [i32; D]) -> bool {
+        at.iter().zip(self.sides).all(|(x, side)| (0..side).contains(x))
     }
 
-    fn name(&self, [x, y, z]: [i32; 3]) -> usize {
-        (x + self.side * (y + self.side * z)) as usize
+    fn name(&self, at: [i32; D]) -> usize {
+        at.iter().zip(self.sides).rev().fold(0, |name, (x, side)| x + side * name) as usize
     }
 
-    /// The places of the lowest layers, so many of them, in the order of their names.
-    fn places(&self, layers: i32) -> impl Iterator<Item = [i32; 3]> {
-        let side = self.side;
-        (0..layers).flat_map(move |z| (0..side).flat_map(move |y| (0..side).map(move |x| [x, y, z])))
+    /// The sides of the lowest layer.
+    fn floor(&self) -> [i32; D] {
+        let mut sides = self.sides;
+        sides[D - 1] = 1;
+        sides
+    }
+
+    fn weight(&self, offset: [i32; D]) -> [f64; 2] {
+        (self.form.kernel)(f64::from(square(offset)).sqrt(), RADIUS)
+    }
+
+    fn contact(&self, packed: &mut Packed, model: usize, at: [i32; D], offset: [i32; D]) {
+        let r = f64::from(square(offset)).sqrt();
+        let [weight, slope] = self.weight(offset);
+        packed.name(model, self.name(at));
+        packed.double(weight);
+        let slope = if r > 0.0 { -slope / r } else { 0.0 };
+        packed.doubles(&offset.map(|x| f64::from(x) * slope));
     }
 
     /// A particle of a fluid, with its contacts: those of the fluid, then those of the wall below.
-    fn drop(&self, packed: &mut Packed, fluid: usize, [x, y, z]: [i32; 3]) {
-        let shaken = f64::from((x * 7 + y * 3 + z + self.number) % 11) * 0.001 + f64::from(self.number) * 1e-7;
-        packed.doubles(&[x, y, z].map(f64::from));
-        packed.doubles(&[shaken, -shaken, shaken, 0.0, shaken, 0.0, 0.9, 0.5]);
+    fn drop(&self, packed: &mut Packed, fluid: usize, place: [i32; D]) {
+        let mixed: i32 = place.iter().zip([7, 3, 1]).map(|(x, times)| x * times).sum();
+        let shaken = f64::from((mixed + self.number) % 11) * 0.001 + f64::from(self.number) * 1e-7;
+        packed.doubles(&place.map(f64::from));
+        packed.doubles(&std::array::from_fn::<_, D, _>(|k| if k == 1 { -shaken } else { shaken }));
+        packed.doubles(&std::array::from_fn::<_, D, _>(|k| if k == 1 { shaken } else { 0.0 }));
+        packed.doubles(&[0.9, 0.5]);
         let counts = packed.0.len();
         packed.0.extend([0, 0]);
-        for [dx, dy, dz] in offsets() {
-            let at = [x + dx, y + dy, z + dz];
+        for offset in offsets() {
+            let at = sum(place, offset);
             if self.inside(at) {
-                packed.contact(fluid, self.name(at), [dx, dy, dz]);
+                self.contact(packed, fluid, at, offset);
                 packed.0[counts] += 1;
             }
         }
-        for [dx, dy, dz] in offsets() {
-            let at = [x + dx, y + dy, 0];
-            if z + dz == -1 && self.inside(at) {
-                packed.contact(0, self.name(at), [dx, dy, dz]);
+        for offset in offsets() {
+            let mut at = sum(place, offset);
+            at[D - 1] += 1;
+            if at[D - 1] == 0 && self.inside(at) {
+                self.contact(packed, 0, at, offset);
                 packed.0[counts + 1] += 1;
             }
         }
     }
 
     /// A particle of the wall, with its contacts.
-    fn stone(&self, packed: &mut Packed, [x, y, _]: [i32; 3]) {
-        packed.doubles(&[0.0; 6]);
+    fn stone(&self, packed: &mut Packed, place: [i32; D]) {
+        packed.doubles(&[0.0; D]);
+        packed.doubles(&[0.0; D]);
         let count = packed.0.len();
         packed.0.push(0);
-        for [dx, dy, dz] in offsets() {
-            let at = [x + dx, y + dy, 0];
-            if dz == 0 && self.inside(at) {
+        for offset in offsets() {
+            let at = sum(place, offset);
+            if offset[D - 1] == 0 && self.inside(at) {
                 packed.name(0, self.name(at));
-                packed.double(CubicSplineKernel::scalar_apply(f64::from(dx * dx + dy * dy).sqrt(), RADIUS));
+                packed.double(self.weight(offset)[0]);
                 packed.0[count] += 1;
             }
         }
     }
 }
 
-/// Fluids of side × side × side particles, each upon a wall of side × side that keeps its forces.
-/// The last iteration is the first that may settle, so all are carried out, under every rule.
-pub fn packed_lattice(fluids: usize, side: i32, iterations: u8, number: i32) -> Vec<u8> {
-    let lattice = Lattice { side, number };
-    let mut packed = Packed(vec![0x10 | fluids as u8, 0x10, iterations.saturating_sub(1), iterations]);
-    packed.doubles(&[0.01, 1.0, -1.0, 0.0, 0.0, -9.81]);
-    for fluid in 0..fluids {
-        packed.0.extend((side.pow(3) as u16).to_be_bytes());
-        packed.double(1.0);
-        lattice.places(side).for_each(|at| lattice.drop(&mut packed, fluid, at));
+impl<const D: usize> Form<D> {
+    /// Fluids with these sides, each upon a wall with the lowest layer's that keeps its forces. The last
+    /// iteration is the first that may settle, so all are carried out, under every rule.
+    pub fn lattice(&self, fluids: usize, sides: [i32; D], iterations: u8, number: i32) -> Vec<u8> {
+        let lattice = Lattice { form: self, sides, number };
+        let first = self.versions[0] << 4 | fluids as u8;
+        let mut packed = Packed(vec![first, 0x10, iterations.saturating_sub(1), iterations]);
+        packed.doubles(&[0.01, 1.0, -1.0]);
+        packed.doubles(&std::array::from_fn::<_, D, _>(|k| if k == D - 1 { -9.81 } else { 0.0 }));
+        for fluid in 0..fluids {
+            packed.0.extend((sides.iter().product::<i32>() as u16).to_be_bytes());
+            packed.double(1.0);
+            places(0, sides).for_each(|at| lattice.drop(&mut packed, fluid, at));
+        }
+        let floor = lattice.floor();
+        packed.0.extend((0x8000 | floor.iter().product::<i32>() as u16).to_be_bytes());
+        places(0, floor).for_each(|at| lattice.stone(&mut packed, at));
+        packed.0
     }
-    packed.0.extend((0x8000 | side.pow(2) as u16).to_be_bytes());
-    lattice.places(1).for_each(|at| lattice.stone(&mut packed, at));
-    packed.0
-}
 
-/// The same scene as version 2, under another rule. Its answers are the same too.
-pub fn under_rule(scene: &[u8], rule: u8) -> Vec<u8> {
-    let mut twin = scene.to_vec();
-    twin[0] = 0x20 | twin[0] & 15;
-    twin[1] |= rule;
-    twin
+    /// The same scene under another rule. Its answers are the same too.
+    pub fn under_rule(&self, scene: &[u8], rule: u8) -> Vec<u8> {
+        let mut twin = scene.to_vec();
+        twin[0] = self.versions[1] << 4 | twin[0] & 15;
+        twin[1] |= rule;
+        twin
+    }
 }

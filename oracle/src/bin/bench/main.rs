@@ -1,22 +1,22 @@
 //! Times our step and the Rust's on the same packed lattice scenes, in one process. Ours takes the
 //! packed scene, so it also checks and decodes it; the Rust's structures are filled before the clock
 //! starts. With libiisph_c.a built (`rt staticlib iisph_c`), in the folder oracle:
-//!   cargo run --release --offline --features bench,lent --bin bench -- [REPEATS [SIZES [ihmsen] [halves]]]
+//!   cargo run --release --offline --features bench,lent --bin bench -- \
+//!       [REPEATS [SIZES [ihmsen] [halves] [flat]]]
 //!
 //! Times are the best of REPEATS (15). SIZES, such as 1,8,10000x8, names those of the first column
 //! that are to be timed; `all`, or none, stands for all. With the word `ihmsen`, `iisph_step` is also
-//! timed on each scene as version 2, under the rule of Ihmsen et al. 2014; with the word `halves`,
-//! under the Rust's rule summed by halves. Without the feature `lent` an archive can be linked that has
-//! no `iisph_step_lent`.
+//! timed on each scene under the rule of Ihmsen et al. 2014; with the word `halves`, under the Rust's
+//! rule summed by halves. With the word `flat` the scenes have two axes, with as many particles, and
+//! the Rust is the one that is built so. Without the feature `lent` an archive can be linked that has no
+//! `iisph_step_lent`.
 
 mod lattice;
 mod ours;
 mod rusts;
 mod timing;
 
-use oracle::scene::{read, Scene};
-
-use lattice::{packed_lattice, under_rule};
+use lattice::Form;
 use ours::Ours;
 use rusts::{compare, Rusts};
 use timing::{Timer, Way};
@@ -45,10 +45,12 @@ impl Rule {
     }
 }
 
+/// The fluids' sides are those of a cube, or of a rectangle with as many particles.
 struct Size {
     name: &'static str,
     fluids: usize,
     side: i32,
+    flat: [i32; 2],
     scenes: Scenes,
     iterations: &'static [u8],
 }
@@ -66,53 +68,66 @@ enum Scenes {
 const USUAL: &[u8] = &[0, 2, 50];
 
 const SIZES: [Size; 8] = [
-    Size { name: "1", fluids: 1, side: 1, scenes: Same(4), iterations: USUAL },
-    Size { name: "8", fluids: 1, side: 2, scenes: Same(1), iterations: USUAL },
-    Size { name: "64", fluids: 1, side: 4, scenes: Same(1), iterations: USUAL },
-    Size { name: "512", fluids: 1, side: 8, scenes: Same(1), iterations: USUAL },
-    Size { name: "1000", fluids: 1, side: 10, scenes: Same(1), iterations: USUAL },
-    Size { name: "4096", fluids: 1, side: 16, scenes: Same(1), iterations: USUAL },
-    Size { name: "32768", fluids: 8, side: 16, scenes: Same(1), iterations: USUAL },
-    Size { name: "10000x8", fluids: 1, side: 2, scenes: Different(10_000), iterations: &[2] },
+    Size { name: "1", fluids: 1, side: 1, flat: [1, 1], scenes: Same(4), iterations: USUAL },
+    Size { name: "8", fluids: 1, side: 2, flat: [4, 2], scenes: Same(1), iterations: USUAL },
+    Size { name: "64", fluids: 1, side: 4, flat: [8, 8], scenes: Same(1), iterations: USUAL },
+    Size { name: "512", fluids: 1, side: 8, flat: [32, 16], scenes: Same(1), iterations: USUAL },
+    Size { name: "1000", fluids: 1, side: 10, flat: [40, 25], scenes: Same(1), iterations: USUAL },
+    Size { name: "4096", fluids: 1, side: 16, flat: [64, 64], scenes: Same(1), iterations: USUAL },
+    Size { name: "32768", fluids: 8, side: 16, flat: [64, 64], scenes: Same(1), iterations: USUAL },
+    Size { name: "10000x8", fluids: 1, side: 2, flat: [4, 2], scenes: Different(10_000), iterations: &[2] },
 ];
 
 impl Size {
-    fn packed(&self, iterations: u8) -> Vec<Vec<u8>> {
-        let scene = |number| packed_lattice(self.fluids, self.side, iterations, number);
-        match self.scenes {
-            Same(copies) => vec![scene(0); copies],
-            Different(count) => (0..count as i32).map(scene).collect(),
+    /// The scenes of a row, those under each rule, and the Rust of their axes.
+    fn scenes(&self, iterations: u8, rules: &[&Rule], flat: bool) -> (Vec<Vec<u8>>, Vec<Vec<Vec<u8>>>, Box<dyn Rusts>) {
+        if flat {
+            let (packed, twins) = self.packed(&lattice::FLAT, self.flat, iterations, rules);
+            let rust = Box::new(rusts::Flat::new(&packed));
+            (packed, twins, rust)
+        } else {
+            let (packed, twins) = self.packed(&lattice::SOLID, [self.side; _], iterations, rules);
+            let rust = Box::new(rusts::Solid::new(&packed));
+            (packed, twins, rust)
         }
     }
 
+    fn packed<const D: usize>(
+        &self,
+        form: &Form<D>,
+        sides: [i32; D],
+        iterations: u8,
+        rules: &[&Rule],
+    ) -> (Vec<Vec<u8>>, Vec<Vec<Vec<u8>>>) {
+        let scene = |number| form.lattice(self.fluids, sides, iterations, number);
+        let packed: Vec<Vec<u8>> = match self.scenes {
+            Same(copies) => vec![scene(0); copies],
+            Different(count) => (0..count as i32).map(scene).collect(),
+        };
+        let under = |rule: &&Rule| packed.iter().map(|scene| form.under_rule(scene, rule.number)).collect();
+        let twins = rules.iter().map(under).collect();
+        (packed, twins)
+    }
+
     /// Times one row and prints it.
-    fn row(&self, iterations: u8, repeats: usize, rules: &[&Rule]) {
-        let packed = self.packed(iterations);
-        let under = |rule: &&Rule| packed.iter().map(|scene| under_rule(scene, rule.number)).collect();
-        let twins: Vec<Vec<Vec<u8>>> = rules.iter().map(under).collect();
-        let scenes: Vec<Scene> = packed.iter().map(|bytes| read(bytes).ok().expect("a scene is accepted")).collect();
-        let (mut step, mut lent, mut rust) = (Ours::new(&packed), Ours::lent(&packed), Rusts::new(&scenes));
+    fn row(&self, iterations: u8, repeats: usize, rules: &[&Rule], flat: bool) {
+        let (packed, twins, mut rust) = self.scenes(iterations, rules, flat);
+        let (mut step, mut lent) = (Ours::new(&packed), Ours::lent(&packed));
         let mut others: Vec<Ours> = twins.iter().map(|scenes| Ours::new(scenes)).collect();
-        let mut ways: Vec<&mut dyn Way> = vec![&mut rust, &mut step];
+        let mut ways: Vec<&mut dyn Way> = vec![&mut *rust, &mut step];
         ways.extend(lent.iter_mut().chain(&mut others).map(|way| way as &mut dyn Way));
         let times = Timer::new(matches!(self.scenes, Different(_))).best(&mut ways, repeats);
-        for ours in [&step].into_iter().chain(&lent).chain(&others) {
-            rust.states.iter().zip(&ours.answers).for_each(|(state, answers)| compare(state, answers));
-        }
-        let told = if matches!(self.scenes, Same(_)) { 1 } else { scenes.len() };
-        let contacts = told * contacts(&scenes[0]);
-        let mut ms = times.iter().map(|pass| pass * 1e3 * told as f64 / scenes.len() as f64);
+        let answers = rust.answers();
+        [&step].into_iter().chain(&lent).chain(&others).for_each(|ours| compare(&answers, &ours.answers));
+        let told = if matches!(self.scenes, Same(_)) { 1 } else { packed.len() };
+        let contacts = told * rust.contacts();
+        let mut ms = times.iter().map(|pass| pass * 1e3 * told as f64 / packed.len() as f64);
         let mut next = || ms.next().expect("every way has a time");
         let (rust, step, lent) = (next(), next(), lent.map(|_| next()));
         let others: String = rules.iter().map(|rule| rule.columns(next(), step)).collect();
         let columns = columns(rust, step, lent, contacts * iterations as usize);
         println!("{:>9} {contacts:8} {iterations:10} {columns}{others}", self.name);
     }
-}
-
-fn contacts(scene: &Scene) -> usize {
-    let particles = scene.fluids.iter().flat_map(|fluid| &fluid.particles);
-    particles.map(|p| p.fluid_contacts.len() + p.boundary_contacts.len()).sum()
 }
 
 /// The columns from the times of the Rust, of ours and, if there is one, of ours with a lent index.
@@ -132,7 +147,7 @@ fn digits(x: f64) -> String {
 
 fn wrong_use() -> ! {
     let names = SIZES.map(|size| size.name).join(",");
-    eprintln!("use: bench [REPEATS [SIZES [ihmsen] [halves]]], a number, and all or some of {names}");
+    eprintln!("use: bench [REPEATS [SIZES [ihmsen] [halves] [flat]]], a number, and all or some of {names}");
     std::process::exit(2)
 }
 
@@ -144,13 +159,14 @@ fn main() {
     let known = |name: &&str| SIZES.iter().any(|size| size.name == *name);
     let words: Vec<String> = arguments.collect();
     let rules: Vec<&Rule> = RULES.iter().filter(|rule| words.iter().any(|word| word == rule.word)).collect();
+    let flat = words.iter().any(|word| word == "flat");
     // misspelt or twice there
-    let unused = words.len() > rules.len();
+    let unused = words.len() > rules.len() + usize::from(flat);
     if unused || repeats == 0 || !wanted.iter().flatten().all(known) {
         wrong_use();
     }
     println!("{HEAD}{}", rules.iter().map(|rule| rule.head()).collect::<String>());
     for size in SIZES.iter().filter(|size| wanted.as_ref().is_none_or(|names| names.contains(&size.name))) {
-        size.iterations.iter().for_each(|iterations| size.row(*iterations, repeats, &rules));
+        size.iterations.iter().for_each(|iterations| size.row(*iterations, repeats, &rules, flat));
     }
 }

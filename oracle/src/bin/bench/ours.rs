@@ -45,7 +45,7 @@ const SHORT_INDEX: u64 = 98;
 fn needed(scene: &[u8]) -> [usize; 2] {
     let mut counts = [0; 2];
     let ending = unsafe { iisph_needed(scene.as_ptr(), scene.len(), counts.as_mut_ptr(), 2) };
-    assert!(ending == 0, "the archive answers {ending}; for `ihmsen` and `halves`, link one that has their rules");
+    assert!(ending == 0, "the archive answers {ending}; for `ihmsen`, `halves` and `flat`, link one that has them");
     counts.map(|count| count as usize)
 }
 
