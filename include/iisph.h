@@ -14,10 +14,10 @@
    each takes of the stack is told below, as bindings/c/stack.c measures it.
 
    A packed scene has its fields most significant bit first, doubles as their 64 bits:
-       header      version (4 bits, 1 or 2), fluids (4 bits, 0 to 8); boundaries (4 bits, 0 to 8),
-                   rule (4 bits, 0, in version 2 up to 3); least iterations (1 byte); most
-                   iterations (1 byte); step length, remaining time, error limit, gravity (3): 52
-                   bytes in all
+       header      version (4 bits, 1, 2 or 4), fluids (4 bits, 0 to 8); boundaries (4 bits, 0 to
+                   8), rule (4 bits, 0, in versions 2 and 4 up to 3); least iterations (1 byte);
+                   most iterations (1 byte); step length, remaining time, error limit, gravity (3):
+                   52 bytes in all
        each fluid  count (2 bytes, 0 to 4096), rest density; then records: position, velocity,
                    acceleration (3 doubles each), volume, warm pressure, the numbers of fluid and of
                    boundary contacts (1 byte each), and those contacts: model (4 bits), particle
@@ -25,13 +25,15 @@
        each boundary  keeps forces (1 bit), count (15 bits, 0 to 4096); then records: velocity,
                    force (only if kept), the number of contacts (1 byte), and those contacts, to
                    boundaries: model (4 bits), particle (12 bits), weight
+   A scene of version 4 is flat: a vector, which has 3 doubles above and in the answer list below,
+   has 2, so that the header has 44 bytes. Version 4 is laid out as version 2 otherwise.
 
    The rule names the error that has to be at most the error limit for the iterations to end: its
    stopping criterion, and how it is summed. Each error is an average over the particles of a fluid,
    in which one whose pressure becomes 0 counts as 0, and of the fluids' averages the greatest. An
-   iteration's pressures are the same under all rules. Version 1 has rule 0 alone; else the versions
-   are the same. Choose rule 1, or for large fluids 3, unless steps have to equal the Rust's, which
-   they do under rule 0 alone.
+   iteration's pressures are the same under all rules. Version 1 has rule 0 alone; else versions 1
+   and 2 are the same. Choose rule 1, or for large fluids 3, unless steps have to equal the Rust's,
+   which they do under rule 0 alone; on flat scenes they equal those of the Rust built with dim2.
         0  salva's: by how much the pressures lower the density, over the rest density. It grows
            with them, towards the compression that there would be without them, and stays there. So
            it can settle long before they are right, while they are still too low; and where that
@@ -52,7 +54,7 @@
    A refusal has a number and an offset in the scene, that of the byte where the field, contact or
    record in question begins:
         1  a field is not wholly there
-        2  version not 1 or 2, or a rule that the version does not have
+        2  version not 1, 2 or 4, or a rule that the version does not have
         3  more than 8 fluids or boundaries
         4  a count above 4096
         5  bytes follow the last record
@@ -76,6 +78,13 @@
 #include <stddef.h>
 #include <stdint.h>
 
+/* The versions, for the upper 4 bits of a packed scene's byte 0. */
+enum {
+    IISPH_VERSION_1 = 1,
+    IISPH_VERSION_2 = 2,
+    IISPH_VERSION_FLAT = 4
+};
+
 /* The rules, for the lower 4 bits of a packed scene's byte 1. */
 enum {
     IISPH_RULE_SALVA = 0,
@@ -90,9 +99,11 @@ extern "C" {
 
 /* One step. numbers: at least 4 elements. counts: at least 2 elements.
    answers: per fluid particle, fluid by fluid, position, velocity (3 doubles each) and pressure;
-       then of each boundary particle the volume, and the force (3) where forces are kept.
-   work: scratch, 14 doubles for a fluid particle, under rules 2 and 3 15, and 1 for a boundary
-       particle; what it holds before does not matter. iisph_needed tells both lengths.
+       then of each boundary particle the volume, and the force (3) where forces are kept. So a
+       fluid particle has 7 doubles, and a boundary particle 1 or 4; of a flat scene 5, and 1 or 3.
+   work: scratch, 14 doubles for a fluid particle, under rules 2 and 3 15, of a flat scene 11 and
+       12, and 1 for a boundary particle; what it holds before does not matter. iisph_needed tells
+       both lengths.
    Returns 0 if there was no iteration (the scene's most is 0), 1 if the iterations settled, 2 if
    they ran out. Then the needed part of answers is written, that of work is all +0, numbers[0] is
    the last iteration's error by the scene's rule (+0 if there was none), numbers[1] dt, numbers[2]
@@ -166,20 +177,25 @@ uint64_t iisph_validate(const uint8_t *scene, size_t scene_len, double *work, si
 uint64_t iisph_check_list(const uint8_t *scene, size_t scene_len, uint64_t contacts, size_t model,
                           size_t particle, uint64_t *counts, size_t counts_len);
 
-/* The cubic spline at the distance r with the radius h, and its derivative there. out: at least 1
-   element.
+/* The cubic spline at the distance r with the radius h, and its derivative there, in three
+   dimensions and, for flat scenes, in two. out: at least 1 element.
    Returns 0 with out[0] the value. Refused by 11, then by 12; then out is unchanged.
-   With n, the normalizer 8 / (pi * h * h * h) in doubles: a weight is within 5 * 2^-52 * n of n
-   times the exact shape at r / h (docs/METHOD.md, 1.5), unless n is infinite, which it is for no h
-   from 2^-340 (some 4.5e-103) on. Where n is infinite, the value is infinite or not a number; a
-   slope may be infinite for an h below 1.3e-77.
-   Both take less than 100 bytes of stack. */
+   With n, the normalizer in doubles, 8 / (pi * h * h * h) and in two dimensions (40 / 7) /
+   (pi * h * h): a weight is within 5 * 2^-52 * n of n times the exact shape at r / h
+   (docs/METHOD.md, 1.5), unless n is infinite, which it is for no h from 2^-340 (some 4.5e-103),
+   and in two dimensions from 2^-511 (some 1.5e-154), on. Where n is infinite, the value is infinite
+   or not a number; a slope may be infinite for an h below 1.3e-77, and in two dimensions below
+   2.8e-103.
+   Each takes less than 100 bytes of stack. */
 uint64_t iisph_weight(double r, double h, double *out, size_t out_len);
 uint64_t iisph_slope(double r, double h, double *out, size_t out_len);
+uint64_t iisph_weight_2d(double r, double h, double *out, size_t out_len);
+uint64_t iisph_slope_2d(double r, double h, double *out, size_t out_len);
 
 /* The weight shape in whole numbers, by a table. q: r / h, in units of 2^-20.
    Returns the shape there, in units of 2^-30; from 2^20 on 0. It is no code: every q is taken, and
-   none is refused. Times the normalizer n it is iisph_weight's value, but for the errors of both.
+   none is refused. Times the normalizer n it is the value of iisph_weight, or of iisph_weight_2d,
+   but for the errors of both.
    The result is proved to be within 1537 units of the exact shape at that q (docs/METHOD.md, 1.6),
    and is exact where q is a multiple of 1024.
    Takes some 4 KiB of stack, on which it lays the table out. In libiisph_c_board.a, which needs no

@@ -1,5 +1,5 @@
-/* How the iterations end, for smoke.c: by all three steps, under all rules; and which versions and rules are
-   refused. summation.h has what the rules by halves do otherwise. */
+/* How the iterations end, for smoke.c: by all three steps, under all rules, in space and in the plane; and which
+   versions and rules are refused. summation.h has what the rules by halves do otherwise. */
 #ifndef ENDINGS_H
 #define ENDINGS_H
 
@@ -68,7 +68,8 @@ static int end(uint64_t ending, uint64_t iterations, double error, uint64_t pass
 
 /* scene B is at rest after its step, and both pressures are right */
 static int at_rest(void) {
-    for (int k = 0; k < 14; k += 7) SAME(last_answers[k + 3] == 0 && last_answers[k + 6] == 0.5);
+    const unsigned row = 2 * axes + 1;
+    for (unsigned k = 0; k < 2 * row; k += row) SAME(last_answers[k + axes] == 0 && last_answers[k + 2 * axes] == 0.5);
     return 0;
 }
 
@@ -81,25 +82,18 @@ enum { SUMMATIONS = sizeof summations / sizeof *summations };
 
 /* by salva's criterion scene B does not settle though its pressures are right; by Ihmsen's it does, and meets a
    negative limit */
-static int criteria(unsigned salva, unsigned ihmsen) {
-    scene_b(2, salva, 1, 0, 0.05);
+static int criteria(unsigned version, unsigned salva, unsigned ihmsen) {
+    scene_b(version, salva, 1, 0, 0.05);
     SAME(end(RAN_OUT, 50, 2, 0) && !at_rest());
-    scene_b(2, ihmsen, 1, 0, 0.05);
+    scene_b(version, ihmsen, 1, 0, 0.05);
     SAME(end(SETTLED, 2, 0, 0) && !at_rest());
 
-    scene_b(2, salva, 0, 8, -7);
+    scene_b(version, salva, 0, 8, -7);
     SAME(end(RAN_OUT, 50, 2, 0));
-    scene_b(2, ihmsen, 0, 8, -7);
+    scene_b(version, ihmsen, 0, 8, -7);
     SAME(end(SETTLED, 1, -7, 0));
-    scene_b(2, ihmsen, 0, 8, -7.5);
+    scene_b(version, ihmsen, 0, 8, -7.5);
     SAME(end(RAN_OUT, 50, 0, 0));
-    return 0;
-}
-
-static int rules(void) {
-    scene_b(1, IISPH_RULE_SALVA, 1, 0, 0.05);
-    SAME(end(RAN_OUT, 50, 2, 0) && !at_rest());
-    for (int k = 0; k < SUMMATIONS; k++) SAME(!criteria(summations[k].salva, summations[k].ihmsen));
     return 0;
 }
 
@@ -117,20 +111,30 @@ static int passed_over(unsigned version, unsigned rule) {
 }
 
 /* by Ihmsen's none is passed over: the error is no number, and the iteration does not settle */
-static int no_number(unsigned rule) {
-    scene_overflowing(2, rule, 0, 0);
+static int no_number(unsigned version, unsigned rule) {
+    scene_overflowing(version, rule, 0, 0);
     SAME(end(UNSWEPT, 0, 0, 0));
-    scene_overflowing(2, rule, 0, 1);
+    scene_overflowing(version, rule, 0, 1);
     SAME(end(RAN_OUT, 1, NAN, 0));
-    scene_overflowing(2, rule, 0, 2);
+    scene_overflowing(version, rule, 0, 2);
     SAME(end(SETTLED, 2, 0, 0));
     return 0;
 }
 
-static int no_averages(void) {
-    SAME(!passed_over(1, IISPH_RULE_SALVA));
-    for (int k = 0; k < SUMMATIONS; k++)
-        SAME(!passed_over(2, summations[k].salva) && !no_number(summations[k].ihmsen));
+/* version 1 has one rule */
+static int one_rule(void) {
+    scene_b(IISPH_VERSION_1, IISPH_RULE_SALVA, 1, 0, 0.05);
+    SAME(end(RAN_OUT, 50, 2, 0) && !at_rest());
+    SAME(!passed_over(IISPH_VERSION_1, IISPH_RULE_SALVA));
+    return 0;
+}
+
+/* and versions 2 and 4 have all */
+static int all_rules(unsigned version) {
+    for (int k = 0; k < SUMMATIONS; k++) {
+        SAME(!criteria(version, summations[k].salva, summations[k].ihmsen));
+        SAME(!passed_over(version, summations[k].salva) && !no_number(version, summations[k].ihmsen));
+    }
     return 0;
 }
 
@@ -139,6 +143,7 @@ static int refused_forms(void) {
     static const struct { unsigned version, rule, fluids, boundaries; uint64_t code, offset; } forms[] = {
         {0, 0, 0, 0, 102, 0}, {3, 0, 9, 0, 102, 0}, {2, 4, 9, 9, 103, 0}, {1, 1, 0, 9, 103, 1}, {2, 4, 0, 9, 103, 1},
         {1, 1, 0, 8, 102, 1}, {1, 2, 0, 8, 102, 1}, {1, 3, 0, 0, 102, 1}, {2, 4, 0, 8, 102, 1}, {2, 15, 0, 0, 102, 1},
+        {5, 0, 0, 0, 102, 0}, {4, 4, 9, 0, 103, 0}, {4, 4, 0, 9, 103, 1}, {4, 4, 0, 8, 102, 1}, {4, 15, 0, 0, 102, 1},
     };
     for (size_t k = 0; k < sizeof forms / sizeof *forms; k++) {
         double answers[1], work[1], numbers[4];
@@ -150,6 +155,6 @@ static int refused_forms(void) {
     return 0;
 }
 
-static int endings(void) { return rules() || no_averages() || refused_forms(); }
+static int endings(void) { return one_rule() || all_rules(IISPH_VERSION_2) || refused_forms(); }
 
 #endif

@@ -24,9 +24,12 @@ static void real(double v) {
     for (int k = 56; k >= 0; k -= 8) byte((unsigned)(bits >> k) & 255);
 }
 
+/* how many axes a scene has: with two it lies in the plane of x and z */
+static unsigned axes = 3;
+
 static void vector(double x, double y, double z) {
     real(x);
-    real(y);
+    if (axes == 3) real(y);
     real(z);
 }
 
@@ -36,9 +39,9 @@ static void pack_form(unsigned version, unsigned rule, unsigned fluids, unsigned
     byte(version << 4 | fluids); byte(boundaries << 4 | rule);
 }
 
-/* the header of version 1, of so many fluids and boundaries */
+/* the header of version 1, or of a flat scene, of so many fluids and boundaries */
 static void pack_header(unsigned fluids, unsigned boundaries) {
-    pack_form(1, IISPH_RULE_SALVA, fluids, boundaries);
+    pack_form(axes == 3 ? IISPH_VERSION_1 : IISPH_VERSION_FLAT, IISPH_RULE_SALVA, fluids, boundaries);
     byte(1); byte(50);
     real(0.5); real(1); real(0.05); vector(0, 0, -4);
 }
@@ -51,7 +54,7 @@ static void pack_boundary_head(int keeps_forces, unsigned particles) {
 
 /* scene A's particle, which touches the fluid particle and the boundary particle of those names, each so many times */
 static void pack_drop(unsigned near, unsigned drop, unsigned walls, unsigned stone) {
-    for (int k = 0; k < 9; k++) real(0);
+    for (int k = 0; k < 3; k++) vector(0, 0, 0);
     real(0.5); real(0); byte(near); byte(walls);
     for (; near > 0; near--) { two_bytes(drop); real(2); vector(0, 0, 0); }
     for (; walls > 0; walls--) { two_bytes(stone); real(0); vector(0, 0, 0.125); }

@@ -1,7 +1,9 @@
-/* Each function through the archives, on scene A of docs/FORMAT.md; the steps under all rules (endings.h, summation.h);
-   and the check of one contact list on a scene that has ten. Prints `ok`, or the line of the first difference.
+/* Each function through the archives, on scene A of docs/FORMAT.md; the steps under all rules (endings.h, summation.h)
+   and in the plane (flat.h); and the check of one contact list on a scene that has ten. Prints `ok`, or the line of the
+   first difference.
    gcc -O2 -Wall -Wextra -Iinclude bindings/c/smoke.c target/staticlib/libiisph_c*.a -o target/smoke && target/smoke */
 #include "endings.h"
+#include "flat.h"
 #include "iisph.h"
 #include "packing.h"
 #include "same.h"
@@ -202,8 +204,21 @@ static int board_weights(void) {
     return 0;
 }
 
+typedef uint64_t kernel_function(double r, double h, double *out, size_t out_len);
+
+/* of the radius 1, whose normalizer is given: the shapes at 0.5 are 0.25 and -1.5 */
+static int kernel(kernel_function *weight, kernel_function *slope, double normalizer) {
+    double out[2] = {7, 7};
+    SAME(weight(0.5, 1, out, 0) == 99 && slope(0.5, 1, NULL, 0) == 99 && out[0] == 7);
+    SAME(weight(0.5, 1, out, 2) == 0 && out[0] == normalizer * 0.25 && out[1] == 7);
+    SAME(slope(0.5, 1, out, 2) == 0 && out[0] == normalizer * -1.5);
+    SAME(weight(-1, 0, out, 2) == 111 && slope(1, 0, out, 2) == 112 && out[0] == normalizer * -1.5);
+    SAME(weight(-0.0, 1, out, 2) == 0 && out[0] == normalizer);
+    return 0;
+}
+
 int main(void) {
-    double answers[8], work[15], numbers[5], out[2] = {7, 7}, clock[5] = {0.25, 7, 7, 3, 7};
+    double answers[8], work[15], numbers[5], clock[5] = {0.25, 7, 7, 3, 7};
     uint64_t counts[3] = {7, 7, 7};
     sevens(answers, 8); sevens(work, 15); sevens(numbers, 5);
     if (contact_lists() || board_weights()) return 1;
@@ -217,8 +232,7 @@ int main(void) {
     SAME(iisph_step_keeping(scene, len, clock, 5, answers, 8, work, 15, numbers, 3, counts, 3) == 99);
     SAME(iisph_needed(scene, len, counts, 1) == 99);
     SAME(iisph_validate(scene, len, work, 15, counts, 1) == 99);
-    SAME(iisph_weight(0.5, 1, out, 0) == 99 && iisph_slope(0.5, 1, NULL, 0) == 99);
-    SAME(answers[0] == 7 && work[0] == 7 && numbers[0] == 7 && counts[0] == 7 && counts[1] == 7 && out[0] == 7);
+    SAME(answers[0] == 7 && work[0] == 7 && numbers[0] == 7 && counts[0] == 7 && counts[1] == 7);
 
     /* refused: 8, then 1 */
     SAME(iisph_step(scene, len, answers, 6, work, 15, numbers, 5, counts, 3) == 108);
@@ -251,14 +265,9 @@ int main(void) {
     SAME(memcmp(answers, expected, sizeof expected) == 0);
     SAME(memcmp(numbers, expected_numbers, sizeof expected_numbers) == 0);
     SAME(counts[0] == 2 && counts[1] == 0 && counts[2] == 7);
-    if (endings() || summation()) return 1;
-
-    /* the kernel: the shapes at 0.5 are 0.25 and -1.5 */
-    const double normalizer = 8 / 3.141592653589793;
-    SAME(iisph_weight(0.5, 1, out, 2) == 0 && out[0] == normalizer * 0.25 && out[1] == 7);
-    SAME(iisph_slope(0.5, 1, out, 2) == 0 && out[0] == normalizer * -1.5);
-    SAME(iisph_weight(-1, 0, out, 2) == 111 && iisph_slope(1, 0, out, 2) == 112 && out[0] == normalizer * -1.5);
-    SAME(iisph_weight(-0.0, 1, out, 2) == 0 && out[0] == normalizer);
+    if (endings() || summation() || flat_scenes()) return 1;
+    if (kernel(iisph_weight, iisph_slope, 8 / 3.141592653589793)) return 1;
+    if (kernel(iisph_weight_2d, iisph_slope_2d, 40.0 / 7 / 3.141592653589793)) return 1;
     puts("ok");
     return 0;
 }

@@ -37,13 +37,18 @@ static void weight(void) { told = iisph_weight(0.5, 1, LIST(out)); }
 
 static void slope(void) { told = iisph_slope(0.5, 1, LIST(out)); }
 
+static void weight_2d(void) { told = iisph_weight_2d(0.5, 1, LIST(out)); }
+
+static void slope_2d(void) { told = iisph_slope_2d(0.5, 1, LIST(out)); }
+
 /* the last q that the table is laid out for; its weight is 0, which counts as done */
 static void board_weight(void) { told = iisph_board_weight((1 << 20) - 1); }
 
 static const struct { const char *name; void (*call)(void); } functions[] = {
     {"iisph_step", step}, {"iisph_step_lent", step_lent}, {"iisph_step_keeping", step_keeping},
     {"iisph_needed", needed}, {"iisph_validate", validate}, {"iisph_check_list", check_list},
-    {"iisph_weight", weight}, {"iisph_slope", slope}, {"iisph_board_weight", board_weight},
+    {"iisph_weight", weight}, {"iisph_slope", slope}, {"iisph_weight_2d", weight_2d}, {"iisph_slope_2d", slope_2d},
+    {"iisph_board_weight", board_weight},
 };
 
 /* models of each kind, and particles in each */

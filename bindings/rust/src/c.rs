@@ -63,5 +63,7 @@ extern "C" {
     ) -> u64;
     pub fn iisph_weight(r: f64, h: f64, out: *mut f64, out_len: usize) -> u64;
     pub fn iisph_slope(r: f64, h: f64, out: *mut f64, out_len: usize) -> u64;
+    pub fn iisph_weight_2d(r: f64, h: f64, out: *mut f64, out_len: usize) -> u64;
+    pub fn iisph_slope_2d(r: f64, h: f64, out: *mut f64, out_len: usize) -> u64;
     pub fn iisph_board_weight(q: u32) -> u32;
 }

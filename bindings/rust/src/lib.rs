@@ -2,7 +2,7 @@
 //! the C archives, whose functions are proved to meet their contracts for all arguments.
 //! `include/iisph.h` has the format of a packed scene and of the lists; [`Scene::pack`] writes one.
 //! [`Stopping`] tells which stopping criterion to choose for it, and [`Summation`] how its error is summed.
-//! The specification's scene A as version 2, from its numbers to its answers:
+//! [`flat`] has scenes in the plane. The specification's scene A as version 2, from its numbers to its answers:
 //!
 //! ```
 //! use iisph::{Contact, Fluid, FluidParticle, Scene, Solver, Stopping, Version};
@@ -24,9 +24,8 @@
 //! let mut work = vec![0.0; lengths.work];
 //! let report = Solver::new().step(&packed, &mut answers, &mut work)?;
 //! assert_eq!((report.iterations, report.passed_over), (2, false));
-//! for particle in answers.chunks_exact(7) {
-//!     assert_eq!(particle, [0.0, 0.0, -1.0, 0.0, 0.0, -2.0, 0.0]); // position, velocity, pressure
-//! }
+//! let drop = scene.answers(&answers).expect("a list of the length needed").fluids[0][0];
+//! assert_eq!((drop.position, drop.velocity, drop.pressure), ([0.0, 0.0, -1.0], [0.0, 0.0, -2.0], 0.0));
 //! # Ok::<(), Box<dyn std::error::Error>>(())
 //! ```
 //!
@@ -36,22 +35,40 @@
 //! 805 KiB where it has more. A thread of the standard library's default, 2 MiB, has room for that.
 #![warn(missing_docs)]
 
+mod answers;
 mod board;
 mod c;
+pub mod flat;
 mod lists;
-mod pack;
+mod misfit;
+pub mod pack;
 mod refusals;
 mod solver;
 mod stopping;
 
 use refusals::refusal;
 
+pub use answers::{Answers, BoundaryAnswer, FluidAnswer};
 pub use board::board_weight;
 pub use lists::{check_list, CheckedList, Contacts, Unchecked};
-pub use pack::{Boundary, BoundaryContact, BoundaryParticle, Contact, Fluid, FluidParticle, Misfit, Scene};
+pub use misfit::Misfit;
+pub use pack::BoundaryContact;
 pub use refusals::{KernelRefusal, Reason, Refusal};
 pub use solver::Solver;
 pub use stopping::{Stopping, Summation, Version};
+
+/// A scene with three axes.
+pub type Scene = pack::Scene<3>;
+/// A fluid of such a scene.
+pub type Fluid = pack::Fluid<3>;
+/// A particle of a fluid of such a scene.
+pub type FluidParticle = pack::FluidParticle<3>;
+/// A contact of a fluid particle of such a scene.
+pub type Contact = pack::Contact<3>;
+/// A boundary of such a scene.
+pub type Boundary = pack::Boundary<3>;
+/// A particle of a boundary of such a scene.
+pub type BoundaryParticle = pack::BoundaryParticle<3>;
 
 /// The lengths that the lists of a step must have at least.
 #[derive(Clone, Copy, Debug, PartialEq, Eq, Hash)]
@@ -122,9 +139,9 @@ pub fn validate(scene: &[u8], work: &mut [f64]) -> Result<(), Refusal> {
 }
 
 /// A packed scene, one step on. The answer list gets, per fluid particle, position, velocity and
-/// pressure (7 doubles), then of each boundary particle the volume and, where forces are kept,
-/// the force; a refused call leaves it unchanged. The work list is scratch. Both lists keep what
-/// stands behind the lengths that [`needed`] tells.
+/// pressure (7 doubles, of a flat scene 5), then of each boundary particle the volume and, where
+/// forces are kept, the force; a refused call leaves it unchanged. [`pack::Scene::answers`] reads it.
+/// The work list is scratch. Both lists keep what stands behind the lengths that [`needed`] tells.
 ///
 /// Prefer [`Solver::step`], which answers the same: it needs little stack on every scene, and clears
 /// no index for each step.
@@ -221,7 +238,7 @@ fn kernel(
     }
 }
 
-/// The cubic spline at the distance `r`, with the radius `h`.
+/// The cubic spline in three dimensions at the distance `r`, with the radius `h`.
 ///
 /// With n, the normalizer 8 / (pi h h h) in doubles, it is proved to be within 5 × 2^-52 × n of n
 /// times the exact shape at r / h (docs/METHOD.md, 1.5), unless n is infinite, which it is for no
@@ -234,6 +251,19 @@ pub fn weight(r: f64, h: f64) -> Result<f64, KernelRefusal> {
 /// [`weight`] is infinite, it is infinite or not a number.
 pub fn slope(r: f64, h: f64) -> Result<f64, KernelRefusal> {
     kernel(c::iisph_slope, r, h)
+}
+
+/// The cubic spline in two dimensions, for [flat scenes](flat).
+///
+/// As [`weight`], with the normalizer (40 / 7) / (pi h h), which is infinite for no `h` from 2^-511
+/// (some 1.5e-154) on.
+pub fn weight_2d(r: f64, h: f64) -> Result<f64, KernelRefusal> {
+    kernel(c::iisph_weight_2d, r, h)
+}
+
+/// Its derivative. As [`slope`], and infinite for no `h` from 2.8e-103 on.
+pub fn slope_2d(r: f64, h: f64) -> Result<f64, KernelRefusal> {
+    kernel(c::iisph_slope_2d, r, h)
 }
 
 #[cfg(test)]

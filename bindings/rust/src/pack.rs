@@ -1,18 +1,19 @@
-//! From structures to a packed scene.
-use crate::stopping::Version;
-use std::error::Error;
-use std::fmt;
+//! From structures to a packed scene. They are over the number of axes `D`: 3, for which the crate's own
+//! names stand, as [`crate::Scene`], or 2, for which those of [`crate::flat`] do.
+use crate::misfit::Misfit;
+use crate::stopping::{Stopping, Version};
 
 const MODELS: usize = 8;
 const PARTICLES: usize = 4096;
 const CONTACTS: usize = 255;
 
-/// A scene, as a step takes it once it is packed. [`Default`] has version 1, the iterations and the
-/// error limit of salva's solver (1, 50 and 0.05), zeros, and no models.
+/// A scene, as a step takes it once it is packed. [`Default`] has version 1, or of a flat scene version 4
+/// under [`Stopping::Salva`], the iterations and the error limit of salva's solver (1, 50 and 0.05),
+/// zeros, and no models.
 #[derive(Clone, Debug, PartialEq)]
-pub struct Scene {
-    /// As which version it is packed, and so under which [stopping criterion](crate::Stopping) and with
-    /// which [summation](crate::Summation).
+pub struct Scene<const D: usize> {
+    /// As which version it is packed, which has to be one of so many axes, and so under which [stopping
+    /// criterion](crate::Stopping) and with which [summation](crate::Summation).
     pub version: Version,
     /// The iteration with this number, counted from 0, is the first that may be the last: at most 255.
     pub least_iterations: usize,
@@ -23,26 +24,26 @@ pub struct Scene {
     /// The time that is left before the step.
     pub remaining_time: f64,
     /// The iterations end where the error, that of the stopping criterion, is at most this. Only
-    /// [`Stopping::Ihmsen2014`](crate::Stopping::Ihmsen2014) can meet a negative one.
+    /// [`Stopping::Ihmsen2014`] can meet a negative one.
     pub error_limit: f64,
     /// Gravity, an acceleration.
-    pub gravity: [f64; 3],
+    pub gravity: [f64; D],
     /// At most 8.
-    pub fluids: Vec<Fluid>,
+    pub fluids: Vec<Fluid<D>>,
     /// At most 8.
-    pub boundaries: Vec<Boundary>,
+    pub boundaries: Vec<Boundary<D>>,
 }
 
-impl Default for Scene {
-    fn default() -> Scene {
+impl<const D: usize> Default for Scene<D> {
+    fn default() -> Self {
         Scene {
-            version: Version::One,
+            version: if D == 2 { Version::Four(Stopping::Salva) } else { Version::One },
             least_iterations: 1,
             most_iterations: 50,
             step_length: 0.0,
             remaining_time: 0.0,
             error_limit: 0.05,
-            gravity: [0.0; 3],
+            gravity: [0.0; D],
             fluids: Vec::new(),
             boundaries: Vec::new(),
         }
@@ -51,35 +52,49 @@ impl Default for Scene {
 
 /// A fluid.
 #[derive(Clone, Debug, Default, PartialEq)]
-pub struct Fluid {
+pub struct Fluid<const D: usize> {
     /// Its density at rest.
     pub rest_density: f64,
     /// At most 4,096.
-    pub particles: Vec<FluidParticle>,
+    pub particles: Vec<FluidParticle<D>>,
 }
 
 /// A particle of a fluid.
-#[derive(Clone, Debug, Default, PartialEq)]
-pub struct FluidParticle {
+#[derive(Clone, Debug, PartialEq)]
+pub struct FluidParticle<const D: usize> {
     /// Where it is.
-    pub position: [f64; 3],
+    pub position: [f64; D],
     /// Its velocity.
-    pub velocity: [f64; 3],
+    pub velocity: [f64; D],
     /// Its acceleration, without gravity.
-    pub acceleration: [f64; 3],
+    pub acceleration: [f64; D],
     /// Its volume.
     pub volume: f64,
     /// Its pressure after the step before, of which the iterations start with half.
     pub warm_pressure: f64,
     /// What it touches of fluids, itself included where it is in its own list: at most 255.
-    pub fluid_contacts: Vec<Contact>,
+    pub fluid_contacts: Vec<Contact<D>>,
     /// What it touches of boundaries: at most 255.
-    pub boundary_contacts: Vec<Contact>,
+    pub boundary_contacts: Vec<Contact<D>>,
+}
+
+impl<const D: usize> Default for FluidParticle<D> {
+    fn default() -> Self {
+        FluidParticle {
+            position: [0.0; D],
+            velocity: [0.0; D],
+            acceleration: [0.0; D],
+            volume: 0.0,
+            warm_pressure: 0.0,
+            fluid_contacts: Vec::new(),
+            boundary_contacts: Vec::new(),
+        }
+    }
 }
 
 /// A contact of a fluid particle. The list that it stands in says whether it names a fluid or a boundary.
-#[derive(Clone, Copy, Debug, Default, PartialEq)]
-pub struct Contact {
+#[derive(Clone, Copy, Debug, PartialEq)]
+pub struct Contact<const D: usize> {
     /// The number of the fluid or boundary that it names (salva's `j_model`).
     pub model: usize,
     /// The number of the particle there (salva's `j`).
@@ -87,27 +102,39 @@ pub struct Contact {
     /// The kernel's weight.
     pub weight: f64,
     /// The kernel's gradient.
-    pub gradient: [f64; 3],
+    pub gradient: [f64; D],
+}
+
+impl<const D: usize> Default for Contact<D> {
+    fn default() -> Self {
+        Contact { model: 0, particle: 0, weight: 0.0, gradient: [0.0; D] }
+    }
 }
 
 /// A boundary.
 #[derive(Clone, Debug, Default, PartialEq)]
-pub struct Boundary {
+pub struct Boundary<const D: usize> {
     /// Whether the forces on it are added up and answered.
     pub keeps_forces: bool,
     /// At most 4,096.
-    pub particles: Vec<BoundaryParticle>,
+    pub particles: Vec<BoundaryParticle<D>>,
 }
 
 /// A particle of a boundary.
-#[derive(Clone, Debug, Default, PartialEq)]
-pub struct BoundaryParticle {
+#[derive(Clone, Debug, PartialEq)]
+pub struct BoundaryParticle<const D: usize> {
     /// Its velocity.
-    pub velocity: [f64; 3],
+    pub velocity: [f64; D],
     /// The force that the step adds to; zero where the boundary keeps none.
-    pub force: [f64; 3],
+    pub force: [f64; D],
     /// What it touches of boundaries: at most 255.
     pub contacts: Vec<BoundaryContact>,
+}
+
+impl<const D: usize> Default for BoundaryParticle<D> {
+    fn default() -> Self {
+        BoundaryParticle { velocity: [0.0; D], force: [0.0; D], contacts: Vec::new() }
+    }
 }
 
 /// A contact between boundary particles.
@@ -120,45 +147,6 @@ pub struct BoundaryContact {
     /// The kernel's weight.
     pub weight: f64,
 }
-
-/// What has no place in a packed scene. A place is written as in `fluids[0].particles[2].fluid_contacts.len()`.
-#[derive(Clone, Debug, PartialEq, Eq, Hash)]
-pub enum Misfit {
-    /// A count or a number that is too large.
-    TooLarge {
-        /// Which.
-        place: String,
-        /// The count or number.
-        found: usize,
-        /// What it may be at most.
-        most: usize,
-    },
-    /// A force that is not zero, in a boundary that keeps none.
-    ForceNotKept {
-        /// Which.
-        place: String,
-    },
-}
-
-impl Misfit {
-    // the same, seen from the list that it was found in
-    fn within(mut self, list: &str, k: usize) -> Misfit {
-        let (Misfit::TooLarge { place, .. } | Misfit::ForceNotKept { place }) = &mut self;
-        *place = format!("{list}[{k}].{place}");
-        self
-    }
-}
-
-impl fmt::Display for Misfit {
-    fn fmt(&self, f: &mut fmt::Formatter<'_>) -> fmt::Result {
-        match self {
-            Misfit::TooLarge { place, found, most } => write!(f, "{place} is {found}, and may be at most {most}"),
-            Misfit::ForceNotKept { place } => write!(f, "{place} is not zero, but its boundary keeps no forces"),
-        }
-    }
-}
-
-impl Error for Misfit {}
 
 fn fits(place: &str, found: usize, most: usize) -> Result<usize, Misfit> {
     if found > most {
@@ -184,13 +172,18 @@ fn name(out: &mut Vec<u8>, model: usize, particle: usize) -> Result<(), Misfit> 
     Ok(())
 }
 
-impl Scene {
+impl<const D: usize> Scene<D> {
     /// The scene's bytes, for [`needed`](crate::needed) and [`Solver::step`](crate::Solver::step).
     ///
-    /// An error names the first count or number that does not fit. What fits is packed as it is: of
+    /// An error tells of axes that are not the version's, or names the first count or number that does
+    /// not fit. What fits is packed as it is: of
     /// a double that is not finite and of a contact that names nothing the step says where it
     /// stands when it refuses the scene.
     pub fn pack(&self) -> Result<Vec<u8>, Misfit> {
+        let wanted = self.version.axes();
+        if D != wanted {
+            return Err(Misfit::Axes { found: D, wanted });
+        }
         let fluids = fits("fluids.len()", self.fluids.len(), MODELS)?;
         let boundaries = fits("boundaries.len()", self.boundaries.len(), MODELS)?;
         let least = fits("least_iterations", self.least_iterations, 255)?;
@@ -205,7 +198,7 @@ impl Scene {
     }
 }
 
-impl Fluid {
+impl<const D: usize> Fluid<D> {
     fn pack(&self, out: &mut Vec<u8>) -> Result<(), Misfit> {
         let count = fits("particles.len()", self.particles.len(), PARTICLES)?;
         out.extend_from_slice(&(count as u16).to_be_bytes());
@@ -214,7 +207,7 @@ impl Fluid {
     }
 }
 
-impl FluidParticle {
+impl<const D: usize> FluidParticle<D> {
     fn pack(&self, out: &mut Vec<u8>) -> Result<(), Misfit> {
         let near = fits("fluid_contacts.len()", self.fluid_contacts.len(), CONTACTS)?;
         let walls = fits("boundary_contacts.len()", self.boundary_contacts.len(), CONTACTS)?;
@@ -228,7 +221,7 @@ impl FluidParticle {
     }
 }
 
-impl Contact {
+impl<const D: usize> Contact<D> {
     fn pack(&self, out: &mut Vec<u8>) -> Result<(), Misfit> {
         name(out, self.model, self.particle)?;
         doubles(out, &[self.weight]);
@@ -237,7 +230,7 @@ impl Contact {
     }
 }
 
-impl Boundary {
+impl<const D: usize> Boundary<D> {
     fn pack(&self, out: &mut Vec<u8>) -> Result<(), Misfit> {
         let count = fits("particles.len()", self.particles.len(), PARTICLES)? as u16;
         out.extend_from_slice(&(count | (self.keeps_forces as u16) << 15).to_be_bytes());
@@ -245,12 +238,12 @@ impl Boundary {
     }
 }
 
-impl BoundaryParticle {
+impl<const D: usize> BoundaryParticle<D> {
     fn pack(&self, out: &mut Vec<u8>, keeps_forces: bool) -> Result<(), Misfit> {
         doubles(out, &self.velocity);
         if keeps_forces {
             doubles(out, &self.force);
-        } else if self.force != [0.0; 3] {
+        } else if self.force != [0.0; D] {
             return Err(Misfit::ForceNotKept { place: "force".to_owned() });
         }
         let count = fits("contacts.len()", self.contacts.len(), CONTACTS)?;

@@ -8,8 +8,8 @@ use std::fmt;
 pub enum Reason {
     /// A field is not wholly there.
     Missing = 1,
-    /// Another version than 1 and 2, at offset 0; or a rule that the version does not have, at offset
-    /// 1: version 1 has rule 0 alone, version 2 has 0 to 3.
+    /// Another version than 1, 2 and 4, at offset 0; or a rule that the version does not have, at offset
+    /// 1: version 1 has rule 0 alone, versions 2 and 4 have 0 to 3.
     Form,
     /// More than 8 fluids or boundaries.
     Models,
@@ -52,9 +52,9 @@ impl Reason {
         match self {
             Reason::Missing => "a field is not wholly there",
             Reason::Form => {
-                "the version is neither 1 nor 2, or does not have the rule; \
-                 write version 1 with rule 0, or version 2 with rule 0 (salva) or 1 (Ihmsen 2014), \
-                 or with 2 or 3 for these by halves"
+                "the version is neither 1, 2 nor 4, or does not have the rule; \
+                 write version 1 with rule 0, or version 2, or 4 for a flat scene, with rule 0 (salva) \
+                 or 1 (Ihmsen 2014), or with 2 or 3 for these by halves"
             }
             Reason::Models => {
                 "more than 8 fluids or boundaries; join fluids of one rest density, or boundaries, until there are 8"

@@ -1,7 +1,7 @@
 //! The versions of a packed scene, and what it can name: the stopping criterion and the summation.
 
-/// The version of a packed scene. Both lay a scene out alike; version 2 names its stopping criterion,
-/// and how the error of that is summed.
+/// The version of a packed scene. All lay a scene out alike, but that vectors have two doubles in
+/// version 4; versions 2 and 4 name the stopping criterion, and how the error of that is summed.
 #[derive(Clone, Copy, Debug, Default, PartialEq, Eq, Hash)]
 pub enum Version {
     /// Version 1, always under [`Stopping::Salva`] and with [`Summation::InOrder`]. The default.
@@ -12,6 +12,11 @@ pub enum Version {
     Two(Stopping),
     /// Version 2, under the criterion given and with [`Summation::ByHalves`].
     TwoByHalves(Stopping),
+    /// Version 4, that of [flat scenes](crate::flat), under the criterion given and with
+    /// [`Summation::InOrder`].
+    Four(Stopping),
+    /// Version 4, under the criterion given and with [`Summation::ByHalves`].
+    FourByHalves(Stopping),
 }
 
 impl Version {
@@ -23,19 +28,38 @@ impl Version {
         }
     }
 
+    /// Version 4 that names both.
+    pub const fn four(stopping: Stopping, summation: Summation) -> Version {
+        match summation {
+            Summation::InOrder => Version::Four(stopping),
+            Summation::ByHalves => Version::FourByHalves(stopping),
+        }
+    }
+
+    /// How many axes its vectors have.
+    pub const fn axes(self) -> usize {
+        match self {
+            Version::One | Version::Two(_) | Version::TwoByHalves(_) => 3,
+            Version::Four(_) | Version::FourByHalves(_) => 2,
+        }
+    }
+
     /// The stopping criterion.
     pub const fn stopping(self) -> Stopping {
         match self {
             Version::One => Stopping::Salva,
-            Version::Two(stopping) | Version::TwoByHalves(stopping) => stopping,
+            Version::Two(stopping)
+            | Version::TwoByHalves(stopping)
+            | Version::Four(stopping)
+            | Version::FourByHalves(stopping) => stopping,
         }
     }
 
     /// How its error is summed.
     pub const fn summation(self) -> Summation {
         match self {
-            Version::One | Version::Two(_) => Summation::InOrder,
-            Version::TwoByHalves(_) => Summation::ByHalves,
+            Version::One | Version::Two(_) | Version::Four(_) => Summation::InOrder,
+            Version::TwoByHalves(_) | Version::FourByHalves(_) => Summation::ByHalves,
         }
     }
 
@@ -44,6 +68,7 @@ impl Version {
         let version = match self {
             Version::One => 1,
             Version::Two(_) | Version::TwoByHalves(_) => 2,
+            Version::Four(_) | Version::FourByHalves(_) => 4,
         };
         (version, self.stopping() as u8 + self.summation() as u8)
     }

@@ -4,6 +4,7 @@ use super::*;
 
 mod board;
 mod fields;
+mod flat;
 mod lists;
 mod packing;
 mod solver;
@@ -263,27 +264,34 @@ fn refusals_say_what_and_where() {
     assert!(Reason::ALL.iter().enumerate().all(|(n, reason)| reason.number() as usize == n + 1));
 }
 
+type Kernel = fn(f64, f64) -> Result<f64, KernelRefusal>;
+
+// weight and slope, with the number that is divided by pi in the normalizer of the radius 1
+const KERNELS: [(Kernel, Kernel, f64); 2] = [(weight, slope, 8.0), (weight_2d, slope_2d, 40.0 / 7.0)];
+
 // normalizer × shape, and (normalizer × shape) / h; with the radius 1 the shapes are those of
 // METHOD 1
 #[test]
 fn kernel_values() {
-    let normalizer = 8.0 / std::f64::consts::PI;
-    for (r, shape) in [(0.0, 1.0), (-0.0, 1.0), (0.5, 0.25), (0.75, 0.03125), (1.0, 0.0), (2.0, 0.0)] {
-        assert_eq!(weight(r, 1.0).map(f64::to_bits), Ok((normalizer * shape).to_bits()));
-    }
-    for (r, shape) in [(0.5, -1.5), (0.75, -0.375), (1.0, -0.0), (f64::from_bits(0x3FF0000000000001), 0.0)] {
-        assert_eq!(slope(r, 1.0).map(f64::to_bits), Ok((normalizer * shape).to_bits()));
+    for (weight, slope, number) in KERNELS {
+        let normalizer = number / std::f64::consts::PI;
+        for (r, shape) in [(0.0, 1.0), (-0.0, 1.0), (0.5, 0.25), (0.75, 0.03125), (1.0, 0.0), (2.0, 0.0)] {
+            assert_eq!(weight(r, 1.0).map(f64::to_bits), Ok((normalizer * shape).to_bits()));
+        }
+        for (r, shape) in [(0.5, -1.5), (0.75, -0.375), (1.0, -0.0), (f64::from_bits(0x3FF0000000000001), 0.0)] {
+            assert_eq!(slope(r, 1.0).map(f64::to_bits), Ok((normalizer * shape).to_bits()));
+        }
     }
 }
 
 #[test]
 fn kernel_refusals() {
-    for r in [-1.0, f64::INFINITY, f64::NAN] {
-        assert_eq!(weight(r, 0.0), Err(KernelRefusal::Distance));
-        assert_eq!(slope(r, 1.0), Err(KernelRefusal::Distance));
-    }
-    for h in [0.0, -0.0, -1.0, f64::INFINITY, f64::NAN] {
-        assert_eq!(weight(1.0, h), Err(KernelRefusal::Radius));
-        assert_eq!(slope(1.0, h), Err(KernelRefusal::Radius));
+    for (kernel, _, _) in KERNELS.into_iter().chain(KERNELS.map(|(weight, slope, n)| (slope, weight, n))) {
+        for r in [-1.0, f64::INFINITY, f64::NAN] {
+            assert_eq!(kernel(r, 0.0), Err(KernelRefusal::Distance));
+        }
+        for h in [0.0, -0.0, -1.0, f64::INFINITY, f64::NAN] {
+            assert_eq!(kernel(1.0, h), Err(KernelRefusal::Radius));
+        }
     }
 }

@@ -169,9 +169,9 @@ fn refusals_of_versions_rules_and_models_say_what_to_do() {
     let text = |reason| Refusal { reason, offset: 1 }.to_string();
     assert_eq!(
         text(Reason::Form),
-        "refused 2 at byte 1: the version is neither 1 nor 2, or does not have the rule; \
-         write version 1 with rule 0, or version 2 with rule 0 (salva) or 1 (Ihmsen 2014), \
-         or with 2 or 3 for these by halves"
+        "refused 2 at byte 1: the version is neither 1, 2 nor 4, or does not have the rule; \
+         write version 1 with rule 0, or version 2, or 4 for a flat scene, with rule 0 (salva) \
+         or 1 (Ihmsen 2014), or with 2 or 3 for these by halves"
     );
     assert_eq!(
         text(Reason::Models),
