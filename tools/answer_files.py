@@ -35,6 +35,7 @@ def rule(answer):
 # ---- table, CSV and JSON
 
 def decimal(x): return "%.6g" % x
+def along(answer, name): return [name % axis for axis in answer.axes]
 
 
 def ended(answer):
@@ -47,13 +48,14 @@ def table(answer):
     lines = [*alarms(answer), ended(answer), *doubts(answer),
              "dt %s, 1 / dt %s, remaining time %s" % tuple(map(decimal, answer.clock))]
     rows = [[str(p.model), str(p.number), *map(decimal, [*p.position, *p.velocity, p.pressure])] for p in answer.fluid]
-    lines += columns("fluid particle x y z vx vy vz pressure".split(), rows)
+    lines += columns(["fluid", "particle", *answer.axes, *along(answer, "v%s"), "pressure"], rows)
     rows = [[str(w.model), str(w.number), *map(decimal, [w.volume, *(w.force or [])])] + ["not kept"] * (not w.force)
             for w in answer.wall]
-    lines += columns("wall particle volume fx fy fz".split(), rows)
-    rows = [[str(m), *[decimal(sum(w.force[k] for w in answer.wall if w.force and w.model == m)) for k in range(3)]]
+    lines += columns(["wall", "particle", "volume", *along(answer, "f%s")], rows)
+    rows = [[str(m), *[decimal(sum(w.force[k] for w in answer.wall if w.force and w.model == m))
+                       for k in range(len(answer.axes))]]
             for m in sorted({w.model for w in answer.wall if w.force})]
-    lines += columns("wall fx-in-all fy-in-all fz-in-all".split(), rows)
+    lines += columns(["wall", *along(answer, "f%s-in-all")], rows)
     there = " and ".join(counted(len(particles), "%s particle" % kind)
                          for kind, particles in (("fluid", answer.fluid), ("wall", answer.wall)))
     return "\n".join([*lines, "", "held against the scene: all its particles are there, " + there if answer.held
@@ -71,13 +73,15 @@ def csv(answer):
     """By what error iterations stopped and how it was summed, where it is known, and a warning stand
     in each row, in last columns that other answers lack: so they are seen wherever the rows go, and
     the columns before them are read as ever."""
-    lines = ["kind,model,particle,x,y,z,vx,vy,vz,pressure,volume,fx,fy,fz"]
-    lines += [",".join(["fluid", str(p.model), str(p.number), *map(repr, [*p.position, *p.velocity, p.pressure])])
-              + ",,,," for p in answer.fluid]
-    for w in answer.wall:
-        cells = ["wall", str(w.model), str(w.number), *(map(repr, w.position) if w.position else ["", "", ""]), "", "",
-                 "", "", repr(w.volume)]
-        lines.append(",".join(cells + (list(map(repr, w.force)) if w.force else ["", "", ""])))
+    none = [""] * len(answer.axes)      # in place of a vector
+    rows = [["kind", "model", "particle", *answer.axes, *along(answer, "v%s"), "pressure",
+             "volume", *along(answer, "f%s")]]
+    rows += [["fluid", str(p.model), str(p.number),
+              *map(repr, [*p.position, *p.velocity, p.pressure]), "", *none] for p in answer.fluid]
+    rows += [["wall", str(w.model), str(w.number),
+              *(map(repr, w.position) if w.position else none), *none, "",
+              repr(w.volume), *(map(repr, w.force) if w.force else none)] for w in answer.wall]
+    lines = [",".join(row) for row in rows]
     more = [("stopping", answer.stopping), ("summation", answer.summation)] if answer.stopping else []
     for head, cell in more + [("warning", text) for text in warnings(answer).values()]:
         lines = [line + "," + (cell if k else head) for k, line in enumerate(lines)]
@@ -111,20 +115,23 @@ def json(answer):
 def vtk(answer, kind, scalars, vectors):
     """Legacy VTK of points; what is not finite, or not kept, is written as 0 and marked, since
     readers stumble over it. Titles, of 255 letters at most, are rarely shown: so a warning is the
-    first scalar too, which VTK makes the active one."""
+    first scalar too, which VTK makes the active one. Points and vectors have three axes there, so
+    those of a flat scene have z = 0."""
     title = "%s particles after a pressure step%s%s" % (kind, held(answer), rule(answer))
+    title += "" if "z" in answer.axes else ", flat: z = 0"
     particles, title = getattr(answer, kind), "; ".join([*alarms(answer), title, *doubts(answer)])
     n, scalars = len(particles), [*((name, "int", lambda p: 1) for name in warnings(answer)), *scalars]
     safe = lambda xs: " ".join(repr(x) if math.isfinite(x) else "0.0" for x in xs)
+    in_space = lambda xs: safe([*xs, 0.0, 0.0, 0.0][:3])
     lines = ["# vtk DataFile Version 3.0", title, "ASCII", "DATASET POLYDATA", "POINTS %d double" % n,
-             *[safe(p.position) for p in particles],
+             *[in_space(p.position) for p in particles],
              "VERTICES %d %d" % (n, 2 * n), *["1 %d" % k for k in range(n)], "POINT_DATA %d" % n]
     for name, form, of in [*scalars, ("model", "int", lambda p: p.model), ("particle", "int", lambda p: p.number),
                            ("finite", "int", finite)]:
         lines += ["SCALARS %s %s 1" % (name, form), "LOOKUP_TABLE default",
                   *[str(int(of(p))) if form == "int" else safe([of(p)]) for p in particles]]
     for name, of in vectors:
-        lines += ["VECTORS %s double" % name, *[safe(of(p)) for p in particles]]
+        lines += ["VECTORS %s double" % name, *[in_space(of(p)) for p in particles]]
     return "\n".join(lines) + "\n"
 
 
@@ -143,4 +150,4 @@ def fluid_vtk(answer):
 
 def wall_vtk(answer):
     scalars = [("volume", "double", lambda w: w.volume), ("keeps_forces", "int", lambda w: w.force is not None)]
-    return vtk(answer, "wall", scalars, [("force", lambda w: w.force or [0.0, 0.0, 0.0])])
+    return vtk(answer, "wall", scalars, [("force", lambda w: w.force or [])])

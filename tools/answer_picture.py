@@ -2,9 +2,9 @@
 import math
 
 from answer_files import alarms, decimal, doubts, ended, finite, held
-from commands import Wrong, counted
+from answer_text import placing
+from commands import Misused, Wrong, counted
 
-AXES = "xyz"
 # The colours of pressures: ever darker, so that they read in grey too.
 STOPS = (255, 247, 188), (254, 196, 79), (236, 112, 20), (153, 52, 4), (60, 15, 10)
 # Lengths in pixels; the last two are those of the longest arrow and of a warning above it all.
@@ -85,16 +85,34 @@ def circles(fluid, spot, radius, least, most):
     return out
 
 
-def picture(answer, plane="xz"):
+def plane_of(axes, plane):
+    """The axes that go right and up: the first and the last one, where no plane is given."""
+    usual = axes[0] + axes[-1]
+    plane = usual if plane is None else plane
+    if len(plane) != 2 or plane[0] == plane[1] or not set(plane) <= set(axes):
+        raise Misused("--plane takes two of the letters %s, as in: --plane %s"
+                      % (", ".join(axes), usual))
+    return plane
+
+
+def across(walls, axes, plane):
+    """Remarks on forces that the plane does not show."""
+    return ["left out: what wall forces have along %s, across the picture" % axis
+            for k, axis in enumerate(axes)
+            if axis not in plane and any(w.force and finite(w) and w.force[k] for w in walls)]
+
+
+def picture(answer, plane=None):
     """The text of an SVG file, and notes on what it leaves out."""
-    a, b = map(AXES.index, plane)
+    plane = plane_of(answer.axes, plane)
+    a, b = map(answer.axes.index, plane)
     fluid, walls, notes = [p for p in answer.fluid if finite(p)], [w for w in answer.wall if w.position], []
     if len(fluid) < len(answer.fluid):
         notes.append("left out: %s with a number that is not finite; see `table`"
                      % counted(len(answer.fluid) - len(fluid), "fluid particle"))
     if any(w.force for w in answer.wall if not w.position):
         notes.append("left out: wall forces, since no wall positions were given; "
-                     "add a file with lines: WALL PARTICLE X Y Z")
+                     + placing(answer))
     if not fluid and not walls:
         raise Wrong("there is no particle with a place to draw; "
                     + "; ".join(notes or ["take a scene that has fluid particles"]))
@@ -109,12 +127,11 @@ def picture(answer, plane="xz"):
     shown = [spot for spot, force in sorted(forces.items()) if drawable and math.hypot(*force) > strongest / 50]
     out += [arrow(x, y, forces[x, y][0] / strongest * LONGEST, -forces[x, y][1] / strongest * LONGEST)
             for x, y in shown]
-    faint, across = sum(any(force) for force in forces.values()) - len(shown), 3 - a - b
+    faint = sum(any(force) for force in forces.values()) - len(shown)
     remarks = [note.split(";")[0] for note in doubts(answer) + notes]      # without the advice
     if drawable and faint:
         remarks.append("left out: %s below a fiftieth of the strongest" % counted(faint, "wall force"))
-    if any(w.force and finite(w) and w.force[across] for w in walls):
-        remarks.append("left out: what wall forces have along %s, across the picture" % AXES[across])
+    remarks += across(walls, answer.axes, plane)
     return svg(answer, plane, remarks, out + scales(least, most, strongest if drawable else 0.0, size)), notes
 
 
@@ -142,8 +159,9 @@ def banner(text):
 
 
 def svg(answer, plane, remarks, drawn):
-    heads = ["%s to the right, %s up; of particles behind each other the highest pressure shows, "
-             "and wall forces are added up" % tuple(plane), held(answer)[2:], *remarks]
+    there = "behind each other" if len(answer.axes) > 2 else "at one place"
+    heads = ["%s to the right, %s up; of particles %s the highest pressure shows, "
+             "and wall forces are added up" % (*plane, there), held(answer)[2:], *remarks]
     banners = list(map(banner, alarms(answer)))
     top = BANNER * len(banners)
     down = top + 18 * (len(heads) - 1)      # by so much the picture makes room for what is above it

@@ -5,15 +5,23 @@ import re
 import struct
 from types import SimpleNamespace as Record
 
-from commands import Wrong, counted
+from commands import Wrong, counted, either
 from scene_json import tree
-from scene_walk import RULE, Walk, told
+from scene_walk import IN_WORDS, RULE, VERSIONS, Walk, told
 
-REFUSALS = {1: "a field is not wholly there", 2: "another version than 1 or 2, or a rule that it does not have",
+KNOWN = either(map(str, VERSIONS))
+REFUSALS = {1: "a field is not wholly there",
+            2: "another version than %s, or a rule that it does not have" % KNOWN,
             3: "more than 8 fluids or walls", 4: "a count above 4,096", 5: "bytes follow the last record",
             6: "a double that is not finite", 7: "a contact that names nobody",
             8: "the answer or work list is too short", 9: "a density is zero", 10: "a predicted density is zero"}
 AGAIN = "give the whole output of tools/run, as in: tools/run examples/chamber.bin > chamber.txt"
+# The axes that answers may have: those of version 1 where neither a line nor a scene tells.
+AXES = list(dict.fromkeys(form.axes for form in VERSIONS.values()))
+VECTORS = {"fluid": 2, "wall": 1}      # in a line, beside one number: of a wall only if it is kept
+LEND = ("for a scene of %s axes lend an answer list of %d doubles for each fluid particle, and "
+        "for each wall particle 1, or %d where forces are kept; and a work list of %d for each "
+        "fluid particle, or %d where errors are summed by halves, and 1 for each wall particle")
 ENDINGS = {"unswept": "done without iterations", "settled": "settled after %s", "ranout": "ran out after %s"}
 
 
@@ -56,16 +64,31 @@ def line_into(answer, k, words):
         step_into(answer, rest)
     elif kind == "clock" and len(rest) == 3:
         answer.clock = [double(x) for x in rest]
-    elif kind == "fluid" and len(rest) == 9 or kind == "wall" and len(rest) in (3, 6):
+    elif kind in VECTORS:
         xs, p = [double(x) for x in rest[2:]], Record(model=whole(rest[0], 7), number=whole(rest[1], 4095))
+        axes_by(answer, k, kind, len(xs))
         if kind == "fluid":
-            p.position, p.velocity, p.pressure = xs[:3], xs[3:6], xs[6]
+            n = len(answer.axes)
+            p.position, p.velocity, p.pressure = xs[:n], xs[n:2 * n], xs[2 * n]
         else:
             p.position, p.volume, p.force = None, xs[0], xs[1:] or None
         in_order(answer, k, kind, p)
         getattr(answer, kind).append(p)
     else:
         raise ValueError
+
+
+def axes_by(answer, k, kind, n):
+    """Takes a line with n doubles if it is of as many axes as those before it; the first that
+    tells says of how many the answer is."""
+    if kind == "wall" and n == 1:      # a volume alone does not tell
+        return
+    axes = {1 + VECTORS[kind] * len(axes): axes for axes in AXES}[n]
+    if answer.told and axes != answer.axes:
+        raise Wrong("line %d is of %s axes, but those before it are of %s, so it is damaged or of "
+                    "another answer; %s"
+                    % (k, IN_WORDS[len(axes)], IN_WORDS[len(answer.axes)], AGAIN))
+    answer.axes, answer.told = axes, True
 
 
 def in_order(answer, k, kind, p):
@@ -87,11 +110,11 @@ def no_answer(line, name):
     """What to do about a line that stands alone instead of an answer."""
     refused = re.fullmatch("refused ([1-9]|10) (0|[1-9][0-9]*)", line)
     if refused and refused[1] == "8":
-        raise Wrong("the step refused the lists that it was lent, so there are no answers: %s (refusal 8)\n"
-                    "lend an answer list of 7 doubles for each fluid particle, and "
-                    "for each wall particle 1, or 4 where forces are kept; and a work list of 14 for each fluid "
-                    "particle, or 15 where errors are summed by halves, and 1 for each wall particle "
-                    "(iisph_needed gives both lengths)" % REFUSALS[8])
+        lengths = [(IN_WORDS[n], 1 + 2 * n, 1 + n, 5 + 3 * n, 6 + 3 * n) for n in map(len, AXES)]
+        raise Wrong("\n".join(["the step refused the lists that it was lent, so there are no "
+                               "answers: %s (refusal 8)" % REFUSALS[8],
+                               *[LEND % each for each in lengths],
+                               "iisph_needed gives both lengths"]))
     if refused:
         raise Wrong("the step refused this scene, so there are no answers: %s (refusal %s)\n"
                     "see what stands there with: tools/scene.py at %s %s"
@@ -108,11 +131,12 @@ def parse(text, name=None):
         raise Wrong("the last line has no end, so the text was cut off there; " + AGAIN)
     if len(lines) == 1:
         no_answer(lines[0], name)
-    answer = Record(ending=None, clock=None, fluid=[], wall=[], held=False, stopping=None, summation=None)
+    answer = Record(ending=None, clock=None, fluid=[], wall=[], axes=AXES[0], told=False,
+                    held=False, stopping=None, summation=None)
     for k, line in enumerate(lines, 1):
         try:
             line_into(answer, k, line.split(" "))
-        except (ValueError, IndexError):
+        except (ValueError, LookupError):
             raise Wrong("line %d is none that the program writes: %.60s\n%s" % (k, line, AGAIN)) from None
     if answer.ending is None or answer.clock is None:
         raise Wrong("the lines `step ..` and `clock ..` are not there; " + AGAIN)
@@ -124,6 +148,10 @@ def hold(answer, data, name):
     walk, other = Walk(data), "; is it the answer of this scene, and whole? " + AGAIN
     for line in told(walk.faults[:1]):
         raise Wrong("%s is no scene that has an answer, since a step refuses it: %s" % (name, line))
+    if answer.told and answer.axes != walk.axes:
+        raise Wrong("the answer has lines of %s axes, but %s is of %s%s"
+                    % (IN_WORDS[len(answer.axes)], name, IN_WORDS[len(walk.axes)], other))
+    answer.axes, answer.told = walk.axes, True
     for kind, models in (("fluid", answer.fluid), ("wall", answer.wall)):
         found = {(kind, p.model): p.number + 1 for p in models}      # numbers run on from 0
         for model in sorted({*found, *(m for m in walk.counts if m[0] == kind)}):
@@ -165,27 +193,34 @@ def hold_ending(answer, scene, name, other):
         answer.stopping, answer.summation = stopping, summation
 
 
+def placing(answer):
+    return "add a file with lines: WALL PARTICLE " + " ".join(answer.axes.upper())
+
+
 def place_walls(answer, text, name):
     """Gives each wall particle the position that the text has for it."""
-    found = {}
+    found, axes = {}, answer.axes
     for k, line in enumerate(text.splitlines(), 1):
         words = line.split("#")[0].split()
         try:
             if words:
-                (model, number), xyz = (whole(word, 4095) for word in words[:2]), [float(x) for x in words[2:]]
-                if len(xyz) != 3 or not all(map(math.isfinite, xyz)):
+                model, number = (whole(word, 4095) for word in words[:2])
+                xs = [float(x) for x in words[2:]]
+                if len(xs) != len(axes) or not all(map(math.isfinite, xs)):
                     raise ValueError
                 if (model, number) in found:
                     raise Wrong("%s, line %d: wall %d, particle %d stands there twice; keep one of the lines"
                                 % (name, k, model, number))
-                found[model, number] = xyz
+                found[model, number] = xs
         except ValueError:
-            raise Wrong("%s, line %d: give a wall's and a particle's number and three decimals, as in: 0 3 0.5 0 -1"
-                        % (name, k)) from None
+            example = " ".join(["0.5", "0", "-1"][-len(axes):])
+            more = "" if answer.told else "; if the scene is flat, add --scene SCENE.bin"
+            raise Wrong("%s, line %d: give a wall's and a particle's number and %s decimals, as "
+                        "in: 0 3 %s%s" % (name, k, IN_WORDS[len(axes)], example, more)) from None
     for w in answer.wall:
         if (w.model, w.number) not in found:
-            raise Wrong("%s has no position for wall %d, particle %d; add a line: %d %d X Y Z"
-                        % (name, w.model, w.number, w.model, w.number))
+            raise Wrong("%s has no position for wall %d, particle %d; add a line: %d %d %s"
+                        % (name, w.model, w.number, w.model, w.number, " ".join(axes.upper())))
         w.position = found.pop((w.model, w.number))
     if found:
         raise Wrong("%s has a line for wall %d, particle %d, but the answer has no such particle; is it the file of "

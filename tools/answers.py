@@ -15,7 +15,7 @@ ParaView, and as a picture.
       NAME-fluid.vtk and, with wall positions, NAME-wall.vtk (legacy VTK, ASCII)
   tools/answers.py svg ANSWER.txt PICTURE.svg [WALLS.txt] [--scene SCENE.bin] [--plane xz]
       particles coloured by pressure, arrows for wall forces; --plane says which axes go right and
-      up: xz, xy, yz or another two
+      up: xz, xy, yz or another two; xz where it is left out, of a flat answer xy
 
 An answer that is damaged, cut within a line or merged with another is refused. Whether the last
 lines of a fluid or wall are missing the text alone can't tell: with --scene the answer is held to
@@ -27,6 +27,10 @@ and the picture behind the error, in columns `stopping` and `summation` of the C
 and `summation` in the JSON, which else are null, and in the title of the VTK files.
 An answer has no positions of wall particles: WALLS.txt has a line for each, `WALL PARTICLE X Y Z`,
 and # begins a comment.
+The answer of a flat scene, of version 4, has two axes, x and y, and so have its table, CSV and
+JSON; its WALLS.txt has lines `WALL PARTICLE X Y`. VTK knows points in space alone: theirs have
+z = 0, and the title says so. That an answer is flat is told by its lines, which are held to the
+scene where it is given.
 By salva a step passes over a fluid's average error that is not a number, and its answer tells
 whether it did so in the last iteration: then `settled` can't be trusted. By ihmsen2014 the error is
 then not a number either, and never settles. A warning of each stands in the table's first and last
@@ -41,8 +45,8 @@ the scene or the wall positions; 2 if a file or the command is wrong.
 import sys
 
 from answer_files import UNHELD, alarms, csv, doubts, finite, fluid_vtk, json, table, wall_vtk
-from answer_picture import AXES, picture
-from answer_text import hold, parse, place_walls
+from answer_picture import picture
+from answer_text import hold, parse, place_walls, placing
 from commands import Misused, carried_out, counted
 from commands import read as read_bytes
 
@@ -85,16 +89,13 @@ def given(files, options):
 
 def run(command, files, options):
     """Does what a command says, and gives notes and the status."""
-    plane = options.get("--plane", "xz")
-    if len(plane) != 2 or plane[0] == plane[1] or not set(plane) <= set(AXES):
-        raise Misused("--plane takes two of the letters x, y, z, as in: --plane xz")
     answer = given(files, options)
     if command == "table":
         write("-", table(answer))
         return [], 0
     notes = alarms(answer) + doubts(answer)
     if command == "svg":
-        text, left_out = picture(answer, plane)
+        text, left_out = picture(answer, options.get("--plane"))
         write(files[1], text)
         return notes + left_out, 0
     notes += [] if answer.held else [UNHELD]
@@ -105,8 +106,8 @@ def run(command, files, options):
     if len(files) == 3:
         write(files[1] + "-wall.vtk", wall_vtk(answer))
     elif answer.wall:
-        notes.append("no wall positions were given, so there is no %s-wall.vtk; "
-                     "add a file with lines: WALL PARTICLE X Y Z" % files[1])
+        notes.append("no wall positions were given, so there is no %s-wall.vtk; %s"
+                     % (files[1], placing(answer)))
     bad = sum(not finite(p) for p in [*answer.fluid, *(answer.wall if len(files) == 3 else [])])
     if bad:
         notes.append("not finite: some number of %s; it is written as 0, and `finite` is 0 there"

@@ -37,6 +37,8 @@ error the terms, one for each particle of a fluid, are added "in order" or "by h
 less of small ones in a large fluid. "ihmsen2014" and "by halves" need version 2, which is the
 version where "stopping" or "summation" is there and "version" is not; it is refused without
 "stopping". Without "summation" it is "in order", as its scenes were before they could name one.
+A flat scene names version 4: every vector above has two numbers in place of three, x and y, and
+all else is as in version 2, "stopping" included.
 A double is a decimal or, in quotes, its 16 hex digits: 0.5 or "3FE0000000000000". `show --json`
 writes decimals that read back as the same double, and hex digits for what is infinite or not a
 number. A force may stand only where keeps_forces is true. The comment is not packed.

@@ -6,10 +6,13 @@ import re
 import struct
 
 from commands import Wrong, either
-from scene_walk import CONTACT, CONTACTS, FLUID_PARTICLE, HEADER, MODELS, NAMED, PARTICLES, WALL_PARTICLE
-from scene_walk import RULE, RULES, VERSIONS, Walk, key_of, told
+from scene_walk import CONTACT, CONTACTS, FLUID_PARTICLE, HEADER, MODELS, NAMED, PARTICLES
+from scene_walk import IN_WORDS, REST_DENSITY, RULE, RULES, VERSIONS, WALL_PARTICLE
+from scene_walk import Walk, key_of, told
 
 LONGEST = 32768      # of what the program reads
+# The version of a JSON that names none: where it names no part of a rule, and where it does.
+PLAIN, RULED = 1, 2
 LEFT_OUT = {"warm_pressure": 0, "least_iterations": 1, "most_iterations": 50, "keeps_forces": False}
 UNSAID = ("it names neither version nor stopping, so it is of version 1 and stops by the Rust's error, which can "
           "settle long before the pressures are right; to stop by the 2014 paper's, add "
@@ -65,12 +68,12 @@ def members(path, value, keys):
             raise Wrong("%s: %r is no name here; the names are %s" % (path or "the scene", key, ", ".join(keys)))
 
 
-def member(path, value, key, size=1):
+def member(path, value, key, left_out=None):
     """A member's path and value; the value that stands for it where it is left out."""
-    path = path + "." + key if path else key
-    if key not in value and size != 3 and key not in LEFT_OUT:
+    path, left_out = path + "." + key if path else key, LEFT_OUT.get(key, left_out)
+    if key not in value and left_out is None:
         raise Wrong("%s is missing; give it a number" % path)
-    return path, value.get(key, LEFT_OUT.get(key, [0, 0, 0]))
+    return path, value.get(key, left_out)
 
 
 def items(path, value, key, most):
@@ -98,35 +101,49 @@ def double(path, x):
     return struct.pack(">d", x)
 
 
-def doubles(path, value, form):
-    packed = b""
-    for key, size in form:
-        here, x = member(path, value, key, size)
-        if size == 3 and not (isinstance(x, list) and len(x) == 3):
-            raise Wrong("%s: give three numbers, as in [0, 0, -9.81]" % here)
-        packed += b"".join(double("%s[%d]" % (here, k), y) for k, y in enumerate(x)) if size == 3 else double(here, x)
-    return packed
+def vector(path, xs, version):
+    """The doubles of a vector, one for each axis that the version has."""
+    axes = VERSIONS[version].axes
+    if not isinstance(xs, list) or len(xs) != len(axes):
+        words, example = IN_WORDS[len(axes)], [0] * (len(axes) - 1) + [-9.81]
+        others = [str(other) for other, form in VERSIONS.items()
+                  if isinstance(xs, list) and len(form.axes) == len(xs)]
+        raise Wrong("%s: version %d has %s axes: give %s numbers, as in %s"
+                    % (path, version, words, words, example)
+                    + ("; for %s axes set version to %s" % (IN_WORDS[len(xs)], either(others))
+                       if others else ""))
+    return b"".join(double("%s[%d]" % (path, k), x) for k, x in enumerate(xs))
 
 
-def contact(path, value, model, form):
+def doubles(path, value, form, version):
+    zero = [0] * len(VERSIONS[version].axes)
+    return b"".join(vector(*member(path, value, key, zero), version) if is_vector
+                    else double(*member(path, value, key)) for key, is_vector in form)
+
+
+def contact(path, value, version, model, form):
     members(path, value, [model, "particle"] + [key for key, _ in form])
     name = whole(*member(path, value, model), 15) << 12 | whole(*member(path, value, "particle"), NAMED)
-    return struct.pack(">H", name) + doubles(path, value, form)
+    return struct.pack(">H", name) + doubles(path, value, form, version)
 
 
-def particle(path, value, form, words):
+def particle(path, value, version, form, words):
     members(path, value, [key for key, _ in form] + [key_of(word) for word in words])
-    lists = [[contact(*item, *CONTACT[word]) for item in items(path, value, key_of(word), CONTACTS)] for word in words]
-    return doubles(path, value, form) + bytes(map(len, lists)) + b"".join(itertools.chain(*lists))
+    lists = [[contact(*item, version, *CONTACT[word])
+              for item in items(path, value, key_of(word), CONTACTS)] for word in words]
+    return (doubles(path, value, form, version) + bytes(map(len, lists))
+            + b"".join(itertools.chain(*lists)))
 
 
-def fluid(path, value):
+def fluid(path, value, version):
     members(path, value, ["rest_density", "particles"])
-    records = [particle(*item, *FLUID_PARTICLE) for item in items(path, value, "particles", PARTICLES)]
-    return struct.pack(">H", len(records)) + doubles(path, value, [("rest_density", 1)]) + b"".join(records)
+    records = [particle(*item, version, *FLUID_PARTICLE)
+               for item in items(path, value, "particles", PARTICLES)]
+    return (struct.pack(">H", len(records)) + doubles(path, value, REST_DENSITY, version)
+            + b"".join(records))
 
 
-def wall(path, value):
+def wall(path, value, version):
     members(path, value, ["keeps_forces", "particles"])
     here, keeps = member(path, value, "keeps_forces")
     if not isinstance(keeps, bool):
@@ -136,7 +153,7 @@ def wall(path, value):
         if isinstance(p, dict) and "force" in p and not keeps:
             raise Wrong("%s: a force has no place in a wall that keeps none; take it out, or set %s to true"
                         % (item, here))
-    records = b"".join(particle(*item, *WALL_PARTICLE[keeps]) for item in found)
+    records = b"".join(particle(*item, version, *WALL_PARTICLE[keeps]) for item in found)
     return struct.pack(">H", keeps << 15 | len(found)) + records
 
 
@@ -151,16 +168,16 @@ def chosen(path, value, words):
 
 
 def version_and_rule(scene):
-    """Where a scene's JSON names a part of a rule alone, the version is the one that has every rule;
-    where it names none, they are 1 and 0, as ever. A summation that is left out is in order, as in
-    all scenes of version 2 from before there was another."""
-    newest, stoppings = max(VERSIONS), quoted(RULE["stopping"])
-    version = chosen("version", scene.get("version", newest if any(key in scene for key in RULE) else 1), VERSIONS)
+    """Where a scene's JSON names a part of a rule and no version, that is 2, of three axes and
+    with every rule; where it names neither, they are 1 and 0, as ever. A summation that is left
+    out is in order, as in all scenes of version 2 from before there was another."""
+    left_out, stoppings = RULED if RULE.keys() & scene.keys() else PLAIN, quoted(RULE["stopping"])
+    version = chosen("version", scene.get("version", left_out), VERSIONS)
     rule = tuple(chosen(key, scene.get(key, words[0]), words) for key, words in RULE.items())
-    for key, word, there in zip(RULE, rule, zip(*VERSIONS[version])):
+    for key, word, there in zip(RULE, rule, zip(*VERSIONS[version].rules)):
         if word not in there:
             raise Wrong('%s: "%s" is none of version %d, which has %s; set version to %d, or leave the version out%s'
-                        % (key, word, version, quoted(dict.fromkeys(there)), newest,
+                        % (key, word, version, quoted(dict.fromkeys(there)), RULED,
                            "" if "stopping" in scene else ", and give a stopping, " + stoppings))
     if version != 1 and "stopping" not in scene:
         raise Wrong("stopping is missing, and %s does not tell it; give %s"
@@ -181,7 +198,8 @@ def pack(text):
     fluids, walls = items("", scene, "fluids", MODELS), items("", scene, "walls", MODELS)
     data = bytes([version << 4 | len(fluids), len(walls) << 4 | rule]
                  + [whole(*member("", scene, key), 255) for key in ("least_iterations", "most_iterations")])
-    data += doubles("", scene, HEADER) + b"".join([fluid(*f) for f in fluids] + [wall(*w) for w in walls])
+    data += doubles("", scene, HEADER, version)
+    data += b"".join([fluid(*f, version) for f in fluids] + [wall(*w, version) for w in walls])
     notes = ["it is packed, but a step refuses it: " + line for line in told(Walk(data).faults[:1])]
     if len(data) > LONGEST:
         notes.append("it has %d bytes, and the program takes %d; leave out particles or contacts, or call the library"

@@ -8,17 +8,26 @@ from commands import counted, either
 MODELS, PARTICLES, NAMED, CONTACTS = 8, 4096, 4095, 255
 # What a rule names: by which error iterations stop, and how that error's terms are added up.
 RULE = {"stopping": ("salva", "ihmsen2014"), "summation": ("in order", "by halves")}
-# Those of each version: rule 0 comes first.
 RULES = [(stopping, summation) for summation in RULE["summation"] for stopping in RULE["stopping"]]
-VERSIONS = {1: RULES[:1], 2: RULES}
-HEADER = [("step_length", 1), ("remaining_time", 1), ("error_limit", 1), ("gravity", 3)]
-FLUID_PARTICLE = ([("position", 3), ("velocity", 3), ("acceleration", 3), ("volume", 1), ("warm_pressure", 1)],
+# Of each version the axes of its vectors, which nothing else tells, and its rules from 0 on.
+VERSIONS = {1: Record(axes="xyz", rules=RULES[:1]), 2: Record(axes="xyz", rules=RULES),
+            4: Record(axes="xy", rules=RULES)}
+IN_WORDS = {2: "two", 3: "three"}
+# Doubles: their name, and whether it is one or a vector, which has one for each axis.
+NUMBER, VECTOR = False, True
+HEADER = [("step_length", NUMBER), ("remaining_time", NUMBER), ("error_limit", NUMBER),
+          ("gravity", VECTOR)]
+REST_DENSITY = [("rest_density", NUMBER)]
+FLUID_PARTICLE = ([("position", VECTOR), ("velocity", VECTOR), ("acceleration", VECTOR),
+                   ("volume", NUMBER), ("warm_pressure", NUMBER)],
                   ["fluid contact", "wall contact"])
 # Without and with forces.
-WALL_PARTICLE = ([("velocity", 3)], ["contact"]), ([("velocity", 3), ("force", 3)], ["contact"])
+WALL_PARTICLE = (([("velocity", VECTOR)], ["contact"]),
+                 ([("velocity", VECTOR), ("force", VECTOR)], ["contact"]))
 # A contact's word, what it names, its doubles.
-CONTACT = {"fluid contact": ("fluid", [("weight", 1), ("gradient", 3)]),
-           "wall contact": ("wall", [("weight", 1), ("gradient", 3)]), "contact": ("wall", [("weight", 1)])}
+CONTACT = {"fluid contact": ("fluid", [("weight", NUMBER), ("gradient", VECTOR)]),
+           "wall contact": ("wall", [("weight", NUMBER), ("gradient", VECTOR)]),
+           "contact": ("wall", [("weight", NUMBER)])}
 
 
 def key_of(word): return word.replace(" ", "_") + "s"
@@ -34,7 +43,8 @@ class Walk:
     its `parts` what it adds to the owner's JSON. `lists`: the contact lists, each with the offset
     of its first contact or, where it has none, of what follows. `faults`: what a step refuses, as
     number, offset and text: the first of them is its answer, unless that is 8, 9 or 10. `end`:
-    where the last field ends.
+    where the last field ends. `axes`: those of the version, or of version 1 if there is no such
+    version.
     """
 
     def __init__(self, data):
@@ -66,11 +76,11 @@ class Walk:
         return n
 
     def doubles(self, owner, form):
-        for key, size in form:
-            for axis in ["", " x", " y", " z"][size // 2:][:size]:
-                field, _ = self.number(owner, key.replace("_", " ") + axis, 8)
+        for key, vector in form:
+            for axis in self.axes if vector else [""]:
+                field, _ = self.number(owner, (key.replace("_", " ") + " " + axis).strip(), 8)
                 x, digits = struct.unpack(">d", field.raw)[0], field.raw.hex().upper()
-                field.axis, field.parts, field.text = size == 3, {key: x}, repr(x)
+                field.axis, field.parts, field.text = vector, {key: x}, repr(x)
                 if not math.isfinite(x):
                     kind = "not a number" if math.isnan(x) else "infinite"
                     field.parts, field.text = {key: digits}, "%s (%s)" % (digits, kind)
@@ -80,6 +90,7 @@ class Walk:
     def scene(self):
         first = self.whole((), "version and fluids", 1, lambda n: "version %d, %s" % (n >> 4, counted(n & 15, "fluid")),
                            lambda n: {"version": n >> 4})
+        self.axes = VERSIONS.get(first >> 4, VERSIONS[1]).axes
         if first >> 4 not in VERSIONS:
             self.fault(2, 0, "the version is %d, not %s; is this a packed scene? tools/scene.py pack makes one from "
                        "JSON" % (first >> 4, either(map(str, VERSIONS))))
@@ -91,7 +102,7 @@ class Walk:
         self.doubles((), HEADER)
         for owner in [(("fluid", m),) for m in range(first & 15)]:
             count = self.count(owner, 0xFFFF)
-            self.doubles(owner, [("rest_density", 1)])
+            self.doubles(owner, REST_DENSITY)
             self.particles(owner, count, *FLUID_PARTICLE)
         for owner in [(("wall", m),) for m in range(second >> 4)]:
             count = self.count(owner, 0x7FFF, lambda n: {"keeps_forces": n > 0x7FFF})
@@ -100,7 +111,7 @@ class Walk:
     def walls_and_rule(self, first):
         """Byte 1. What its last four bits may be hangs on the version in byte 0, which is `first`;
         version 1 has a single rule, so its JSON and its text name none."""
-        version, rules = first >> 4, VERSIONS.get(first >> 4, [])
+        version, rules = first >> 4, VERSIONS[first >> 4].rules if first >> 4 in VERSIONS else []
 
         def text(n):
             return counted(n >> 4, "wall") + (", " + titled_rule(n & 15, rules) if version != 1 or n & 15 else "")
@@ -113,7 +124,8 @@ class Walk:
         if rules and both & 15 >= len(rules):
             ways = ["%02X hex for %s" % (both & 0xF0 | k, titled_rule(k, rules)) for k in range(len(rules))]
             others = ["; or put %02X hex at byte 0 for version %d, which has it" % (other << 4 | first & 15, other)
-                      for other in VERSIONS if both & 15 < len(VERSIONS[other])]
+                      for other, form in VERSIONS.items()
+                      if form.axes == self.axes and both & 15 < len(form.rules)]
             self.fault(2, 1, "rule %d, the last four bits of byte 1, is none of version %d; put there %s"
                        % (both & 15, version, either(ways) + "".join(others)))
         return both
