@@ -10,8 +10,8 @@ pub const PLANE: u8 = 2;
 
 pub const SPACE: u8 = 3;
 
-// A vector of the plane or of space. In the plane its z is anything, and what comes of it is looked at nowhere: with z = 0
-// and sums over all three, 0 × infinity and -0 + 0 would show.
+// A vector of the plane or of space. In the plane its z is anything, and what comes of it is looked at nowhere: with a
+// z of 0 and sums over all three, 0 × infinity and -0 + 0 would show.
 pub struct Vec3 {
     pub x: f64,
     pub y: f64,
