@@ -1,6 +1,8 @@
 // Checks each packed scene of the list data/scenes and prints a line for it: the verdict and, one after the other, the
 // looks at each contact list that is checked, up to and with the one that is refused. Both the list and the expected
 // lines come from checks/cases_check.py.
+#![tactic(auto)]
+
 ghost use Rattle.std.specs.Prelude.{◌≤◌, ◌≡◌};
 ghost use Rattle.cases_list.specs.Next.{FromNext};
 ghost use Rattle.scene_check.specs.Check.{verdict_of};
@@ -35,7 +37,7 @@ fn print_verdict(verdict: Verdict) -> usize
 }
 
 // How a turn through contact lists ends: they are passed, there are none there, or one is refused.
-#[derive(Drop)]
+#[derive(Clone, Copy)]
 enum Turn {
     Passed,
     Absent,
@@ -141,7 +143,7 @@ fn print_check(s: &[u8]) -> usize
 }
 
 // What comes of the next scene: no line, or one with this number first.
-#[derive(Drop)]
+#[derive(Clone, Copy)]
 enum Line {
     Nothing,
     Number(usize),

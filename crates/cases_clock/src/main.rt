@@ -1,5 +1,7 @@
 // Keeps a clock over steps on the scenes in data/, some of which are refused, and writes it after each. The expected
 // lines come from checks/cases_clock.py.
+#![tactic(auto)]
+
 ghost use Rattle.std.specs.Prelude.{◌≡◌};
 ghost use Rattle.math.specs.Real.{bits_of};
 ghost use Rattle.cases_clock.specs.Kept.{Keeps, FromScene};

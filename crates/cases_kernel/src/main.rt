@@ -1,5 +1,7 @@
 // Runs the kernel and the clock on cases with known bits and prints what they answer, a line for each call. The
 // expected lines were worked out with exact fractions (checks/cases_kernel.py).
+#![tactic(auto)]
+
 mod cases;
 
 ghost use Rattle.std.specs.Prelude.{◌≡◌, ltb};
@@ -59,7 +61,7 @@ fn print_kernel(name: &[u8], r: f64, h: f64, a: KernelAnswer) -> u64
 }
 
 // What the lines of weight and slope show.
-#[derive(Drop)]
+#[derive(Clone, Copy)]
 struct Shown {
     weight: u64,
     slope: u64,

@@ -1,5 +1,7 @@
 // Reads a list of packed scenes, one after the other: of each its length in four bytes, the most significant first, and
 // its bytes. No contract can say what is read.
+#![tactic(auto)]
+
 ghost use Rattle.std.specs.Prelude.{length};
 ghost use Rattle.cases_list.specs.Next.{Fits};
 
@@ -7,7 +9,7 @@ use scene_format::read::be16;
 
 // What comes next: a scene of so many bytes, or nothing, where the list ends, or where a scene is cut short or too long
 // to be kept.
-#[derive(Drop)]
+#[derive(Clone, Copy)]
 pub enum Next {
     Scene(usize),
     Nothing,

@@ -1,4 +1,6 @@
 // Lists that are full of a mark, to see whether a call has written to them.
+#![tactic(auto)]
+
 ghost use Rattle.std.specs.Prelude.{◌≤◌, ◌≡◌, length};
 ghost use Rattle.cases_marks.specs.Marks.{other, others};
 

@@ -2,6 +2,8 @@
 // work list one too short, and with both just long enough; then on the one in data/by_halves, the same scene summed by
 // halves, with a work list of the length that was enough, and with one a double longer. It writes the texts. The lists
 // are full of a mark before; refusal 8 leaves it, and a line tells if an element is another.
+#![tactic(auto)]
+
 ghost use Rattle.cases_short_lists.specs.Printed.{Prints};
 
 use cases_marks::{MARK, print_others};

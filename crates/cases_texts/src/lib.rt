@@ -1,4 +1,6 @@
 // Writes the text of each packed scene of a list, one after the other.
+#![tactic(auto)]
+
 ghost use Rattle.std.specs.Prelude.{◌≤◌};
 ghost use Rattle.cases_list.specs.Next.{FromNext};
 ghost use Rattle.cases_texts.specs.Written.{room, written};

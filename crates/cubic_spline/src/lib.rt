@@ -1,5 +1,7 @@
 // The cubic spline smoothing kernel (cubic_spline_kernel.rs), in two and three dimensions and doubles.
 // Every operation rounds once, in the order written; nothing is reassociated.
+#![tactic(auto)]
+
 ghost use Rattle.std.specs.Prelude.{◌≡◌, ◌&&◌};
 ghost use Rattle.std.specs.Float.Ieee.Scale.{finite};
 ghost use Rattle.cubic_spline.specs.Normalizer as Normalizer;
@@ -11,20 +13,20 @@ ghost use Rattle.cubic_spline.specs.Apply.{ApplyPromise};
 const PI: f64 = 3.141592653589793;
 
 // How many axes a particle moves along.
-#[derive(Drop)]
+#[derive(Clone, Copy)]
 pub enum Dimension {
     Two,
     Three,
 }
 
 // The argument that is turned down: refusal 11, the distance, and refusal 12, the radius.
-#[derive(Drop)]
+#[derive(Clone, Copy)]
 pub enum KernelRefusal {
     Distance,
     Radius,
 }
 
-#[derive(Drop)]
+#[derive(Clone, Copy)]
 pub enum KernelAnswer {
     Value(f64),
     Refused(KernelRefusal),

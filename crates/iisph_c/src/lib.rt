@@ -1,4 +1,6 @@
 // The C interface (include/iisph.h). A slice is a pointer and a length.
+#![tactic(auto)]
+
 ghost use Rattle.std.specs.Prelude.{◌≡◌, ◌≤◌, length};
 ghost use Rattle.cubic_spline.specs.Shape.{weight, slope};
 ghost use Rattle.cubic_spline.specs.declared.Dimension.TheVariants.{Two, Three};

@@ -1,5 +1,7 @@
 // The C interface to the table of the weight shape (include/iisph.h). It makes an archive of its own, which a board's
 // tests take without the solver.
+#![tactic(auto)]
+
 ghost use Rattle.weight_table.specs.Lookup.{LookupPromise};
 
 // The weight shape at q, in units of 2^-20, as the board looks it up: in units of 2^-30.

@@ -1,5 +1,7 @@
 // The C interface to the check of one contact list (include/iisph.h). It makes an archive of its own, so that what a
 // step runs through has no caller beside the step: see docs/DECISIONS.md.
+#![tactic(auto)]
+
 ghost use Rattle.std.specs.Prelude.{◌≡◌, ◌≤◌, length};
 ghost use Rattle.iisph_c_lists.specs.Lists.{list_asked, looked_code, looked_counts, list_code, list_counts};
 ghost use Rattle.iisph_c_lists.specs.Lists.{ListTo};

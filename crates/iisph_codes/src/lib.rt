@@ -1,5 +1,7 @@
 // What the C interface writes of an answer, and the number that it returns with it. What is public here is for the
 // crate of that interface, which shows what each function asks: the lent lists have room.
+#![tactic(auto)]
+
 ghost use Rattle.std.specs.Prelude.{◌≡◌, [], ◌∷◌, ◌≤◌, length, set};
 ghost use Rattle.std.proofs.lemmas.List.Edits.{sets};
 ghost use Rattle.cubic_spline.specs.Shape.{weight, slope};

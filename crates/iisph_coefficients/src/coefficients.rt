@@ -20,14 +20,14 @@ use scene_format::{Kind, read};
 use scene_index::contacts::{ContactList, contacts_of};
 
 // The density, and delta of METHOD 5.4, summed up to some contact.
-#[derive(Drop)]
+#[derive(Clone, Copy)]
 pub struct Sums {
     pub density: f64,
     pub delta: f64,
 }
 
 // The coefficients of one particle.
-#[derive(Drop)]
+#[derive(Clone, Copy)]
 pub struct CoefficientsOf {
     pub density: f64,
     pub predicted_density: f64,

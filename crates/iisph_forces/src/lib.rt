@@ -2,6 +2,8 @@
 // forces, its force with what the contacts of the fluid particles add. Its public function is for the crate of the
 // step, which shows what it asks: an accepted scene with its index and layout, and a work list that holds the last
 // pressures.
+#![tactic(auto)]
+
 mod gather;
 mod initial_forces;
 

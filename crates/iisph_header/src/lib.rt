@@ -1,5 +1,7 @@
 // The header of an accepted scene, decoded once for a whole step. `step_header` is for the crates above, which show
 // that the scene passed the check.
+#![tactic(auto)]
+
 ghost use Rattle.std.specs.Prelude.{◌≡◌, length};
 ghost use Rattle.scene_check.specs.Walk.{checked};
 ghost use Rattle.scene_format.specs.SceneOf.{scene_of};
@@ -13,7 +15,7 @@ use scene_format::read;
 use timestep_manager::{Clock, advance};
 
 // When the iterations stop.
-#[derive(Drop)]
+#[derive(Clone, Copy)]
 pub struct Stopping {
     pub min_pressure_iter: usize,
     pub max_pressure_iter: usize,
@@ -21,7 +23,7 @@ pub struct Stopping {
 }
 
 // The clock, advanced by the whole step; gravity; and when the iterations stop.
-#[derive(Drop)]
+#[derive(Clone, Copy)]
 pub struct StepHeader {
     pub clock: Clock,
     pub gravity: Vec3,

@@ -17,7 +17,7 @@ use math::Vec3;
 use scene_layout::Layout;
 
 // How many iterations were carried out, and how they ended.
-#[derive(Drop)]
+#[derive(Clone, Copy)]
 pub struct Solved {
     pub iterations: u32,
     pub ending: Ending,

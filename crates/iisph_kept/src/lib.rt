@@ -1,4 +1,6 @@
 // A step for callers that keep a clock, as the Rust's caller keeps its TimestepManager.
+#![tactic(auto)]
+
 ghost use Rattle.std.specs.Prelude.{◌≡◌};
 ghost use Rattle.iisph_rules.specs.Answer.{is_done};
 ghost use Rattle.iisph_lent.specs.Step.{Steps};

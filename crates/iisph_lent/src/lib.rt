@@ -1,6 +1,8 @@
 // One pressure step (the Rust's compute_densities and step) that is lent its index: refusals 1 to 10, the iterations,
 // then answers and forces. `step_lent` asks nothing of its caller; what else is public is for callers that have checked
 // the scene, and show so.
+#![tactic(auto)]
+
 ghost use Rattle.std.specs.Prelude.{◌≡◌, ◌≤◌, length};
 ghost use Rattle.iisph_header.specs.Header.{StepHeaderIs};
 ghost use Rattle.iisph_pressures.specs.IterationRows.{IterationReady};
@@ -29,7 +31,7 @@ use scene_layout::Layout;
 use scene_lengths::lengths_of;
 
 // What a step answers that is lent its index.
-#[derive(Drop)]
+#[derive(Clone, Copy)]
 pub enum LentAnswer {
     Answered(StepAnswer),
     // The index is too short; the scene needs one of this length.

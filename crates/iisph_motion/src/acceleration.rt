@@ -17,7 +17,7 @@ use scene_index::contacts::target_of;
 use scene_index::records::head_of;
 
 // Of one fluid particle: the rest density of its fluid, p, rho × rho and m.
-#[derive(Drop)]
+#[derive(Clone, Copy)]
 pub struct PressureState {
     pub density0: f64,
     pub pressure: f64,

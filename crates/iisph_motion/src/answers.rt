@@ -21,7 +21,7 @@ use scene_index::records::record_of;
 use scene_lengths::fluid_answer_width;
 
 // Where a particle is, and how it moves.
-#[derive(Drop)]
+#[derive(Clone, Copy)]
 pub struct Motion {
     pub position: Vec3,
     pub velocity: Vec3,

@@ -2,6 +2,8 @@
 // update_velocities_and_positions of the Rust. From the last pressures come velocity changes over the contacts, then
 // velocities, positions and the answers. Its public functions are for the crate of the step, which shows what they ask:
 // an accepted scene with its index, and a work list that holds what earlier passes stored.
+#![tactic(auto)]
+
 pub mod acceleration;
 pub mod answers;
 mod changes;

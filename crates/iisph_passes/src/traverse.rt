@@ -20,7 +20,7 @@ use iisph_rows::rows::{
 use math::Vec3;
 
 // What is stored of every particle.
-#[derive(Drop)]
+#[derive(Clone, Copy)]
 pub enum Pass {
     // Fluid::particle_mass; predict_advection, integrate_and_clear_accelerations.
     Advection,

@@ -1,6 +1,8 @@
 // What a step does before its iterations, on an accepted scene (METHOD 4 and 5): the index, boundary volumes, masses,
 // advected velocities, coefficients and first pressures, then refusals 9 and 10, each over all particles. `prepare` is
 // for the crates of the step and of the validation, which show what it asks: a checked scene, its header and room.
+#![tactic(auto)]
+
 ghost use Rattle.std.specs.Prelude.{◌≡◌, ℕ, ◌≤◌, length};
 ghost use Rattle.iisph_header.specs.Header.{StepHeaderIs};
 ghost use Rattle.iisph_rows.specs.Passes.{PassOver, DrivenPass, Room, volumes};
@@ -29,7 +31,7 @@ use scene_layout::Layout;
 use scene_lengths::lengths_of;
 
 // Whether the iterations can begin.
-#[derive(Drop)]
+#[derive(Clone, Copy)]
 pub enum Readiness {
     Ready,
     Refused(Refusal),

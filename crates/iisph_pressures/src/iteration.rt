@@ -27,7 +27,7 @@ use scene_format::{Criterion, Kind, read};
 use scene_index::contacts::{ContactList, contacts_of, target_of};
 
 // What the fluid terms of a pressure sum take of the particle itself: its dij_pjl, e of METHOD 5.6, and its pressure.
-#[derive(Drop)]
+#[derive(Clone, Copy)]
 pub struct Owner {
     pub dij: Vec3,
     pub factor: f64,
@@ -35,7 +35,7 @@ pub struct Owner {
 }
 
 // A next pressure with its error term.
-#[derive(Drop)]
+#[derive(Clone, Copy)]
 pub struct Next {
     pub pressure: f64,
     pub term: f64,

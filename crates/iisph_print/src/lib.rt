@@ -1,5 +1,7 @@
 // Writes the text of a packed scene to standard output: of bytes that are at hand, or that are read from a file. No
 // contract can say what is read or written, so they tell how much is written.
+#![tactic(auto)]
+
 ghost use Rattle.std.specs.Prelude.{◌≡◌, length};
 ghost use Rattle.iisph_text.specs.Text.{text_of};
 ghost use Rattle.iisph_print.specs.Printed.{FromInput};

@@ -9,7 +9,7 @@ ghost use Rattle.iisph_rows.specs.Rows.{volumes_at, column};
 use math::is_zero;
 
 // The number of a fluid particle, or none.
-#[derive(Drop)]
+#[derive(Clone, Copy)]
 pub enum Found {
     At(usize),
     Nothing,

@@ -6,7 +6,7 @@ use crate::Ending;
 
 // The number of an ending, 0 for one without iterations; the last iteration's error, +0 where there was none; and 1
 // where an average was passed over in it, else 0.
-#[derive(Drop)]
+#[derive(Clone, Copy)]
 pub struct Told {
     pub number: u64,
     pub error: f64,

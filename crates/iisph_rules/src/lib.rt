@@ -1,11 +1,13 @@
 // One IISPH pressure step over a packed scene (iisph_solver.rs): what it reports and answers.
+#![tactic(auto)]
+
 pub mod endings;
 
 use scene_format::Refusal;
 use timestep_manager::Clock;
 
 // The error of an iteration (METHOD 6.4), and whether an average was not a number and was passed over.
-#[derive(Drop)]
+#[derive(Clone, Copy)]
 pub struct IterationError {
     pub value: f64,
     pub passed_over: bool,
@@ -18,7 +20,7 @@ pub const NO_ERROR: IterationError = IterationError {
 };
 
 // How the iterations ended (METHOD 7.1), with the last one's error and whether an average was passed over in it.
-#[derive(Drop)]
+#[derive(Clone, Copy)]
 pub enum Ending {
     // There were none.
     Unswept,
@@ -29,14 +31,14 @@ pub enum Ending {
 }
 
 // What a step that is not refused reports beside the answer list.
-#[derive(Drop)]
+#[derive(Clone, Copy)]
 pub struct Report {
     pub clock: Clock,
     pub iterations: u32,
     pub ending: Ending,
 }
 
-#[derive(Drop)]
+#[derive(Clone, Copy)]
 pub enum StepAnswer {
     Done(Report),
     Refused(Refusal),

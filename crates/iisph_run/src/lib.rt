@@ -1,4 +1,6 @@
 // What the program writes for any bytes (FORMAT 4), into a list that is lent.
+#![tactic(auto)]
+
 ghost use Rattle.std.specs.Prelude.{length};
 ghost use Rattle.lists.specs.Stores.{Writes};
 ghost use Rattle.iisph_text.specs.Run.{text_in, Runs};

@@ -1,5 +1,7 @@
 // The text of a packed scene that is short enough (FORMAT 4). `put_scene` is for the crate that runs the program on all
 // scenes, and shows that there is room.
+#![tactic(auto)]
+
 ghost use Rattle.std.specs.Prelude.{◌++◌, ◌≤◌, length};
 ghost use Rattle.iisph_lines.specs.Lines.{step_line, clock_line, particles_text};
 ghost use Rattle.lists.specs.Stores.{Writes};

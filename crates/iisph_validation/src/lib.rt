@@ -1,5 +1,7 @@
 // What is said of a scene without solving it: whether a step on it would be refused, but for the length of the answer
 // list. `validate` asks nothing of its caller.
+#![tactic(auto)]
+
 ghost use Rattle.std.specs.Prelude.{◌≤◌, length};
 ghost use Rattle.scene_check.specs.Check.{Passed};
 ghost use Rattle.scene_format.specs.SceneOf.{scene_of};

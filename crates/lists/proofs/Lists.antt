@@ -49,8 +49,9 @@ module _ {A B : Type 0} where
       → a ≡ b → fold f a xs ≡ fold g b xs
   unfolding fold
   fold_same [] h q = q
-  fold_same {g = g} (x ∷ xs) h q =
-      fold_same xs (λ y m. h y (Memᴰ.tail m)) (h x (Memᴰ.head refl) _ ∙ ap (λ c. g c x) q)
+  fold_same {f = f} {g = g} {a = a} {b = b} (x ∷ xs) h q =
+      fold_same {f = f} {g = g} {a = f a x} {b = g b x} xs (λ y m. h y (Memᴰ.tail m))
+      (h x (Memᴰ.head refl) a ∙ ap (λ c. g c x) q)
 
 -- ---- tables by their values
 
@@ -69,6 +70,7 @@ pub record InTable {A : Type 0} (n : ℕ) (f : ℕ → A) (x : A) : Type 0 where
 
 pub in_table : {A : Type 0} (n : ℕ) (f : ℕ → A) {x : A} → Memᴰ x (table n f) → InTable n f x
 unfolding table
+in_table zero f m = elim m [ ]
 in_table (suc n) f (Memᴰ.head e) = record { index = 0; below = omega arith; value = e }
 in_table (suc n) f (Memᴰ.tail m) =
     let r = in_table n (λ k. f (suc k)) m in

@@ -1,1 +1,2 @@
 // No code: what every crate says of lists and may use of them stands in specs/ and proofs/.
+#![tactic(auto)]

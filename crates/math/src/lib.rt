@@ -1,5 +1,7 @@
 // Vectors by value and small functions on doubles: what the solver uses of nalgebra and of `f64`.
 // Every operation rounds once, in the order written; nothing is reassociated.
+#![tactic(auto)]
+
 ghost use Rattle.std.specs.Prelude.{◌≡◌, ℕ, ◌≤◌};
 ghost use Rattle.math.specs.Real as Real;
 ghost use Rattle.math.specs.Vector.{Axes, space, coordinates, origin, ◌⊞◌, ◌⊟◌, ◌⊡◌, ◌·◌};
@@ -11,7 +13,7 @@ pub const SPACE: u8 = 3;
 
 // A vector of the plane or of space. In the plane its z is anything, and what comes of it is looked at nowhere: with a
 // z of 0 and sums over all three, 0 × infinity and -0 + 0 would show.
-#[derive(Drop)]
+#[derive(Clone, Copy)]
 pub struct Vec3 {
     pub x: f64,
     pub y: f64,

@@ -10,7 +10,7 @@ use scene_format::format::NAMEABLE_MODELS;
 use scene_format::{Refusal, Walk};
 
 // How a walk through a list ended, and how many looks at its contacts it took.
-#[derive(Drop)]
+#[derive(Clone, Copy)]
 pub struct Looked {
     pub walk: Walk,
     pub looks: usize,

@@ -1,4 +1,6 @@
 // The check of a packed scene (FORMAT 2): refusals 1 to 7, and where the models of an accepted scene stand.
+#![tactic(auto)]
+
 pub mod contact_list;
 mod look;
 pub mod walk_names;
@@ -13,14 +15,14 @@ use scene_layout::{Layout, Models, layout_of};
 use scene_walk::fields;
 
 // The verdict of a check.
-#[derive(Drop)]
+#[derive(Clone, Copy)]
 pub enum Verdict {
     Accepted,
     Refused(Refusal),
 }
 
 // The verdict, and the layout of an accepted scene. That of a refused one is all 0.
-#[derive(Drop)]
+#[derive(Clone, Copy)]
 pub struct Checked {
     pub verdict: Verdict,
     pub layout: Layout,

@@ -7,7 +7,7 @@ use scene_format::ContactName;
 use scene_format::read::contact_name;
 
 // What a look finds, and how many looks there were with it.
-#[derive(Drop)]
+#[derive(Clone, Copy)]
 pub struct Seen {
     pub name: ContactName,
     pub looks: usize,

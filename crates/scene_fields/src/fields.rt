@@ -70,7 +70,7 @@ pub fn count(s: &[u8], kind: Kind, at: usize) -> Walk
 }
 
 // The rule of half a byte: it is a version that is known, or a rule of at most some number, or a number of models.
-#[derive(Drop)]
+#[derive(Clone, Copy)]
 pub enum Half {
     Version,
     Rule(usize),

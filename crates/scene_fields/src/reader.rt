@@ -10,7 +10,7 @@ use scene_format::format::TOTAL_STEP_SIZE;
 use scene_format::{Refusal, Walk, read};
 
 // What a read of a double finds: the double, or its refusal.
-#[derive(Drop)]
+#[derive(Clone, Copy)]
 pub enum DoubleRead {
     Value(f64),
     Refused(Refusal),
@@ -37,7 +37,7 @@ fn behind_double(s: &[u8], at: usize) -> usize
 }
 
 // A scene, and where the next field stands.
-#[derive(Drop)]
+#[derive(Clone, Copy)]
 pub struct Reader<'a> {
     pub scene: &'a [u8],
     pub at: usize,
@@ -71,7 +71,7 @@ impl<'a> Reader<'a> {
 }
 
 // The three doubles of the header that stand by themselves.
-#[derive(Drop)]
+#[derive(Clone, Copy)]
 pub struct HeaderNumbers {
     pub total_step_size: f64,
     pub remaining_time: f64,
@@ -79,7 +79,7 @@ pub struct HeaderNumbers {
 }
 
 // What a read of them finds: the numbers, or the refusal of the first that is refused.
-#[derive(Drop)]
+#[derive(Clone, Copy)]
 pub enum HeaderRead {
     Numbers(HeaderNumbers),
     Refused(Refusal),

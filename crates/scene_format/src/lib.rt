@@ -1,4 +1,6 @@
 // A packed scene (FORMAT 1): where each field stands, the reads of a solver, and the refusals of FORMAT 2.1.
+#![tactic(auto)]
+
 pub mod format;
 pub mod read;
 
@@ -6,7 +8,7 @@ ghost use Rattle.std.specs.Prelude.{◌≡◌};
 ghost use Rattle.scene_format.specs.Refusals.{number_of, place_of};
 
 // Why a packed scene is refused, and at which offset (FORMAT 2.1).
-#[derive(Drop)]
+#[derive(Clone, Copy)]
 pub enum Refusal {
     // 1: a field is not wholly there.
     MissingField(usize),
@@ -67,43 +69,43 @@ pub fn place(refusal: Refusal) -> usize
 }
 
 // How far a walk over the fields has come, or why the scene is refused.
-#[derive(Drop)]
+#[derive(Clone, Copy)]
 pub enum Walk {
     At(usize),
     Refused(Refusal),
 }
 
 // The two kinds of models. A boundary is the customer's wall.
-#[derive(Drop)]
+#[derive(Clone, Copy)]
 pub enum Kind {
     Fluid,
     Boundary,
 }
 
 // By which error the iterations stop (METHOD 6.4): the Rust's, or that of Ihmsen et al. 2014.
-#[derive(Drop)]
+#[derive(Clone, Copy)]
 pub enum Criterion {
     Salva,
     Ihmsen,
 }
 
 // How the error terms of a fluid are summed (METHOD 6.4): one after the other, as the Rust does, or by halves.
-#[derive(Drop)]
+#[derive(Clone, Copy)]
 pub enum Summation {
     InOrder,
     ByHalves,
 }
 
 // The model that a contact names (the Rust's `j_model`).
-#[derive(Drop)]
+#[derive(Clone, Copy)]
 pub struct ModelNumber(pub usize);
 
 // The particle that a contact names, counted within its model (the Rust's `j`).
-#[derive(Drop)]
+#[derive(Clone, Copy)]
 pub struct ParticleNumber(pub usize);
 
 // A contact's name.
-#[derive(Drop)]
+#[derive(Clone, Copy)]
 pub struct ContactName {
     pub model: ModelNumber,
     pub particle: ParticleNumber,

@@ -14,7 +14,7 @@ use scene_format::{Kind, read};
 
 // The contacts of one kind that a fluid particle has: how many there are and where the first stands, with the rest
 // density of the particle's fluid.
-#[derive(Drop)]
+#[derive(Clone, Copy)]
 pub struct ContactList {
     pub density0: f64,
     pub count: usize,

@@ -43,7 +43,7 @@ pub const MIDDLE_INDEX: usize = 4096;
 pub const LONGEST_INDEX: usize = FLUID_BASES + 2 * (MODEL_BLOCKS * MAX_MODELS) + 3 * MAX_OF_A_KIND;
 
 // Where the sections of an index begin, and how long it is.
-#[derive(Drop)]
+#[derive(Clone, Copy)]
 pub struct Sections {
     pub boundary_bases: usize,
     pub records: usize,
@@ -53,7 +53,7 @@ pub struct Sections {
 }
 
 // What the index holds of each record.
-#[derive(Drop)]
+#[derive(Clone, Copy)]
 enum Entry {
     // Its offset.
     Offset,

@@ -1,5 +1,7 @@
 // Where the models of a scene stand, found by stepping over the records. `layout_of` and `record_offset` ask that the
 // scene's fields are accepted, which their callers have from the walk.
+#![tactic(auto)]
+
 ghost use Rattle.std.specs.Prelude.{◌≡◌, ◌≤◌, length};
 ghost use Rattle.scene_format.specs.Format.{model_number, particles_at, model_end, first_head, record_at};
 ghost use Rattle.scene_format.specs.Within.{ModelWithin, ModelsWithin};
@@ -13,7 +15,7 @@ use scene_format::{Kind, Walk};
 // The models of one kind: how many there are and how many particles they have in all; the offset of each head, 0 beyond
 // the last model; and the offset behind the last. What else is asked of a model is read at its head: a layout is handed
 // on by value, so it is kept small.
-#[derive(Drop)]
+#[derive(Clone, Copy)]
 pub struct Models {
     pub number: usize,
     pub total: usize,
@@ -22,7 +24,7 @@ pub struct Models {
 }
 
 // Where the models of an accepted scene stand. The boundaries begin where the fluids end.
-#[derive(Drop)]
+#[derive(Clone, Copy)]
 pub struct Layout {
     pub fluids: Models,
     pub boundaries: Models,

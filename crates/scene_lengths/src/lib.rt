@@ -1,5 +1,7 @@
 // How long the two lists of a step must be, and how many answers a particle has (FORMAT 3). `lengths_needed` asks
 // nothing; `lengths_of` is for the crates above, which show that the scene passed the check.
+#![tactic(auto)]
+
 ghost use Rattle.std.specs.Prelude.{◌≡◌, ◌*◌, ◌≤◌, ◌<◌};
 ghost use Rattle.math.specs.Vector.{space};
 ghost use Rattle.scene_format.specs.Format.{most_of_a_kind};
@@ -37,14 +39,14 @@ pub fn work_width(dim: u8) -> usize
 }
 
 // The length of each list.
-#[derive(Drop)]
+#[derive(Clone, Copy)]
 pub struct Lengths {
     pub answers: usize,
     pub work: usize,
 }
 
 // What a step on a scene needs, or why the scene is refused: 1 to 7.
-#[derive(Drop)]
+#[derive(Clone, Copy)]
 pub enum Needs {
     Lists(Lengths),
     Refused(Refusal),

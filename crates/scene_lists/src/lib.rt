@@ -1,4 +1,6 @@
 // The check of one contact list of a scene for refusal 7, asked for by whose list it is, with the looks that it takes.
+#![tactic(auto)]
+
 ghost use Rattle.std.specs.Prelude.{◌≡◌};
 ghost use Rattle.scene_format.specs.Within.{RecordWithin};
 ghost use Rattle.scene_layout.specs.Layout.{layout_models, layout_of};
@@ -18,7 +20,7 @@ use scene_walk::fields;
 // Whose contacts a list holds, and what they name. A fluid particle has a list of each of the first two, a boundary
 // particle one of the third (the Rust's `fluid_fluid_contacts`, `fluid_boundary_contacts` and
 // `boundary_boundary_contacts`).
-#[derive(Drop)]
+#[derive(Clone, Copy)]
 pub enum Contacts {
     FluidFluid,
     FluidBoundary,
@@ -26,7 +28,7 @@ pub enum Contacts {
 }
 
 // What is answered of a list.
-#[derive(Drop)]
+#[derive(Clone, Copy)]
 pub enum ListAnswer {
     // The walk through it, and the looks at its contacts.
     Checked(Looked),

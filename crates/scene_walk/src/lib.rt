@@ -1,5 +1,7 @@
 // The walk through the fields of a packed scene: refusals 1 to 6. Each function is a step of specs/Walk.antt, and takes
 // any offset; two more look ahead at contacts, by specs/Plainly.antt.
+#![tactic(auto)]
+
 ghost use Rattle.std.specs.Prelude.{◌≡◌, ℕ, ◌+◌, ◌*◌, ◌≤◌, ◌<◌, length};
 ghost use Rattle.scene_fields.specs.Fields.{◌▹◌, times};
 ghost use Rattle.scene_fields.specs.Fields as steps;

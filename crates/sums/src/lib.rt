@@ -1,5 +1,7 @@
 // The sum of a list of doubles by halves, which rounds a term at most log2 n times, rounded up, where a running sum
 // rounds it up to n times (METHOD 6.4).
+#![tactic(auto)]
+
 ghost use Rattle.std.specs.Prelude.{◌≡◌};
 ghost use Rattle.sums.specs.Halves.{sum_by_halves};
 

@@ -1,9 +1,11 @@
 // The clock of a step (timestep_manager.rs), as far as a pressure step uses it.
+#![tactic(auto)]
+
 ghost use Rattle.std.specs.Prelude.{◌≡◌};
 ghost use Rattle.timestep_manager.specs.Clock.{inverse, advanced};
 
 // The doubles of `TimestepManager` that a step moves on.
-#[derive(Drop)]
+#[derive(Clone, Copy)]
 pub struct Clock {
     pub total_step_size: f64,
     pub dt: f64,

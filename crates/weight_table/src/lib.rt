@@ -1,5 +1,7 @@
 // The weight shape as a table of whole numbers, for a board with no floating point (METHOD 1.6). Weights are in units
 // of 2^-30; q, a distance over the radius, is in units of 2^-20.
+#![tactic(auto)]
+
 mod table;
 
 ghost use Rattle.weight_table.specs.Table.{TablePromise};
