@@ -1,0 +1,23 @@
+-- `cases_clock::steps_from` meets its contract: no step changes a clock's step length. Assumes nothing.
+use mathlib.Core.Path.{◌≡◌, refl, ap, ◌∙◌}
+use borrow.Author.Rules.{rules}
+use Rattle.timestep_manager.specs.declared.Clock.{Clock}
+use Rattle.timestep_manager.specs.Clock.{advanced}
+use Rattle.iisph_rules.specs.declared.StepAnswer.{StepAnswer}
+use Rattle.iisph_rules.specs.declared.StepAnswer.TheVariants.{Done, Refused}
+use Rattle.iisph_kept.specs.Kept.{clock_after}
+use Rattle.cases_clock.specs.Kept.{FromScene}
+use Rattle.cases_clock.proofs.steps_from.Goals as goal
+
+length-kept : (a : StepAnswer) (c : Clock) → (clock_after a c).total_step_size ≡ c.total_step_size
+unfolding clock_after advanced
+length-kept (Done r) c = refl
+length-kept (Refused r) c = refl
+
+same : {c c' : Clock} → FromScene c c' → c'.total_step_size ≡ c.total_step_size
+same {c} s = ap (λ (x : Clock). x.total_step_size) s.clock ∙ length-kept _ c
+
+pub returns : goal.returns
+returns c =
+    same c.step_on.ensures ∙ same c.step_on-empty.ensures ∙ same c.step_on-crowd.ensures ∙ same
+    c.step_on-idle.ensures ∙ same c.step_on-b.ensures ∙ same c.step_on-a.ensures ∙ same c.step_on-cut.ensures

@@ -1,0 +1,12 @@
+-- `cases_list::read_scene` meets its contract: a scene came whole, or nothing did. Assumes nothing.
+use borrow.Author.Rules.{rules}
+use Rattle.cases_list.specs.Next.{Fits}
+use Rattle.cases_list.proofs.read_scene.Goals as goal
+
+pub returns-then-read_full-n : goal.returns-then-read_full-n
+unfolding Fits
+returns-then-read_full-n c = tt
+
+pub returns : goal.returns
+unfolding Fits
+returns c = search rules

@@ -1,0 +1,43 @@
+-- `iisph_c::iisph_step_lent` meets its contract: by the lengths of the two small lists; then the step's answer is
+-- written, or the length that its index must have. Assumes nothing.
+use mathlib.Core.Path.{refl}
+use native.Mathlib.Omega.{arith}
+use Rattle.iisph_c.proofs.Calls.{numbers_short_lent, counts_short_lent, answered_to, short_to}
+use Rattle.iisph_c.proofs.Calls.{index_after}
+use borrow.Author.Rules.{rules}
+use Rattle.iisph_c.proofs.iisph_step_lent.Goals as goal
+
+pub returns-then-numbers-lt-NUMBERS : goal.returns-then-numbers-lt-NUMBERS
+returns-then-numbers-lt-NUMBERS c = (numbers_short_lent _ _ _ _ _ _ (omega (arith, c.if-numbers-lt-NUMBERS.true)), λ _. refl)
+
+pub returns-then-counts-lt-COUNTS : goal.returns-then-counts-lt-COUNTS
+returns-then-counts-lt-COUNTS c = (
+  counts_short_lent _ _ _ _ _ _ (omega (arith, c.if-numbers-lt-NUMBERS.false)) (omega (arith, c.if-counts-lt-COUNTS.true)),
+  λ _. refl,
+)
+
+pub write_answer-requires : goal.write_answer-requires
+write_answer-requires c =
+    (omega (arith, c.if-numbers-lt-NUMBERS.left), omega (arith, c.if-counts-lt-COUNTS.left))
+
+pub write_index-requires : goal.write_index-requires
+write_index-requires c =
+    omega (arith, c.if-counts-lt-COUNTS.false)
+
+pub returns-in-Answered : goal.returns-in-Answered
+returns-in-Answered c =
+    let told = c.write_answer.ensures in (
+      answered_to _ _ _ _ _ _ (omega (arith, c.if-numbers-lt-NUMBERS.left)) (omega (arith, c.if-counts-lt-COUNTS.left))
+          c.step_lent.ensures.steps_lent c.in-Answered.is told.0 told.1 told.2,
+      index_after _ c.args.answers.now c.args.work.now _ _ _
+          (omega (arith, c.if-numbers-lt-NUMBERS.left)) (omega (arith, c.if-counts-lt-COUNTS.left)) c.step_lent.ensures.index_after,
+    )
+
+pub returns-in-ShortIndex : goal.returns-in-ShortIndex
+returns-in-ShortIndex c =
+    let told = c.write_index.ensures in (
+      short_to _ _ _ _ _ _ (omega (arith, c.if-numbers-lt-NUMBERS.left)) (omega (arith, c.if-counts-lt-COUNTS.left))
+          c.step_lent.ensures.steps_lent c.in-ShortIndex.is told.0 told.1,
+      index_after _ c.args.answers.now c.args.work.now _ _ _
+          (omega (arith, c.if-numbers-lt-NUMBERS.left)) (omega (arith, c.if-counts-lt-COUNTS.left)) c.step_lent.ensures.index_after,
+    )

@@ -1,0 +1,46 @@
+-- `iisph_forces::boundary_answers` meets its contract: from the forces that the scene has, gathering makes the rules'
+-- forces. Assumes nothing.
+use Prim.Native.Nat.{ℕ, ◌*◌, ◌≤◌}
+use mathlib.Core.Path.{ap, ◌∙◌}
+use mathlib.Core.List.{List}
+use native.Mathlib.Omega.{arith}
+use lib.Ieee.{Float}
+use lib.ListN.{length, replicate, length-replicate}
+use borrow.Author.Rules.{rules}
+use Rattle.scene_format.specs.SceneOf.{scene_of}
+use Rattle.scene_format.specs.Format.{nameable_models}
+use Rattle.scene_lengths.specs.Lengths.{fluid_answer_width}
+use Rattle.iisph_pressures.specs.IterationRows.{pressures_in}
+use Rattle.iisph_forces.specs.Forces.{gathered_all}
+use Rattle.iisph_forces.proofs.Gathered.{all_gathered}
+use Rattle.iisph_forces.proofs.InitialAnswers.{starts_held, still-room}
+use Rattle.iisph_forces.proofs.boundary_answers.Goals as goal
+
+room : nameable_models ≤ length (replicate {A = ℕ} nameable_models 0)
+room = omega (arith, length-replicate {A = ℕ} nameable_models 0)
+
+pub put_initial-requires : goal.put_initial-requires
+put_initial-requires c =
+    let p = c.requires in
+    (p.0, (p.1.0, room, p.1.1))
+
+pub gather_all-requires : goal.gather_all-requires
+gather_all-requires c =
+    let p = c.requires in
+    let k = fluid_answer_width c.args.dim * c.args.n in (
+      p.0,
+      (
+        starts_held _ _ p.1.0.walk (replicate nameable_models 0) room c.put_initial.ensures.0,
+        still-room _ c.args.answers.now k c.put_initial.ensures.1 p.1.1,
+      ),
+    )
+
+pub returns : goal.returns
+returns c =
+    let a = c.args in
+    let p = c.requires in
+    let d = a.dim in
+    let ps = pressures_in d a.n a.work.now in
+    c.gather_all.ensures
+    ∙ ap (λ (l : List Float). gathered_all d (scene_of a.scene.now) ps a.n l) c.put_initial.ensures.1
+    ∙ all_gathered a.scene.now p.1.0.walk ps a.answers.now p.0.0.axes p.0.0.size p.1.1

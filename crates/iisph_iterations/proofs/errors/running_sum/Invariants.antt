@@ -1,0 +1,14 @@
+-- `iisph_iterations::errors::running_sum` meets its contract: term by term. Assumes nothing.
+use Rattle.std.proofs.Common.{◌≡◌, ◌-◌, ◌≤◌, refl, arith, rules}
+use Rattle.math.specs.Real.{+0, total}
+use Rattle.lists.specs.Lists.{fold, table}
+use Rattle.iisph_rows.proofs.Volumes.{sum_next, sum_all}
+use Rattle.iisph_iterations.specs.Errors.{terms_from}
+use Rattle.iisph_iterations.proofs.Averages.{term_at}
+use Rattle.iisph_iterations.proofs.errors.running_sum.Given as goal
+
+abbrev pub invariant-loop-k : goal.invariant-loop-k
+invariant-loop-k l = (l.k ≤ l.count) × (l.sum ≡ total +0 (terms_from l.work l.dim l.n l.from l.k))
+
+abbrev pub decreases-loop-k : goal.decreases-loop-k
+decreases-loop-k l = l.count - l.k

@@ -1,0 +1,87 @@
+-- `iisph_lent::finish` meets its contract: each call finds what it needs in the work list, and what they leave
+-- together is the rules'. Assumes nothing.
+use native.Mathlib.Omega.{arith}
+use lib.Ieee.{nan}
+use borrow.Author.Rules.{rules}
+use Rattle.iisph_passes.specs.Traverse.{Ready}
+use Rattle.lists.proofs.Stores.{length-stored}
+use Rattle.scene_lengths.specs.Lengths.{work_needed}
+use Rattle.scene_format.specs.SceneOf.{scene_of}
+use mathlib.Core.Path.{◌≡◌, ap}
+use Rattle.iisph_lent.proofs.Finished.{first_pressures_lem, first_ready, solved_ready, shared, finished}
+use Rattle.iisph_lent.proofs.Finished.{length_shared, answers_room, report_made}
+use Rattle.iisph_pressures.proofs.IterationTerms.{axes-are}
+use Rattle.iisph_preparation.proofs.Prepared.{driven}
+use Rattle.iisph_lent.proofs.finish.Goals as goal
+
+pub pressure_solve-solved-requires : goal.pressure_solve-solved-requires
+pressure_solve-solved-requires c =
+    let p = c.requires in
+    let first = p.0.0 in (
+      (driven p.0.0 p.0.1, p.0.1.stopping_is),
+      (
+        (p.1.0.0, first_ready p.1.0.0 first.axes (axes-are _ first.axes) first.size _ p.1.1),
+        first_pressures_lem p.1.0.0 first.axes (axes-are _ first.axes) first.size _ p.1.1,
+      ),
+    )
+
+pub traverse-requires : goal.traverse-requires
+unfolding Ready
+traverse-requires c =
+    let p = c.requires in (
+      driven p.0.0 p.0.1,
+      (
+        (solved_ready p.1.0.0 p.0.0.axes (axes-are _ p.0.0.axes) p.0.0.size _ p.1.1
+            c.pressure_solve-solved.ensures).room,
+        tt,
+      ),
+    )
+
+pub update_velocities_and_positions-requires : goal.update_velocities_and_positions-requires
+update_velocities_and_positions-requires c =
+    let p = c.requires in (
+      (
+        driven p.0.0 p.0.1,
+        shared p.1.0.0 p.0.0.axes (axes-are _ p.0.0.axes) p.0.0.size _ p.1.1
+            c.pressure_solve-solved.ensures
+            c.traverse.ensures,
+      ),
+      answers_room _ p.0.0.indexed.bytes p.0.0.axes p.0.0.size p.1.0.1.enough_answers,
+    )
+
+pub boundary_answers-requires : goal.boundary_answers-requires
+boundary_answers-requires c =
+    let p = c.requires in
+    let q = shared p.1.0.0 p.0.0.axes (axes-are _ p.0.0.axes) p.0.0.size _ p.1.1
+    c.pressure_solve-solved.ensures c.traverse.ensures in (
+      (p.0.0, q.iteration),
+      (p.1.0.0, rw (c.update-velocities-and-positions.ensures, length-stored nan) p.1.0.1.enough_answers),
+    )
+
+pub lengths_of-needed-requires : goal.lengths_of-needed-requires
+lengths_of-needed-requires c = c.requires.passed.0.0
+
+pub clear-requires : goal.clear-requires
+clear-requires c =
+    let needed : c.lengths_of-needed.result.work ≡ work_needed (scene_of c.args.scene.now) = ap (λ n. n.work) c.lengths_of-needed.ensures in
+    let p = c.requires in
+    omega (
+      arith,
+      needed,
+      p.1.0.1.enough_work,
+      length_shared p.1.0.0 p.0.0.axes (axes-are _ p.0.0.axes) p.0.0.size _ p.1.1
+          c.pressure_solve-solved.ensures c.traverse.ensures,
+    )
+
+pub returns : goal.returns
+returns c =
+    let needed : c.lengths_of-needed.result.work ≡ work_needed (scene_of c.args.scene.now) = ap (λ n. n.work) c.lengths_of-needed.ensures in
+    let p = c.requires in
+    finished p.1.0.0 p.0.0.axes (axes-are _ p.0.0.axes) p.0.0.size _ p.1.1
+    c.pressure_solve-solved.ensures c.traverse.ensures
+    p.1.0.1.enough_answers
+    c.update_velocities_and_positions.ensures
+    c.boundary_answers.ensures
+    (needed)
+    c.clear.ensures
+    (report_made _ p.0.1.clock_is c.pressure_solve-solved.ensures.iterations c.pressure_solve-solved.ensures.ending)

@@ -1,0 +1,57 @@
+-- `iisph_lent::step_long` meets its contract: the passes prepare the work list and may refuse, and what follows
+-- finishes the step. Assumes nothing.
+use mathlib.Core.Path.{sym, ap, ◌∙◌}
+use native.Mathlib.Omega.{arith}
+use borrow.Author.Rules.{rules}
+use Rattle.iisph_preparation.specs.Prepare.{work_prepared}
+use Rattle.iisph_preparation.specs.declared.Readiness.{Readiness}
+use Rattle.iisph_preparation.proofs.Prepared.{prepared_ready, prepared_long}
+use Rattle.scene_check.proofs.Checks.{fluid-total}
+use Rattle.iisph_lent.proofs.Stepped.{zero-steps, done_steps}
+use Rattle.iisph_lent.proofs.step_long.Goals as goal
+
+pub step_header-header-requires : goal.step_header-header-requires
+step_header-header-requires c = c.requires.passed.0.walk
+
+pub prepare-readiness-requires : goal.prepare-readiness-requires
+prepare-readiness-requires c =
+    let p = c.requires in
+    ((p.0.0, c.step_header-header.ensures), (p.1, p.0.1.enough_work))
+
+pub finish-requires : goal.finish-requires
+finish-requires c =
+    let passed = c.requires.passed.0 in
+    let size = fluid-total passed in
+    let is = c.axes.ensures.0 in
+    let ready = c.enum_told.given.1 in
+    let list = c.prepare.ensures.list in
+    let long = prepared_long c.args.scene.now c.args.work.now ready list in (
+      (record { indexed = c.prepare.ensures.indexed; axes = is; size = size }, c.step_header-header.ensures),
+      (
+        (
+          passed,
+          record {
+            enough_answers = c.requires.passed.1.enough_answers;
+            enough_work = omega (arith, long, c.requires.passed.1.enough_work);
+          },
+        ),
+        prepared_ready c.args.scene.now is size c.args.work.now c.requires.passed.1.enough_work ready list,
+      ),
+    )
+
+pub returns-in-Refused : goal.returns-in-Refused
+returns-in-Refused c =
+    let b = c.args.scene.now in
+    let w = c.args.work.now in
+    zero-steps b c.args.answers.now w c.requires.passed.0.walk c.requires.passed.1
+    (sym c.in-Refused.is ∙ c.prepare-readiness.ensures.answer)
+    (c.prepare-readiness.ensures.list ∙ ap (λ (x : Readiness). work_prepared b x w) c.in-Refused.is)
+
+pub returns-in-Ready : goal.returns-in-Ready
+returns-in-Ready c =
+    let b = c.args.scene.now in
+    let w = c.args.work.now in
+    done_steps b c.args.answers.now w c.requires.passed.0.walk c.requires.passed.1
+    (sym c.enum_told.given.1 ∙ c.prepare.ensures.answer)
+    (c.prepare.ensures.list ∙ ap (λ (x : Readiness). work_prepared b x w) c.enum_told.given.1)
+    c.finish.ensures

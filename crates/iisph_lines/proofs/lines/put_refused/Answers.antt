@@ -1,0 +1,25 @@
+-- `iisph_lines::lines::put_refused` meets its contract: its parts one after the other; both numbers have 64 bits.
+-- Assumes nothing.
+use native.Mathlib.Omega.{arith}
+use Rattle.lists.proofs.Writing.{◌then◌}
+use Rattle.iisph_lines.specs.Lines.{refused_line}
+use Rattle.iisph_words.proofs.WordWidths.{pair_most}
+use borrow.Author.Rules.{rules}
+use Rattle.iisph_lines.proofs.lines.put_refused.Goals as goal
+
+pub put_pair-next-requires : goal.put_pair-next-requires
+put_pair-next-requires c =
+    let n = c.number in
+    omega (arith, pair_most n.result c.place.result n.type-inv c.place.type-inv)
+
+pub put_byte-requires : goal.put_byte-requires
+put_byte-requires c =
+    let n = c.number in
+    omega (arith, pair_most n.result c.place.result n.type-inv c.place.type-inv)
+
+pub returns : goal.returns
+unfolding refused_line
+returns c =
+    c.put_word-pair.ensures
+    then rw (c.number.ensures, c.place.ensures) at c.put_pair-next.ensures
+    then c.put_byte.ensures

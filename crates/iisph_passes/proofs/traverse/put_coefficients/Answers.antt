@@ -1,0 +1,51 @@
+-- `iisph_passes::traverse::put_coefficients` meets its contract: the stores one after the other are those of the slots.
+-- Assumes nothing.
+use native.Mathlib.Omega.{arith}
+use mathlib.Core.Path.{◌≡◌, ap, ◌∙◌}
+use lib.ListN.{length, length-set}
+use lib.Seq.{length-sets}
+use Rattle.math.specs.Vector.{coordinates}
+use Rattle.math.proofs.Vectors.{coordinates_sized}
+use Rattle.iisph_passes.proofs.Turns.{coefficients-set}
+use borrow.Author.Rules.{rules}
+use Rattle.iisph_passes.proofs.traverse.put_coefficients.Goals as goal
+
+pub put_in_row-requires : goal.put_in_row-requires
+put_in_row-requires c = (c.requires, omega (arith, c.pressure_slot.ensures))
+
+pub put_column-requires : goal.put_column-requires
+put_column-requires c =
+    let first-kept : length c.put_in_row.new.0 ≡ length c.args.work.now = ap length c.put_in_row.ensures ∙ simp (length-sets, length-set) in
+    let p = c.requires in
+    (omega (arith, c.density_column.ensures), p.1, omega (arith, p.2, first-kept))
+
+pub put_column-requires-2 : goal.put_column-requires-2
+put_column-requires-2 c =
+    let first-kept : length c.put_in_row.new.0 ≡ length c.args.work.now = ap length c.put_in_row.ensures ∙ simp (length-sets, length-set) in
+    let second-kept : length c.put_column.new.0 ≡ length c.args.work.now = ap length c.put_column.ensures ∙ (simp length-set) ∙ first-kept in
+    let p = c.requires in
+    (omega (arith, c.predicted_column.ensures), p.1, omega (arith, p.2, second-kept))
+
+pub put_column-requires-3 : goal.put_column-requires-3
+put_column-requires-3 c =
+    let first-kept : length c.put_in_row.new.0 ≡ length c.args.work.now = ap length c.put_in_row.ensures ∙ simp (length-sets, length-set) in
+    let second-kept : length c.put_column.new.0 ≡ length c.args.work.now = ap length c.put_column.ensures ∙ (simp length-set) ∙ first-kept in
+    let third-kept : length c.put_column-2.new.0 ≡ length c.args.work.now = ap length c.put_column-2.ensures ∙ (simp length-set) ∙ second-kept in
+    let p = c.requires in
+    (omega (arith, c.aii_column.ensures), p.1, omega (arith, p.2, third-kept))
+
+pub shape_of-work : goal.shape_of-work
+shape_of-work c =
+    let first-kept : length c.put_in_row.new.0 ≡ length c.args.work.now = ap length c.put_in_row.ensures ∙ simp (length-sets, length-set) in
+    let second-kept : length c.put_column.new.0 ≡ length c.args.work.now = ap length c.put_column.ensures ∙ (simp length-set) ∙ first-kept in
+    let third-kept : length c.put_column-2.new.0 ≡ length c.args.work.now = ap length c.put_column-2.ensures ∙ (simp length-set) ∙ second-kept in
+    ap length c.put_column-3.ensures ∙ (simp length-set) ∙ third-kept
+
+pub returns : goal.returns
+returns c =
+    let a = c.args in
+    coefficients-set a.dim a.n a.i a.pressure (coordinates a.dim a.c.dii) a.c.density
+    a.c.predicted_density a.c.aii a.work.now (coordinates_sized a.dim a.c.dii c.requires.0.most)
+    c.pressure_slot.ensures c.density_column.ensures c.predicted_column.ensures
+    c.aii_column.ensures c.put_in_row.ensures c.put_column.ensures c.put_column-2.ensures
+    c.put_column-3.ensures

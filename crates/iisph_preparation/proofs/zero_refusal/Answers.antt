@@ -1,0 +1,107 @@
+-- `iisph_preparation::zero_refusal` meets its contract: each search's answer is the first zero of its column, or
+-- none. Assumes nothing.
+use Prim.Native.Nat.{ℕ, ◌<◌}
+use mathlib.Core.Path.{◌≡◌, sym, ap, ◌∙◌}
+use mathlib.Core.List.{List}
+use native.Mathlib.Omega.{arith}
+use lib.Ieee.{Float}
+use Rattle.lists.proofs.Lists.{length-table}
+use Rattle.scene_format.specs.declared.Refusal.TheVariants.{ZeroDensity, ZeroPredictedDensity}
+use Rattle.iisph_preparation.specs.Prepare.{readiness}
+use Rattle.scene_format.specs.Format.{location_of}
+use Rattle.scene_format.specs.declared.Kind.TheVariants.{Fluid}
+use Rattle.iisph_rows.specs.Passes.{found_below}
+use Rattle.iisph_rows.specs.Rows.{density_slot, predicted_slot, column}
+use Rattle.iisph_rules.specs.Step.{first_zero}
+use Rattle.scene_lengths.specs.Lengths.{work_width}
+use Rattle.iisph_rules.specs.declared.StepAnswer.TheVariants.{Done, Refused}
+use Rattle.iisph_rows.specs.declared.zeros.Found.TheVariants.{At, Nothing}
+use Rattle.iisph_rows.proofs.Particles.{record_asked}
+use Rattle.iisph_rows.proofs.FirstZero.{found_lt, unless_found, unless_nothing}
+use borrow.Author.Rules.{rules}
+use Rattle.iisph_preparation.proofs.zero_refusal.Goals as goal
+
+-- what the searches found, in terms of the arguments
+abbrev First : tie.Start → ℕ → ℕ → Type 0
+First b slot i = At i ≡ found_below b.args.n (first_zero (column b.args.n slot b.args.work.now))
+
+abbrev None : tie.Start → ℕ → Type 0
+None b slot = Nothing ≡ found_below b.args.n (first_zero (column b.args.n slot b.args.work.now))
+
+in-slot : (n : ℕ) (l : List Float) {k slot : ℕ} → k ≡ slot
+    → found_below n (first_zero (column n k l)) ≡ found_below n (first_zero (column n slot l))
+in-slot n l e = ap (λ (j : ℕ). found_below n (first_zero (column n j l))) e
+
+-- both columns are there
+density-within : (d : ℕ) {k : ℕ} → k ≡ density_slot d → k < work_width d
+density-within d e = omega arith
+
+predicted-within : (d : ℕ) {k : ℕ} → k ≡ predicted_slot d → k < work_width d
+predicted-within d e = omega arith
+
+pub first_zero-density-requires : goal.first_zero-density-requires
+first_zero-density-requires c = (density-within _ c.density_column.ensures, c.requires.1)
+
+pub first_zero-predicted-requires : goal.first_zero-predicted-requires
+first_zero-predicted-requires c = (
+  predicted-within _ c.predicted_column.ensures,
+  c.requires.1,
+)
+
+pub record_of-requires : goal.record_of-requires
+record_of-requires c =
+    let density-found : let a = c.args in c.first_zero-density.result ≡ found_below a.n (first_zero (column a.n (density_slot a.dim) a.work.now)) = let a = c.args in c.first_zero-density.ensures ∙ in-slot a.n a.work.now c.density_column.ensures in
+    let found : First c (density_slot c.args.dim) c.in-At.i = sym c.in-At.is ∙ density-found in
+    record_asked c.requires.0 (found_lt _ _ (found))
+
+pub record_of-requires-in-At-predicted : goal.record_of-requires-in-At-predicted
+record_of-requires-in-At-predicted c =
+    let predicted-found : let a = c.args in c.first_zero-predicted.result ≡ found_below a.n (first_zero (column a.n (predicted_slot a.dim) a.work.now)) = let a = c.args in c.first_zero-predicted.ensures ∙ in-slot a.n a.work.now c.predicted_column.ensures in
+    let found-2 : First c (predicted_slot c.args.dim) c.in-At-predicted.j = sym c.in-At-predicted.is ∙ predicted-found in
+    record_asked c.requires.0
+    (found_lt _ _ (found-2))
+
+pub returns-in-At : goal.returns-in-At
+unfolding readiness
+returns-in-At c =
+    let density-found : let a = c.args in c.first_zero-density.result ≡ found_below a.n (first_zero (column a.n (density_slot a.dim) a.work.now)) = let a = c.args in c.first_zero-density.ensures ∙ in-slot a.n a.work.now c.density_column.ensures in
+    let found : First c (density_slot c.args.dim) c.in-At.i = sym c.in-At.is ∙ density-found in
+    let a = c.args in
+    λ report.
+    sym (ap readiness
+    (unless_found (λ i. (location_of Fluid a.scene.now i).at) ZeroDensity
+    (column a.n (density_slot a.dim) a.work.now) _ (length-table a.n _) (found)
+    ∙ sym (ap (λ (at : ℕ). Refused (ZeroDensity at)) c.record_of.ensures)))
+
+pub returns-in-At-predicted : goal.returns-in-At-predicted
+unfolding readiness
+returns-in-At-predicted c =
+    let predicted-found : let a = c.args in c.first_zero-predicted.result ≡ found_below a.n (first_zero (column a.n (predicted_slot a.dim) a.work.now)) = let a = c.args in c.first_zero-predicted.ensures ∙ in-slot a.n a.work.now c.predicted_column.ensures in
+    let found-2 : First c (predicted_slot c.args.dim) c.in-At-predicted.j = sym c.in-At-predicted.is ∙ predicted-found in
+    let density-found : let a = c.args in c.first_zero-density.result ≡ found_below a.n (first_zero (column a.n (density_slot a.dim) a.work.now)) = let a = c.args in c.first_zero-density.ensures ∙ in-slot a.n a.work.now c.density_column.ensures in
+    let nothing : None c (density_slot c.args.dim) = sym c.in-Nothing.is ∙ density-found in
+    let a = c.args in
+    λ report.
+    sym (ap readiness
+    (unless_nothing (λ i. (location_of Fluid a.scene.now i).at) ZeroDensity
+    (column a.n (density_slot a.dim) a.work.now) _ (length-table a.n _)
+    (nothing)
+    ∙ unless_found (λ i. (location_of Fluid a.scene.now i).at) ZeroPredictedDensity
+    (column a.n (predicted_slot a.dim) a.work.now) _ (length-table a.n _) (found-2)
+    ∙ sym (ap (λ (at : ℕ). Refused (ZeroPredictedDensity at)) c.record_of-in-At-predicted.ensures)))
+
+pub returns-in-Nothing-predicted : goal.returns-in-Nothing-predicted
+unfolding readiness
+returns-in-Nothing-predicted c =
+    let density-found : let a = c.args in c.first_zero-density.result ≡ found_below a.n (first_zero (column a.n (density_slot a.dim) a.work.now)) = let a = c.args in c.first_zero-density.ensures ∙ in-slot a.n a.work.now c.density_column.ensures in
+    let nothing : None c (density_slot c.args.dim) = sym c.in-Nothing.is ∙ density-found in
+    let predicted-found : let a = c.args in c.first_zero-predicted.result ≡ found_below a.n (first_zero (column a.n (predicted_slot a.dim) a.work.now)) = let a = c.args in c.first_zero-predicted.ensures ∙ in-slot a.n a.work.now c.predicted_column.ensures in
+    let nothing-2 : None c (predicted_slot c.args.dim) = sym c.in-Nothing-predicted.is ∙ predicted-found in
+    let a = c.args in
+    λ report.
+    sym (ap readiness
+    (unless_nothing (λ i. (location_of Fluid a.scene.now i).at) ZeroDensity
+    (column a.n (density_slot a.dim) a.work.now) _ (length-table a.n _)
+    (nothing)
+    ∙ unless_nothing (λ i. (location_of Fluid a.scene.now i).at) ZeroPredictedDensity
+    (column a.n (predicted_slot a.dim) a.work.now) (Done report) (length-table a.n _) (nothing-2)))

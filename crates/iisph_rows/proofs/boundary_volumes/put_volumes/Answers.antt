@@ -1,0 +1,36 @@
+-- `iisph_rows::boundary_volumes::put_volumes` meets its contract: particle by particle. Assumes nothing.
+use Prim.Native.Nat.{◌+◌, ◌-◌}
+use mathlib.Core.Path.{refl, ◌∙◌}
+use native.Mathlib.Omega.{arith}
+use borrow.Author.Rules.{rules}
+use Rattle.iisph_rules.specs.Coefficients.{boundary_volume}
+use Rattle.lists.proofs.Fills.{Filling, none_stored, one_more_stored, all_stored}
+use Rattle.scene_format.specs.Scene.{boundary}
+use Rattle.scene_format.specs.SceneOf.{scene_of}
+use Rattle.iisph_rows.proofs.Volumes.{run_asked, record_ok, volume_here}
+use Rattle.iisph_rows.proofs.boundary_volumes.put_volumes.Goals as goal
+
+pub loop-p-init : goal.loop-p-init
+loop-p-init c = none_stored _ _ _ _
+
+pub overflow_add-first : goal.overflow_add-first
+overflow_add-first c =
+    let p = c.requires in
+    omega (arith, p.1.0.within, p.0.few_boundary, c.loop-p-test.true)
+
+pub record_of-at-requires : goal.record_of-at-requires
+record_of-at-requires c = let p = c.requires in run_asked p.0 p.1.0 c.loop-p-test.true
+
+pub volume-requires : goal.volume-requires
+volume-requires c =
+    let p = c.requires in
+    (p.1.0.bit, record_ok p.0 p.1.0 c.loop-p-test.true c.record_of-at.ensures)
+
+pub loop-p-preserved : goal.loop-p-preserved
+loop-p-preserved c =
+    let p = c.requires in
+    one_more_stored _ _ _ _ c.loop-p.invariant c.loop-p-test.true
+    (c.volume.ensures ∙ volume_here p.0 p.1.0 c.loop-p-test.true c.record_of-at.ensures)
+
+pub returns : goal.returns
+returns c = all_stored _ _ _ _ c.loop-p.invariant c.loop-p-test.false refl

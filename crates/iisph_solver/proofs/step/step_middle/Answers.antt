@@ -1,0 +1,11 @@
+-- `iisph_solver::step::step_middle` meets its contract: its index is as long as it is asked for. Assumes nothing.
+use native.Mathlib.Omega.{arith}
+use borrow.Author.Rules.{rules}
+use Rattle.iisph_preparation.proofs.Prepared.{long}
+use Rattle.scene_index.specs.Index.{middle_index}
+use Rattle.iisph_solver.proofs.step.step_middle.Goals as goal
+
+pub step_long-requires : goal.step_long-requires
+step_long-requires c =
+    let p = c.requires in
+    (p.0, omega (arith, p.1, long middle_index))

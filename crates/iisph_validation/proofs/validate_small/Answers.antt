@@ -1,0 +1,11 @@
+-- `iisph_validation::validate_small` meets its contract: its index is as long as it is asked for. Assumes nothing.
+use native.Mathlib.Omega.{arith}
+use borrow.Author.Rules.{rules}
+use Rattle.iisph_preparation.proofs.Prepared.{long}
+use Rattle.scene_index.specs.Index.{small_index}
+use Rattle.iisph_validation.proofs.validate_small.Goals as goal
+
+pub validate_long-requires : goal.validate_long-requires
+validate_long-requires c =
+    let p = c.requires in
+    (p.0, omega (arith, p.1, long small_index))

@@ -1,0 +1,10 @@
+-- `iisph_words::digits::digit` meets its contract: each branch is the definition's. Assumes nothing.
+use borrow.Author.Rules.{rules}
+use borrow.Author.Tests.{lt-ltb, le-ltb}
+use Rattle.iisph_words.proofs.digits.digit.Goals as goal
+
+pub returns-then-d-lt10 : goal.returns-then-d-lt10
+returns-then-d-lt10 c = rw (lt-ltb c.args.d 10 c.if-d-lt10.true)
+
+pub returns-else-d-lt10 : goal.returns-else-d-lt10
+returns-else-d-lt10 c = rw (le-ltb c.args.d 10 c.if-d-lt10.false)

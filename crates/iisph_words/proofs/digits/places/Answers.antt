@@ -1,0 +1,18 @@
+-- `iisph_words::digits::places` meets its contract. The loop's invariant: the digits counted and the rest's digits are
+-- the number's, with one counted ahead. Assumes nothing.
+use Prim.Native.Nat.{◌+◌, ◌≤◌}
+use mathlib.Core.Path.{◌≡◌}
+use native.Mathlib.Omega.{arith}
+use Rattle.iisph_words.specs.Digits.{places_of}
+use Rattle.iisph_words.proofs.Numbers.{one_place, more_places}
+use borrow.Author.Rules.{rules}
+use Rattle.iisph_words.proofs.digits.places.Goals as goal
+
+pub loop-rest-init : goal.loop-rest-init
+loop-rest-init c = (omega arith, omega arith)
+
+pub loop-rest-preserved : goal.loop-rest-preserved
+loop-rest-preserved c = omega (arith, more_places c.loop-rest.rest c.loop-rest-test.true)
+
+pub returns : goal.returns
+returns c = omega (arith, one_place c.loop-rest.rest c.loop-rest-test.false)

@@ -1,0 +1,63 @@
+-- `scene_check::walk_names::all_names` meets its contract: fluids and then boundaries, which begin where the fluids
+-- end. Assumes nothing.
+use Prim.Native.Nat.{ℕ, ◌≤◌}
+use mathlib.Core.Path.{◌≡◌, sym, ap, ◌∙◌}
+use native.Mathlib.Omega.{arith}
+use lib.ListN.{length, replicate, length-replicate}
+use borrow.Author.Rules.{rules}
+use Rattle.scene_fields.specs.Fields.{◌▹◌}
+use Rattle.scene_format.specs.Format.{most_models, nameable_models, axes_of, header_width, first_head}
+use Rattle.scene_format.specs.Within.{ModelsWithin}
+use Rattle.scene_format.specs.declared.Kind.{Kind}
+use Rattle.scene_format.specs.declared.Kind.TheVariants.{Fluid, Boundary}
+use Rattle.scene_check.specs.Check.{CountsAre}
+use Rattle.scene_check.specs.Walk.{all_names}
+use Rattle.scene_check.proofs.Accepted.{models_names-steps}
+use Rattle.scene_check.proofs.Checks.{counts-are, fluids_are, boundaries_are, fluid-number, boundary-number}
+use Rattle.scene_walk.proofs.Within.{fields_within}
+use Rattle.scene_check.proofs.walk_names.all_names.Goals as goal
+
+-- every model ends within the bytes
+within : (c : tie.After-fill-counts2) (κ : Kind) → ModelsWithin κ (Begin c).args.s.now
+within c = fields_within _ (Begin c).requires.0
+
+room : most_models ≤ length (replicate {A = ℕ} nameable_models 0)
+room = omega (arith, length-replicate {A = ℕ} nameable_models 0)
+
+pub fill_counts-requires : goal.fill_counts-requires
+fill_counts-requires c =
+    let p = c.requires in
+    ((fields_within _ p.0 Fluid, fluids_are _ p.1), room)
+
+pub fill_counts-requires-2 : goal.fill_counts-requires-2
+fill_counts-requires-2 c =
+    let p = c.requires in
+    ((fields_within _ p.0 Boundary, boundaries_are _ p.1), room)
+
+pub models_names-w-requires : goal.models_names-w-requires
+unfolding first_head
+models_names-w-requires c =
+    let known : CountsAre c.args.s.now c.fill_counts.new.1.1.1.0 c.fill_counts-2.new.1.1.1.0 = counts-are _ (within c) c.fill_counts.ensures c.fill_counts-2.ensures in
+    let start_is : c.header_width-first.result ≡ header_width (axes_of c.args.s.now) = c.header_width-first.ensures ∙ ap header_width c.axes.ensures.0 in
+    (known, (within c Fluid, (fluid-number _ c.requires.1, start_is)))
+
+pub returns-in_default : goal.returns-in_default
+unfolding all_names ◌▹◌
+returns-in_default c =
+    let start_is : c.header_width-first.result ≡ header_width (axes_of c.args.s.now) = c.header_width-first.ensures ∙ ap header_width c.axes.ensures.0 in
+    let q = c.in_default.is in
+    rw (← start_is, sym c.models_names-w.ensures ∙ q) q
+
+pub models_names-requires : goal.models_names-requires
+unfolding first_head
+models_names-requires c =
+    let start_is : c.header_width-first.result ≡ header_width (axes_of c.args.s.now) = c.header_width-first.ensures ∙ ap header_width c.axes.ensures.0 in
+    let fluids-end : c.in-At.at ≡ first_head Boundary c.args.s.now = rw (← start_is) (models_names-steps c.args.s.now Fluid _ _ (sym c.models_names-w.ensures ∙ c.in-At.is)).0 in
+    let known : CountsAre c.args.s.now c.fill_counts.new.1.1.1.0 c.fill_counts-2.new.1.1.1.0 = counts-are _ (within c) c.fill_counts.ensures c.fill_counts-2.ensures in
+    (known, (within c Boundary, (boundary-number _ c.requires.1, fluids-end)))
+
+pub returns : goal.returns
+unfolding all_names ◌▹◌
+returns c =
+    let start_is : c.header_width-first.result ≡ header_width (axes_of c.args.s.now) = c.header_width-first.ensures ∙ ap header_width c.axes.ensures.0 in
+    rw (← start_is, sym c.models_names-w.ensures ∙ c.in-At.is) c.models_names.ensures

@@ -1,0 +1,16 @@
+-- `scene_format::format::boundary_doubles` meets its contract: a force is as wide as a velocity, or there is none.
+-- Assumes
+-- nothing.
+use native.Mathlib.Omega.{arith}
+use borrow.Author.Rules.{rules}
+use Rattle.scene_format.proofs.Forms.{kept_fits}
+use Rattle.scene_format.proofs.format.boundary_doubles.Goals as goal
+
+pub overflow_mul-result : goal.overflow_mul-result
+overflow_mul-result c = omega (arith, kept_fits c.wide-axes.ensures.1 c.requires)
+
+pub overflow_add-result : goal.overflow_add-result
+overflow_add-result c = omega (arith, kept_fits c.wide-axes.ensures.1 c.requires)
+
+pub returns : goal.returns
+returns c = rw c.wide-axes.ensures.0

@@ -1,0 +1,17 @@
+-- `scene_index::index::fill_bases` meets its contract: model by model, each from the number of the particles before it
+-- on. Assumes nothing.
+use Prim.Native.Nat.{◌+◌, ◌-◌, ◌≤◌}
+use mathlib.Core.Path.{◌≡◌, ◌∙◌}
+use native.Mathlib.Omega.{arith}
+use lib.ListN.{get_or}
+use borrow.Author.Rules.{rules}
+use Rattle.scene_format.specs.Format.{most_of_a_kind, counts_of}
+use Rattle.scene_layout.proofs.Turns.{Turn, this_turn, number_is}
+use Rattle.scene_index.proofs.Bases.{Based, none_based, blocks_room, start_few, one_more_based, all_based}
+use Rattle.scene_index.proofs.index.fill_bases.Given as goal
+
+abbrev pub invariant-loop-m : goal.invariant-loop-m
+invariant-loop-m l = Based l.kind l.scene l.initial.index l.k l.start l.to l.m l.index
+
+abbrev pub decreases-loop-m : goal.decreases-loop-m
+decreases-loop-m l = l.number - l.m

@@ -1,0 +1,14 @@
+-- `scene_index::index::fill_blocks` meets its contract: block by block. Assumes nothing.
+use Prim.Native.Nat.{ℕ, ◌+◌, ◌*◌, ◌-◌}
+use mathlib.Core.Path.{refl}
+use native.Mathlib.Omega.{arith}
+use borrow.Author.Rules.{rules}
+use Rattle.lists.proofs.Fills.{Filling, none_stored, one_more_stored, all_stored}
+use Rattle.scene_index.specs.Index.{block_size, model_blocks, blocks_from}
+use Rattle.scene_index.proofs.index.fill_blocks.Given as goal
+
+abbrev pub invariant-loop-x : goal.invariant-loop-x
+invariant-loop-x l = Filling l.initial.index l.k (base l.start) model_blocks l.x l.index
+
+abbrev pub decreases-loop-x : goal.decreases-loop-x
+decreases-loop-x l = model_blocks - l.x

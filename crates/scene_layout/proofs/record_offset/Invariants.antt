@@ -1,0 +1,16 @@
+-- `scene_layout::record_offset` meets its contract: record by record, with the records that are left within the bytes.
+-- Assumes nothing.
+use Prim.Native.Nat.{◌-◌}
+use mathlib.Core.Path.{◌∙◌}
+use native.Mathlib.Omega.{arith}
+use borrow.Author.Rules.{rules}
+use Rattle.scene_format.specs.Format.{next_record}
+use Rattle.scene_format.specs.Within.{RecordWithin}
+use Rattle.scene_fields.proofs.Walks.{Ahead, none_stepped, one_more_stepped, holds_here, all_stepped}
+use Rattle.scene_layout.proofs.record_offset.Given as goal
+
+abbrev pub invariant-loop-i : goal.invariant-loop-i
+invariant-loop-i l = Ahead (next_record l.kind l.s l.head) (RecordWithin l.kind l.s l.head) l.j l.initial.at l.i l.at
+
+abbrev pub decreases-loop-i : goal.decreases-loop-i
+decreases-loop-i l = l.j - l.i

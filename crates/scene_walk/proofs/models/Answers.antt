@@ -1,0 +1,22 @@
+-- `scene_walk::models` meets its contract: what remains from here is the whole, turn by turn. Assumes nothing.
+use Prim.Native.Nat.{◌-◌}
+use borrow.Author.Rules.{rules}
+use Rattle.scene_walk.specs.Walk.{model_of}
+use Rattle.scene_fields.proofs.Walks.{Remains, none_done, one_more_done, turn_refused, all_done}
+use Rattle.scene_walk.proofs.models.Goals as goal
+
+pub loop-i-init : goal.loop-i-init
+loop-i-init c = none_done
+
+pub returns-in_default : goal.returns-in_default
+returns-in_default c =
+    turn_refused c.loop-i.invariant c.loop-i-test.true c.model-w.ensures
+    c.in_default.is
+
+pub loop-i-preserved : goal.loop-i-preserved
+loop-i-preserved c =
+    one_more_done c.loop-i.invariant c.loop-i-test.true c.model-w.ensures
+    c.in-At.is
+
+pub returns : goal.returns
+returns c = all_done c.loop-i.invariant c.loop-i-test.false

@@ -1,0 +1,12 @@
+-- `scene_walk::records` meets its contract: what remains from here is the whole, turn by turn. Assumes nothing.
+use Prim.Native.Nat.{◌-◌}
+use borrow.Author.Rules.{rules}
+use Rattle.scene_walk.specs.Walk.{record_of}
+use Rattle.scene_fields.proofs.Walks.{Remains, none_done, one_more_done, turn_refused, all_done}
+use Rattle.scene_walk.proofs.records.Given as goal
+
+abbrev pub invariant-loop-i : goal.invariant-loop-i
+invariant-loop-i l = Remains (record_of l.kind l.s l.head) l.n l.from l.i l.at
+
+abbrev pub decreases-loop-i : goal.decreases-loop-i
+decreases-loop-i l = l.n - l.i
