@@ -106,6 +106,7 @@ differs_nan x = go (eq x x) refl
   where
     number : (t : Bool) → T (not t) → false ≡ t
     number false h = refl
+    number true h = elim h [ ]
 
     go : (t : Bool) → eq x x ≡ t → ne x x ≡ is_nan x
     go true h = rw h (number (is_nan x) (equal_number x h))

@@ -58,7 +58,7 @@ like_signs a b t same apart = go (ltb a b) refl
 unlike_signs : (a b : ℕ) → eqb a b && eqb a 0 ≡ not (ltb 0 (a + b))
 unlike_signs zero zero = refl
 unlike_signs zero (suc b) = rw (eqb-zero-suc, lt-ltb 0 (0 + suc b) (omega arith))
-unlike_signs (suc a) b = rw (eqb-suc-zero a, and_false, lt-ltb 0 (suc a + b) (omega arith))
+unlike_signs (suc a) b = rw (eqb-suc-zero a, and-false, lt-ltb 0 (suc a + b) (omega arith))
 
 at_most_is_not_below : (s t : Bool) (a b : ℕ) → below s a t b || level s a t b ≡ not (below t b s a)
 at_most_is_not_below false false a b = like_signs a b (eqb a b) (eq-eqb a b) (ne_eqb a b)

@@ -2,4 +2,3 @@ pub mod Reached
 pub mod Stopped
 pub mod Walks
 pub mod Found
-mod Held

@@ -8,4 +8,4 @@ use Rattle.math.proofs.Vec3.scale.Goals as goal
 
 pub returns : goal.returns
 unfolding ◌⊡◌ coordinates
-returns c = take_mapped _ d (_ ∷ _ ∷ _ ∷ [])
+returns c d = take_mapped _ d (_ ∷ _ ∷ _ ∷ [])

@@ -7,4 +7,4 @@ use Rattle.math.proofs.Vec3.sub.Goals as goal
 
 pub returns : goal.returns
 unfolding ◌⊟◌ zip_with coordinates
-returns c = take_zipped _ d (_ ∷ _ ∷ _ ∷ []) (_ ∷ _ ∷ _ ∷ [])
+returns c d = take_zipped _ d (_ ∷ _ ∷ _ ∷ []) (_ ∷ _ ∷ _ ∷ [])

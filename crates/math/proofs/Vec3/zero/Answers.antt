@@ -14,4 +14,4 @@ take-replicate x (suc d) (suc n) h = ap (◌∷◌ x) (take-replicate x d n (le_
 
 pub returns : goal.returns
 unfolding coordinates
-returns c = take-replicate _ d _ h
+returns c d h = take-replicate _ d _ h
