@@ -16,12 +16,12 @@ pub returns-then-not-plainly_finite : goal.returns-then-not-plainly_finite
 unfolding doubles_plainly_finite
 returns-then-not-plainly_finite c =
     one_failed c.loop-i.invariant c.loop-i-test.true
-    (sym c.plainly_finite.ensures ∙ not-true _ c.if-not-plainly_finite.true)
+    (sym c.plainly_finite.ensures ∙ c.if-not-plainly_finite.true)
 
 pub loop-i-preserved : goal.loop-i-preserved
 loop-i-preserved c =
     one_more_passed c.loop-i.invariant c.loop-i-test.true
-    (sym c.plainly_finite.ensures ∙ not-false _ c.if-not-plainly_finite.false)
+    (sym c.plainly_finite.ensures ∙ c.if-not-plainly_finite.false)
 
 pub returns : goal.returns
 unfolding doubles_plainly_finite
