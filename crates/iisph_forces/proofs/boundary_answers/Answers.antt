@@ -22,18 +22,15 @@ room = omega (arith, length-replicate {A = ℕ} nameable_models 0)
 pub put_initial-requires : goal.put_initial-requires
 put_initial-requires c =
     let p = c.requires in
-    (p.0, (p.1.0, room, p.1.1))
+    record { pass_over = p.pass_over; passed = (p.passed.0, room, p.passed.1) }
 
 pub gather_all-requires : goal.gather_all-requires
 gather_all-requires c =
     let p = c.requires in
-    let k = fluid_answer_width c.args.dim * c.args.n in (
-      p.0,
-      (
-        starts_held _ _ p.1.0.walk (replicate nameable_models 0) room c.put_initial.ensures.0,
-        still-room _ c.args.answers.now k c.put_initial.ensures.1 p.1.1,
-      ),
-    )
+    let k = fluid_answer_width c.args.dim * c.args.n in record { pass_over = p.pass_over; forces_known = (
+        starts_held _ _ p.passed.0.walk (replicate nameable_models 0) room c.put_initial.ensures.0,
+        still-room _ c.args.answers.now k c.put_initial.ensures.1 p.passed.1,
+      ) }
 
 pub returns : goal.returns
 returns c =
@@ -43,4 +40,4 @@ returns c =
     let ps = pressures_in d a.n a.work.now in
     c.gather_all.ensures
     ∙ ap (λ (l : List Float). gathered_all d (scene_of a.scene.now) ps a.n l) c.put_initial.ensures.1
-    ∙ all_gathered a.scene.now p.1.0.walk ps a.answers.now p.0.0.axes p.0.0.size p.1.1
+    ∙ all_gathered a.scene.now p.passed.0.walk ps a.answers.now p.pass_over.0.axes p.pass_over.0.size p.passed.1

@@ -17,46 +17,37 @@ use Rattle.iisph_lent.proofs.finish.Goals as goal
 pub pressure_solve-solved-requires : goal.pressure_solve-solved-requires
 pressure_solve-solved-requires c =
     let p = c.requires in
-    let first = p.0.0 in (
-      (driven p.0.0 p.0.1, p.0.1.stopping_is),
+    let first = p.pass_over.0 in (
+      (driven p.pass_over.0 p.pass_over.1, p.pass_over.1.stopping_is),
       (
-        (p.1.0.0, first_ready p.1.0.0 first.axes (axes-are _ first.axes) first.size _ p.1.1),
-        first_pressures_lem p.1.0.0 first.axes (axes-are _ first.axes) first.size _ p.1.1,
+        (p.passed.0.0, first_ready p.passed.0.0 first.axes (axes-are _ first.axes) first.size _ p.passed.1),
+        first_pressures_lem p.passed.0.0 first.axes (axes-are _ first.axes) first.size _ p.passed.1,
       ),
     )
 
 pub traverse-requires : goal.traverse-requires
 unfolding Ready
 traverse-requires c =
-    let p = c.requires in (
-      driven p.0.0 p.0.1,
-      (
-        (solved_ready p.1.0.0 p.0.0.axes (axes-are _ p.0.0.axes) p.0.0.size _ p.1.1
+    let p = c.requires in record { driven_pass = driven p.pass_over.0 p.pass_over.1; room = (
+        (solved_ready p.passed.0.0 p.pass_over.0.axes (axes-are _ p.pass_over.0.axes) p.pass_over.0.size _ p.passed.1
             c.pressure_solve-solved.ensures).room,
         tt,
-      ),
-    )
+      ) }
 
 pub update_velocities_and_positions-requires : goal.update_velocities_and_positions-requires
 update_velocities_and_positions-requires c =
-    let p = c.requires in (
-      (
-        driven p.0.0 p.0.1,
-        shared p.1.0.0 p.0.0.axes (axes-are _ p.0.0.axes) p.0.0.size _ p.1.1
+    let p = c.requires in record { driven_pass = (
+        driven p.pass_over.0 p.pass_over.1,
+        shared p.passed.0.0 p.pass_over.0.axes (axes-are _ p.pass_over.0.axes) p.pass_over.0.size _ p.passed.1
             c.pressure_solve-solved.ensures
             c.traverse.ensures,
-      ),
-      answers_room _ p.0.0.indexed.bytes p.0.0.axes p.0.0.size p.1.0.1.enough_answers,
-    )
+      ); n_in_bounds = answers_room _ p.pass_over.0.indexed.bytes p.pass_over.0.axes p.pass_over.0.size p.passed.0.1.enough_answers }
 
 pub boundary_answers-requires : goal.boundary_answers-requires
 boundary_answers-requires c =
     let p = c.requires in
-    let q = shared p.1.0.0 p.0.0.axes (axes-are _ p.0.0.axes) p.0.0.size _ p.1.1
-    c.pressure_solve-solved.ensures c.traverse.ensures in (
-      (p.0.0, q.iteration),
-      (p.1.0.0, rw (c.update-velocities-and-positions.ensures, length-stored nan) p.1.0.1.enough_answers),
-    )
+    let q = shared p.passed.0.0 p.pass_over.0.axes (axes-are _ p.pass_over.0.axes) p.pass_over.0.size _ p.passed.1
+    c.pressure_solve-solved.ensures c.traverse.ensures in record { pass_over = (p.pass_over.0, q.iteration); passed = (p.passed.0.0, rw (c.update-velocities-and-positions.ensures, length-stored nan) p.passed.0.1.enough_answers) }
 
 pub lengths_of-needed-requires : goal.lengths_of-needed-requires
 lengths_of-needed-requires c = c.requires.passed.0.0
@@ -68,8 +59,8 @@ clear-requires c =
     omega (
       arith,
       needed,
-      p.1.0.1.enough_work,
-      length_shared p.1.0.0 p.0.0.axes (axes-are _ p.0.0.axes) p.0.0.size _ p.1.1
+      p.passed.0.1.enough_work,
+      length_shared p.passed.0.0 p.pass_over.0.axes (axes-are _ p.pass_over.0.axes) p.pass_over.0.size _ p.passed.1
           c.pressure_solve-solved.ensures c.traverse.ensures,
     )
 
@@ -77,11 +68,11 @@ pub returns : goal.returns
 returns c =
     let needed : c.lengths_of-needed.result.work ≡ work_needed (scene_of c.args.scene.now) = ap (λ n. n.work) c.lengths_of-needed.ensures in
     let p = c.requires in
-    finished p.1.0.0 p.0.0.axes (axes-are _ p.0.0.axes) p.0.0.size _ p.1.1
+    finished p.passed.0.0 p.pass_over.0.axes (axes-are _ p.pass_over.0.axes) p.pass_over.0.size _ p.passed.1
     c.pressure_solve-solved.ensures c.traverse.ensures
-    p.1.0.1.enough_answers
+    p.passed.0.1.enough_answers
     c.update_velocities_and_positions.ensures
     c.boundary_answers.ensures
     (needed)
     c.clear.ensures
-    (report_made _ p.0.1.clock_is c.pressure_solve-solved.ensures.iterations c.pressure_solve-solved.ensures.ending)
+    (report_made _ p.pass_over.1.clock_is c.pressure_solve-solved.ensures.iterations c.pressure_solve-solved.ensures.ending)

@@ -41,7 +41,7 @@ pub step_long-requires : goal.step_long-requires
 step_long-requires c =
     let long : let a = c.args in LongEnough a.scene.now (length a.answers.now) (length a.work.now) = long_lists _ _ _ (sym c.lists_short.ensures ∙ c.if-lists_short.false) in
     let room : let a = c.args in index_needed a.scene.now ≤ length a.index.now = omega (arith, c.if-index-needed.false, c.index_needed-needed.ensures) in
-    ((c.requires, long), room)
+    record { passed = (c.requires, long); scene_in_bounds = room }
 
 pub returns : goal.returns
 returns c =

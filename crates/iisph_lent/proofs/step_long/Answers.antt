@@ -16,7 +16,7 @@ step_header-header-requires c = c.requires.passed.0.walk
 pub prepare-readiness-requires : goal.prepare-readiness-requires
 prepare-readiness-requires c =
     let p = c.requires in
-    ((p.0.0, c.step_header-header.ensures), (p.1, p.0.1.enough_work))
+    record { passed = (p.passed.0, c.step_header-header.ensures); scene_in_bounds = (p.scene_in_bounds, p.passed.1.enough_work) }
 
 pub finish-requires : goal.finish-requires
 finish-requires c =

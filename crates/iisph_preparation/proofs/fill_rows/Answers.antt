@@ -8,7 +8,7 @@ use Rattle.iisph_preparation.proofs.fill_rows.Goals as goal
 
 pub traverse-requires : goal.traverse-requires
 unfolding Ready
-traverse-requires c = (c.requires.driven_pass, (c.requires.room.0, tt))
+traverse-requires c = record { driven_pass = c.requires.driven_pass; room = (c.requires.room.0, tt) }
 
 pub traverse-requires-2 : goal.traverse-requires-2
 unfolding Ready
@@ -17,7 +17,7 @@ traverse-requires-2 c =
     (axes-are c.args.scene.now c.requires.driven_pass.timed.over.axes) c.requires.driven_pass.timed.over.size
     c.args.work.now c.requires.room.0
     c.requires.room.1 c.traverse.ensures in
-    (c.requires.driven_pass, (e.room, e))
+    record { driven_pass = c.requires.driven_pass; room = (e.room, e) }
 
 pub returns : goal.returns
 returns c =

@@ -24,7 +24,7 @@ compute_boundary_volumes-requires c =
     let room : volumes_at (axes_of c.args.scene.now) (fluid_size (scene_of c.args.scene.now)) + boundary_size (scene_of c.args.scene.now) ≤ length c.args.work.now = omega (arith, c.requires.passed.1, work_least c.args.scene.now) in
     let size : c.args.n ≡ fluid_size (scene_of c.args.scene.now) = c.requires.driven_pass.timed.over.size in
     let room_for : Room (scene_of c.args.scene.now) c.args.dim c.args.n c.args.work.now = room_of c.args.scene.now (is) (size) c.args.work.now (room) in
-    ((c.requires.driven_pass.timed.over.indexed, c.requires.passed.0), (size, room_for))
+    record { indexed = (c.requires.driven_pass.timed.over.indexed, c.requires.passed.0); n_value = (size, room_for) }
 
 pub fill_rows-requires : goal.fill_rows-requires
 fill_rows-requires c =
@@ -32,11 +32,8 @@ fill_rows-requires c =
     let room : volumes_at (axes_of c.args.scene.now) (fluid_size (scene_of c.args.scene.now)) + boundary_size (scene_of c.args.scene.now) ≤ length c.args.work.now = omega (arith, c.requires.passed.1, work_least c.args.scene.now) in
     let size : c.args.n ≡ fluid_size (scene_of c.args.scene.now) = c.requires.driven_pass.timed.over.size in
     let room_for : Room (scene_of c.args.scene.now) c.args.dim c.args.n c.args.work.now = room_of c.args.scene.now (is) (size) c.args.work.now (room) in
-    (
-      c.requires.driven_pass,
-      volumes_there c.args.scene.now (is) (size) c.args.work.now (room_for)
-          c.compute_boundary_volumes.ensures,
-    )
+    record { driven_pass = c.requires.driven_pass; room = volumes_there c.args.scene.now (is) (size) c.args.work.now (room_for)
+          c.compute_boundary_volumes.ensures }
 
 pub zero_refusal-answer-requires : goal.zero_refusal-answer-requires
 zero_refusal-answer-requires c =

@@ -9,11 +9,8 @@ use Rattle.iisph_text.proofs.put_scene.Goals as goal
 
 pub put_accepted-requires : goal.put_accepted-requires
 put_accepted-requires c =
-    (
-      verdict_accepted _ c.check-found.ensures (λ i. omega (arith, c.shared_slice_known-1.given i))
-          c.in-Accepted.is,
-      c.requires,
-    )
+    record { passed = verdict_accepted _ c.check-found.ensures (λ i. omega (arith, c.shared_slice_known-1.given i))
+          c.in-Accepted.is; scene_len_bound = c.requires }
 
 pub returns-in-Refused : goal.returns-in-Refused
 returns-in-Refused c =

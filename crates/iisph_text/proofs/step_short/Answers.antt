@@ -21,7 +21,4 @@ returns-then-lists_short c =
 
 pub step_long-requires : goal.step_long-requires
 step_long-requires c =
-    let p = c.requires in (
-      (p.0, long_lists _ _ _ (sym c.lists_short.ensures ∙ c.if-lists_short.false)),
-      omega (arith, index_enough p.0 p.1, long),
-    )
+    let p = c.requires in record { passed = (p.0, long_lists _ _ _ (sym c.lists_short.ensures ∙ c.if-lists_short.false)); scene_in_bounds = omega (arith, index_enough p.0 p.1, long) }

@@ -16,7 +16,7 @@ step_header-header-requires c = c.requires.passed.0.walk
 pub prepare-answer-requires : goal.prepare-answer-requires
 prepare-answer-requires c =
     let p = c.requires in
-    ((p.0.0, c.step_header-header.ensures), (p.1, p.0.1))
+    record { passed = (p.passed.0, c.step_header-header.ensures); scene_in_bounds = (p.scene_in_bounds, p.passed.1) }
 
 pub lengths_of-needed-requires : goal.lengths_of-needed-requires
 lengths_of-needed-requires c = c.requires.passed.0

@@ -23,13 +23,13 @@ pub validate_small-requires : goal.validate_small-requires
 validate_small-requires c =
     let needed : c.lengths_of.result.work ≡ work_needed (scene_of c.args.scene.now) = ap (λ n. n.work) c.lengths_of.ensures in
     let ready : let a = c.args in Passed a.scene.now a.layout × (work_needed (scene_of a.scene.now) ≤ length a.work.now) = (c.requires, omega (arith, c.if-work-lengths_of.false, needed)) in
-    (ready, omega (arith, c.if-needed-le-SMALL_INDEX.true, c.index_needed-needed.ensures))
+    record { passed = ready; scene_bound = omega (arith, c.if-needed-le-SMALL_INDEX.true, c.index_needed-needed.ensures) }
 
 pub validate_middle-requires : goal.validate_middle-requires
 validate_middle-requires c =
     let needed : c.lengths_of.result.work ≡ work_needed (scene_of c.args.scene.now) = ap (λ n. n.work) c.lengths_of.ensures in
     let ready : let a = c.args in Passed a.scene.now a.layout × (work_needed (scene_of a.scene.now) ≤ length a.work.now) = (c.requires, omega (arith, c.if-work-lengths_of.false, needed)) in
-    (ready, omega (arith, c.if-needed-le-MIDDLE_INDEX.true, c.index_needed-needed.ensures))
+    record { passed = ready; scene_bound = omega (arith, c.if-needed-le-MIDDLE_INDEX.true, c.index_needed-needed.ensures) }
 
 pub validate_largest-requires : goal.validate_largest-requires
 validate_largest-requires c =

@@ -8,4 +8,4 @@ use Rattle.iisph_validation.proofs.validate_small.Goals as goal
 pub validate_long-requires : goal.validate_long-requires
 validate_long-requires c =
     let p = c.requires in
-    (p.0, omega (arith, p.1, long small_index))
+    record { passed = p.passed; scene_in_bounds = omega (arith, p.scene_bound, long small_index) }

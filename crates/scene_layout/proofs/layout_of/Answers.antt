@@ -21,7 +21,7 @@ pub models_of-fluids-requires : goal.models_of-fluids-requires
 unfolding first_head
 models_of-fluids-requires c =
     let start = c.header_width-first.ensures ∙ ap header_width c.axes.ensures.0 in
-    (fields_within _ c.requires Fluid, (c.model_number.ensures, start))
+    record { models_within = fields_within _ c.requires Fluid; n_value = (c.model_number.ensures, start) }
 
 pub model_number-number-requires : goal.model_number-number-requires
 model_number-number-requires c = omega (arith, header_within _ c.requires)
@@ -30,10 +30,7 @@ pub models_of-boundaries-requires : goal.models_of-boundaries-requires
 unfolding layout_models first_head
 models_of-boundaries-requires c =
     let fluids-end : c.models_of-fluids.result.end ≡ first_head Boundary c.args.s.now = ap (λ (m : Models). m.end) c.models_of-fluids.ensures in
-    (
-  fields_within _ c.requires Boundary,
-  (c.model_number-number.ensures, fluids-end),
-)
+    record { models_within = fields_within _ c.requires Boundary; n_value = (c.model_number-number.ensures, fluids-end) }
 
 pub returns : goal.returns
 unfolding layout_of

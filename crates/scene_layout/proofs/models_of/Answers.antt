@@ -13,7 +13,7 @@ use Rattle.scene_layout.proofs.models_of.Goals as goal
 pub loop-i-init : goal.loop-i-init
 loop-i-init c =
     let p = c.requires in
-    (p.1.0, rw p.1.1 (none_stepped p.0.models), rw p.1.1 (none_filled _ _))
+    (p.n_value.0, rw p.n_value.1 (none_stepped p.models_within.models), rw p.n_value.1 (none_filled _ _))
 
 pub particles-total-requires : goal.particles-total-requires
 particles-total-requires c =

@@ -66,7 +66,7 @@ models_of-requires c = c.layout_of-layout.ensures
 pub fill_counts-requires : goal.fill_counts-requires
 fill_counts-requires c =
     let passed : let b = c.args.scene.now in fields b ≡ At (length b) = let q = sym c.fields.ensures ∙ c.in_default.is in q ∙ ap At (fields_leads _ _ q).0 in
-    ((fields_within _ (passed) _, c.models_of.ensures), room)
+    record { models_within = (fields_within _ (passed) _, c.models_of.ensures); most_models_in_bounds = room }
 
 pub record_offset-at-requires : goal.record_offset-at-requires
 record_offset-at-requires c =
@@ -80,12 +80,9 @@ list_looked-requires c =
     let particle-there : let a = c.args in a.particle < particles_at c.owner_of-owner.result a.scene.now (get_or c.models_of-owners.result.heads a.model 0) = rw (← c.particles.ensures.0) c.if-particles-particle.false in
     let passed : let b = c.args.scene.now in fields b ≡ At (length b) = let q = sym c.fields.ensures ∙ c.in_default.is in q ∙ ap At (fields_leads _ _ q).0 in
     let turn : let a = c.args in Turn c.owner_of-owner.result a.scene.now c.models_of-owners.result.heads a.model = this_turn (fields_within _ (passed) _) c.models_of-owners.ensures _ c.if-owners-model.false in
-    (
-      rw (← c.owner_of-owner.ensures, c.record_offset-at.ensures)
-          (turn.within.records _ (particle-there)),
-      rw (← c.named_of-named.ensures)
-          (stored_counts _ _ (fields_within _ (passed) _) c.fill_counts.ensures),
-    )
+    record { record_within = rw (← c.owner_of-owner.ensures, c.record_offset-at.ensures)
+          (turn.within.records _ (particle-there)); counts_of_kind = rw (← c.named_of-named.ensures)
+          (stored_counts _ _ (fields_within _ (passed) _) c.fill_counts.ensures) }
 
 pub returns : goal.returns
 returns c =

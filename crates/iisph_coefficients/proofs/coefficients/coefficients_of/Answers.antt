@@ -16,19 +16,19 @@ pub contacts_of-fluid-requires : goal.contacts_of-fluid-requires
 contacts_of-fluid-requires c =
     let below : c.args.i < fluid_size (scene_of c.args.scene.now) = omega (arith, c.requires.timed_pass.0.over.size, c.requires.timed_pass.1) in
     let p = c.requires.timed_pass.0.over in
-    ((p.indexed, p.axes), below)
+    record { indexed = (p.indexed, p.axes); i_bound = below }
 
 pub contacts_of-boundary-requires : goal.contacts_of-boundary-requires
 contacts_of-boundary-requires c =
     let below : c.args.i < fluid_size (scene_of c.args.scene.now) = omega (arith, c.requires.timed_pass.0.over.size, c.requires.timed_pass.1) in
     let p = c.requires.timed_pass.0.over in
-    ((p.indexed, p.axes), below)
+    record { indexed = (p.indexed, p.axes); i_bound = below }
 
 pub row_at-row-requires : goal.row_at-row-requires
 row_at-row-requires c =
     let below : c.args.i < fluid_size (scene_of c.args.scene.now) = omega (arith, c.requires.timed_pass.0.over.size, c.requires.timed_pass.1) in
     let p = c.requires in
-    own_row p.0.0.over p.1 _ (below)
+    own_row p.timed_pass.0.over p.coefficients_ready _ (below)
 
 pub overflow_add-row : goal.overflow_add-row
 overflow_add-row c = omega (arith, c.row_at-row.ensures.1)
@@ -43,7 +43,7 @@ fluid_densities-part-requires c =
     let fluid : let b = c.args.scene.now in ContactsAre b Fluid (particle (scene_of b) c.args.i) c.contacts_of-fluid.result = contacts_are c.requires.timed_pass.0.over.indexed _ (below) c.contacts_of-fluid.ensures in
     let fluid-ready : ContactsReady Fluid c.args.dim c.args.scene.now c.contacts_of-fluid.result = list_ready c.requires.timed_pass.0.over.axes (fluid) in
     let p = c.requires in
-    (p.0.0.over, fluid-ready, p.1)
+    (p.timed_pass.0.over, fluid-ready, p.coefficients_ready)
 
 pub boundary_densities-sums-requires : goal.boundary_densities-sums-requires
 boundary_densities-sums-requires c =
@@ -51,7 +51,7 @@ boundary_densities-sums-requires c =
     let boundary : let b = c.args.scene.now in ContactsAre b Boundary (particle (scene_of b) c.args.i) c.contacts_of-boundary.result = contacts_are c.requires.timed_pass.0.over.indexed _ (below) c.contacts_of-boundary.ensures in
     let boundary-ready : ContactsReady Boundary c.args.dim c.args.scene.now c.contacts_of-boundary.result = list_ready c.requires.timed_pass.0.over.axes (boundary) in
     let p = c.requires in
-    (p.0.0.over, boundary-ready, p.1)
+    (p.timed_pass.0.over, boundary-ready, p.coefficients_ready)
 
 pub fluid_dii-part-requires : goal.fluid_dii-part-requires
 fluid_dii-part-requires c =
@@ -59,7 +59,7 @@ fluid_dii-part-requires c =
     let fluid : let b = c.args.scene.now in ContactsAre b Fluid (particle (scene_of b) c.args.i) c.contacts_of-fluid.result = contacts_are c.requires.timed_pass.0.over.indexed _ (below) c.contacts_of-fluid.ensures in
     let fluid-ready : ContactsReady Fluid c.args.dim c.args.scene.now c.contacts_of-fluid.result = list_ready c.requires.timed_pass.0.over.axes (fluid) in
     let p = c.requires in
-    (p.0.0.over, fluid-ready, p.1)
+    (p.timed_pass.0.over, fluid-ready, p.coefficients_ready)
 
 pub boundary_dii-d-requires : goal.boundary_dii-d-requires
 boundary_dii-d-requires c =
@@ -67,7 +67,7 @@ boundary_dii-d-requires c =
     let boundary : let b = c.args.scene.now in ContactsAre b Boundary (particle (scene_of b) c.args.i) c.contacts_of-boundary.result = contacts_are c.requires.timed_pass.0.over.indexed _ (below) c.contacts_of-boundary.ensures in
     let boundary-ready : ContactsReady Boundary c.args.dim c.args.scene.now c.contacts_of-boundary.result = list_ready c.requires.timed_pass.0.over.axes (boundary) in
     let p = c.requires in
-    (p.0.0.over, boundary-ready, p.1)
+    (p.timed_pass.0.over, boundary-ready, p.coefficients_ready)
 
 pub overflow_add-e : goal.overflow_add-e
 overflow_add-e c = omega (arith, c.row_at-row.ensures.1)
@@ -85,7 +85,7 @@ fluid_aii-part-requires c =
     let fluid : let b = c.args.scene.now in ContactsAre b Fluid (particle (scene_of b) c.args.i) c.contacts_of-fluid.result = contacts_are c.requires.timed_pass.0.over.indexed _ (below) c.contacts_of-fluid.ensures in
     let fluid-ready : ContactsReady Fluid c.args.dim c.args.scene.now c.contacts_of-fluid.result = list_ready c.requires.timed_pass.0.over.axes (fluid) in
     let p = c.requires in
-    (p.0.0.over, fluid-ready, p.1)
+    (p.timed_pass.0.over, fluid-ready, p.coefficients_ready)
 
 pub boundary_aii-a-requires : goal.boundary_aii-a-requires
 boundary_aii-a-requires c =
@@ -93,7 +93,7 @@ boundary_aii-a-requires c =
     let boundary : let b = c.args.scene.now in ContactsAre b Boundary (particle (scene_of b) c.args.i) c.contacts_of-boundary.result = contacts_are c.requires.timed_pass.0.over.indexed _ (below) c.contacts_of-boundary.ensures in
     let boundary-ready : ContactsReady Boundary c.args.dim c.args.scene.now c.contacts_of-boundary.result = list_ready c.requires.timed_pass.0.over.axes (boundary) in
     let p = c.requires in
-    (p.0.0.over, boundary-ready, p.1)
+    (p.timed_pass.0.over, boundary-ready, p.coefficients_ready)
 
 pub returns : goal.returns
 returns c =
@@ -101,16 +101,16 @@ returns c =
     let boundary : let b = c.args.scene.now in ContactsAre b Boundary (particle (scene_of b) c.args.i) c.contacts_of-boundary.result = contacts_are c.requires.timed_pass.0.over.indexed _ (below) c.contacts_of-boundary.ensures in
     let fluid : let b = c.args.scene.now in ContactsAre b Fluid (particle (scene_of b) c.args.i) c.contacts_of-fluid.result = contacts_are c.requires.timed_pass.0.over.indexed _ (below) c.contacts_of-fluid.ensures in
     let p = c.requires in
-    let over = p.0.0.over in
+    let over = p.timed_pass.0.over in
     coefficients_made over.axes (fluid) (boundary) c.vector_at-v.result c.fluid_dii-part.result
-    p.0.0.dt_is
-    (c.vector_at-v.ensures ∙ own_velocity over p.1 _ (below) c.row_at-row.ensures.0)
+    p.timed_pass.0.dt_is
+    (c.vector_at-v.ensures ∙ own_velocity over p.coefficients_ready _ (below) c.row_at-row.ensures.0)
     c.fluid_densities-part.ensures.0
     c.fluid_densities-part.ensures.1
     c.boundary_densities-sums.ensures.0
     c.boundary_densities-sums.ensures.1
     c.fluid_dii-part.ensures
     c.boundary_dii-d.ensures
-    (own_mass over p.1 _ (below) c.row_at-row.ensures.0)
+    (own_mass over p.coefficients_ready _ (below) c.row_at-row.ensures.0)
     c.fluid_aii-part.ensures
     c.boundary_aii-a.ensures

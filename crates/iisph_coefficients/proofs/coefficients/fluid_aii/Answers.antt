@@ -34,7 +34,7 @@ pub mass-m-requires : goal.mass-m-requires
 mass-m-requires c =
     let here : ContactReady Fluid c.args.dim c.args.scene.now (c.args.list.at + c.contact_width-width.result * c.loop-k.k) = contact_here c.requires.1 c.loop-k.k c.contact_width-width.ensures.0 c.loop-k-test.true in
     let p = c.requires in
-    (p.0, (here, p.2))
+    record { pass_over = p.0; contact_ready = (here, p.2) }
 
 pub returning-requires : goal.returning-requires
 returning-requires c =

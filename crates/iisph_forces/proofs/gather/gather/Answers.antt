@@ -21,31 +21,31 @@ offset_bounds-forces-model c = omega (arith, c.contact_name-name.ensures.below)
 pub bounds-forces-model : goal.bounds-forces-model
 bounds-forces-model c =
     let p = c.requires in
-    omega (arith, c.contact_name-name.ensures.below, p.1.1.room)
+    omega (arith, c.contact_name-name.ensures.below, p.force_contact.1.room)
 
 pub overflow_mul-k : goal.overflow_mul-k
 overflow_mul-k c =
-    let room : let a = c.args in let name = c.contact_name-name.result in let k = get_or a.forces.now name.model.0 0 + c.kept_answer_width.result * name.particle.0 in k + a.dim ≤ length a.answers.now = let p = c.requires in let within = force_room p.0.0.indexed p.1.0 p.1.1 c.contact_name-name.ensures c.if-first-gt0.true c.kept_answer_width.ensures.0 p.0.0.axes in omega (arith, within, p.1.2) in
+    let room : let a = c.args in let name = c.contact_name-name.result in let k = get_or a.forces.now name.model.0 0 + c.kept_answer_width.result * name.particle.0 in k + a.dim ≤ length a.answers.now = let p = c.requires in let within = force_room p.pass_over.0.indexed p.force_contact.0 p.force_contact.1 c.contact_name-name.ensures c.if-first-gt0.true c.kept_answer_width.ensures.0 p.pass_over.0.axes in omega (arith, within, p.force_contact.2) in
     omega (arith, room)
 
 pub overflow_add-k : goal.overflow_add-k
 overflow_add-k c =
-    let room : let a = c.args in let name = c.contact_name-name.result in let k = get_or a.forces.now name.model.0 0 + c.kept_answer_width.result * name.particle.0 in k + a.dim ≤ length a.answers.now = let p = c.requires in let within = force_room p.0.0.indexed p.1.0 p.1.1 c.contact_name-name.ensures c.if-first-gt0.true c.kept_answer_width.ensures.0 p.0.0.axes in omega (arith, within, p.1.2) in
+    let room : let a = c.args in let name = c.contact_name-name.result in let k = get_or a.forces.now name.model.0 0 + c.kept_answer_width.result * name.particle.0 in k + a.dim ≤ length a.answers.now = let p = c.requires in let within = force_room p.pass_over.0.indexed p.force_contact.0 p.force_contact.1 c.contact_name-name.ensures c.if-first-gt0.true c.kept_answer_width.ensures.0 p.pass_over.0.axes in omega (arith, within, p.force_contact.2) in
     omega (arith, room)
 
 pub boundary_acceleration-a-requires : goal.boundary_acceleration-a-requires
 boundary_acceleration-a-requires c =
     let p = c.requires in
-    (p.0, p.1.0.ready)
+    record { pass_over = p.pass_over; contact_ready = p.force_contact.0.ready }
 
 pub vector_at-requires : goal.vector_at-requires
 vector_at-requires c =
-    let room : let a = c.args in let name = c.contact_name-name.result in let k = get_or a.forces.now name.model.0 0 + c.kept_answer_width.result * name.particle.0 in k + a.dim ≤ length a.answers.now = let p = c.requires in let within = force_room p.0.0.indexed p.1.0 p.1.1 c.contact_name-name.ensures c.if-first-gt0.true c.kept_answer_width.ensures.0 p.0.0.axes in omega (arith, within, p.1.2) in
+    let room : let a = c.args in let name = c.contact_name-name.result in let k = get_or a.forces.now name.model.0 0 + c.kept_answer_width.result * name.particle.0 in k + a.dim ≤ length a.answers.now = let p = c.requires in let within = force_room p.pass_over.0.indexed p.force_contact.0 p.force_contact.1 c.contact_name-name.ensures c.if-first-gt0.true c.kept_answer_width.ensures.0 p.pass_over.0.axes in omega (arith, within, p.force_contact.2) in
     (pass_axes c.requires.pass_over.0, omega (arith, room))
 
 pub put_vector-requires : goal.put_vector-requires
 put_vector-requires c =
-    let room : let a = c.args in let name = c.contact_name-name.result in let k = get_or a.forces.now name.model.0 0 + c.kept_answer_width.result * name.particle.0 in k + a.dim ≤ length a.answers.now = let p = c.requires in let within = force_room p.0.0.indexed p.1.0 p.1.1 c.contact_name-name.ensures c.if-first-gt0.true c.kept_answer_width.ensures.0 p.0.0.axes in omega (arith, within, p.1.2) in
+    let room : let a = c.args in let name = c.contact_name-name.result in let k = get_or a.forces.now name.model.0 0 + c.kept_answer_width.result * name.particle.0 in k + a.dim ≤ length a.answers.now = let p = c.requires in let within = force_room p.pass_over.0.indexed p.force_contact.0 p.force_contact.1 c.contact_name-name.ensures c.if-first-gt0.true c.kept_answer_width.ensures.0 p.pass_over.0.axes in omega (arith, within, p.force_contact.2) in
     (pass_axes c.requires.pass_over.0, omega (arith, room))
 
 pub shape_of-answers : goal.shape_of-answers
@@ -57,9 +57,9 @@ returns-then-first-gt0 c =
     let d = c.args.dim in
     let taken = c.if1.true in
     gather_kept d c.args.scene.now c.args.at c.args.state c.args.answers.now
-    (force_kept p.0.0.indexed p.1.0 p.1.1 c.contact_name-name.ensures taken)
+    (force_kept p.pass_over.0.indexed p.force_contact.0 p.force_contact.1 c.contact_name-name.ensures taken)
     c.put_vector.ensures
-    (force_offset_lem p.0.0.indexed p.1.0 p.1.1 c.contact_name-name.ensures taken
+    (force_offset_lem p.pass_over.0.indexed p.force_contact.0 p.force_contact.1 c.contact_name-name.ensures taken
     c.kept-answer-width.ensures.0)
     (c.add-force.ensures d)
     c.vector_at.ensures
@@ -70,4 +70,4 @@ pub returns-else-first-gt0 : goal.returns-else-first-gt0
 returns-else-first-gt0 c =
     let p = c.requires in
     gather_none c.args.dim c.args.scene.now c.args.at c.args.state c.args.answers.now
-    (force_none p.0.0.indexed p.1.0 p.1.1 c.contact_name-name.ensures c.if-first-gt0.false)
+    (force_none p.pass_over.0.indexed p.force_contact.0 p.force_contact.1 c.contact_name-name.ensures c.if-first-gt0.false)

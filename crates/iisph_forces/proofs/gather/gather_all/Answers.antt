@@ -20,25 +20,22 @@ loop-i-init c = (omega arith, refl, no_particles _ _ _ _)
 pub pressure_state_of-state-requires : goal.pressure_state_of-state-requires
 pressure_state_of-state-requires c =
     let p = c.requires in
-    ((p.0.0, c.loop-i-test.true), p.0.1)
+    record { pass_over = (p.pass_over.0, c.loop-i-test.true); iterating = p.pass_over.1 }
 
 pub contacts_of-list-requires : goal.contacts_of-list-requires
 contacts_of-list-requires c =
     let below : c.loop-i.i < fluid_size (scene_of c.args.scene.now) = omega (arith, c.loop-i-test.true, c.requires.pass_over.0.size) in
     let over = c.requires.pass_over.0 in
-    ((over.indexed, over.axes), below)
+    record { indexed = (over.indexed, over.axes); i_bound = below }
 
 pub gather_list-requires : goal.gather_list-requires
 gather_list-requires c =
     let below : c.loop-i.i < fluid_size (scene_of c.args.scene.now) = omega (arith, c.loop-i-test.true, c.requires.pass_over.0.size) in
-    let p = c.requires in (
-      p.0,
-      (
-        force_contacts p.0.0.indexed c.loop-i.i (below) p.0.0.axes c.contacts_of-list.ensures,
-        p.1.0,
-        omega (arith, c.loop-i.invariant.1, p.1.1),
-      ),
-    )
+    let p = c.requires in record { pass_over = p.pass_over; force_contacts = (
+        force_contacts p.pass_over.0.indexed c.loop-i.i (below) p.pass_over.0.axes c.contacts_of-list.ensures,
+        p.forces_known.0,
+        omega (arith, c.loop-i.invariant.1, p.forces_known.1),
+      ) }
 
 pub overflow_add-i : goal.overflow_add-i
 overflow_add-i c =

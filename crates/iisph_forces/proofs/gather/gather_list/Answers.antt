@@ -37,7 +37,7 @@ pub gather-requires : goal.gather-requires
 gather-requires c =
     let here : let a = c.args in ForceContact a.dim a.scene.now (a.list.at + c.contact_width-width.result * c.loop-k.k) = force_contact c.requires.force_contacts.0 c.loop-k.k c.contact_width-width.ensures.0 c.loop-k-test.true in
     let p = c.requires in
-    (p.0, (here, p.1.1, omega (arith, c.loop-k.invariant.1, p.1.2)))
+    record { pass_over = p.pass_over; force_contact = (here, p.force_contacts.1, omega (arith, c.loop-k.invariant.1, p.force_contacts.2)) }
 
 pub overflow_add-k : goal.overflow_add-k
 overflow_add-k c = omega (arith, c.loop-k-test.true)

@@ -74,7 +74,7 @@ put_boundary-to-requires c =
     let run : BoundaryRun c.args.scene.now c.loop-m.first c.particles-count.result c.keeps-kept.result = turn_run c.requires.passed.0 (turn) c.loop-m.inv.start c.particles-count.ensures.0 c.keeps-kept.ensures.0 in
     let inv = c.loop-m.inv in
     let p = c.requires in
-    (p.0, (run, inv.next, omega (arith, inv.long, p.1.2)))
+    record { pass_over = p.pass_over; fact = (run, inv.next, omega (arith, inv.long, p.passed.2)) }
 
 pub overflow_add-first : goal.overflow_add-first
 overflow_add-first c =
@@ -92,7 +92,7 @@ loop-m-preserved c =
     let turn : let a = c.args in Turn Boundary a.scene.now a.layout.boundaries.heads c.loop-m.m = boundary_turn c.requires.passed.0 _ c.loop-m-test.true in
     let run : BoundaryRun c.args.scene.now c.loop-m.first c.particles-count.result c.keeps-kept.result = turn_run c.requires.passed.0 (turn) c.loop-m.inv.start c.particles-count.ensures.0 c.keeps-kept.ensures.0 in
     let p = c.requires in
-    one_more_boundary _ _ _ _ c.loop-m.inv turn.below (turn) p.0.0.axes p.1.0.walk (run)
+    one_more_boundary _ _ _ _ c.loop-m.inv turn.below (turn) p.pass_over.0.axes p.passed.0.walk (run)
     c.particles-count.ensures.0
     c.keeps-kept.ensures.0
     c.force_start.ensures
@@ -108,6 +108,6 @@ shape_of-answers c = c.loop-m.invariant.long
 pub returns : goal.returns
 returns c =
     let p = c.requires in
-    rw p.0.0.size
+    rw p.pass_over.0.size
     (all_boundaries _ _ _ _ c.loop-m.invariant
-    (rw (← boundary-number _ p.1.0.layout_is) c.loop-m-test.false))
+    (rw (← boundary-number _ p.passed.0.layout_is) c.loop-m-test.false))

@@ -19,7 +19,7 @@ use Rattle.iisph_forces.proofs.Offsets.{width_kept, width_not_kept}
 use Rattle.iisph_forces.proofs.initial_forces.put_particle.Goals as goal
 
 pub volume_at-requires : goal.volume_at-requires
-volume_at-requires c = let p = c.requires in omega (arith, p.1.0, p.0.1.room)
+volume_at-requires c = let p = c.requires in omega (arith, p.fact.0, p.pass_over.1.room)
 
 pub offset_bounds-work-volume_at : goal.offset_bounds-work-volume_at
 offset_bounds-work-volume_at c =
@@ -46,7 +46,7 @@ bounds-answers-at c =
 
 pub record_of-record-requires : goal.record_of-record-requires
 unfolding size_of
-record_of-record-requires c = let p = c.requires in (p.0.0.indexed, p.1.0)
+record_of-record-requires c = let p = c.requires in (p.pass_over.0.indexed, p.fact.0)
 
 pub overflow_add-record : goal.overflow_add-record
 overflow_add-record c =
@@ -93,10 +93,10 @@ returns-then-keeps-eq1 c =
       omega (arith, width_kept a.dim s a.j (kept), c.kept_answer_width-width.ensures.0),
       c.put_vector.ensures
           ∙ initial_kept s a.j a.answers.now a.at
-          (volume_read s a.dim a.n p.0.1.volume a.j p.1.0 c.volume_at.ensures.0)
+          (volume_read s a.dim a.n p.pass_over.1.volume a.j p.fact.0 c.volume_at.ensures.0)
           (kept)
           (c.vector-force.ensures
-          ∙ force_here p.0.0.indexed a.j p.1.0 (kept) p.0.0.axes c.record_of-record.ensures
+          ∙ force_here p.pass_over.0.indexed a.j p.fact.0 (kept) p.pass_over.0.axes c.record_of-record.ensures
           c.vector_width.ensures.0),
     )
 
@@ -111,9 +111,9 @@ returns c =
     let a = c.args in
     let p = c.requires in
     let s = scene_of a.scene.now in
-    let none = not_kept_here p.1.1 c.if-keeps-eq1.false in (
+    let none = not_kept_here p.fact.1 c.if-keeps-eq1.false in (
       omega (arith, width_not_kept a.dim s a.j none),
       initial_not_kept s a.j a.answers.now a.at
-          (volume_read s a.dim a.n p.0.1.volume a.j p.1.0 c.volume_at.ensures.0)
+          (volume_read s a.dim a.n p.pass_over.1.volume a.j p.fact.0 c.volume_at.ensures.0)
           none,
     )

@@ -10,51 +10,45 @@ use Rattle.iisph_iterations.proofs.pressure_solve.iterate.Goals as goal
 pub traverse-requires : goal.traverse-requires
 unfolding Ready
 traverse-requires c =
-    (c.requires.driven_pass, (c.requires.passed.1.room, tt))
+    record { driven_pass = c.requires.driven_pass; room = (c.requires.passed.1.room, tt) }
 
 pub traverse-requires-2 : goal.traverse-requires-2
 unfolding Ready
 traverse-requires-2 c =
     let p = c.requires in
-    let q = quotients_there c.args.scene.now p.0.timed.over.axes p.0.timed.over.size _ p.1.1
+    let q = quotients_there c.args.scene.now p.driven_pass.timed.over.axes p.driven_pass.timed.over.size _ p.passed.1
     c.traverse.ensures in
-    (p.0, (q.room, q))
+    record { driven_pass = p.driven_pass; room = (q.room, q) }
 
 pub traverse-requires-3 : goal.traverse-requires-3
 unfolding Ready
 traverse-requires-3 c =
     let p = c.requires in
-    let q = dij_there c.args.scene.now p.0.timed.over.axes p.0.timed.over.size _ p.1.1
+    let q = dij_there c.args.scene.now p.driven_pass.timed.over.axes p.driven_pass.timed.over.size _ p.passed.1
     c.traverse.ensures c.traverse-2.ensures in
-    (p.0, (q.room, q))
+    record { driven_pass = p.driven_pass; room = (q.room, q) }
 
 pub traverse-requires-4 : goal.traverse-requires-4
 unfolding Ready
 traverse-requires-4 c =
-    let p = c.requires in (
-      p.0,
-      (
-        next_room c.args.scene.now p.0.timed.over.axes p.0.timed.over.size _ p.1.1
+    let p = c.requires in record { driven_pass = p.driven_pass; room = (
+        next_room c.args.scene.now p.driven_pass.timed.over.axes p.driven_pass.timed.over.size _ p.passed.1
             c.traverse.ensures c.traverse-2.ensures
             c.traverse-3.ensures,
         tt,
-      ),
-    )
+      ) }
 
 pub max_error-requires : goal.max_error-requires
 max_error-requires c =
     let p = c.requires in
-    let q = iterated_ready c.args.scene.now p.0.timed.over.axes p.0.timed.over.size _ p.1.1
+    let q = iterated_ready c.args.scene.now p.driven_pass.timed.over.axes p.driven_pass.timed.over.size _ p.passed.1
     c.traverse.ensures c.traverse-2.ensures
-    c.traverse-3.ensures c.traverse4.ensures in (
-      p.1.0,
-      (axes-are c.args.scene.now p.0.timed.over.axes, p.0.timed.over.size, omega (arith, q.room)),
-    )
+    c.traverse-3.ensures c.traverse4.ensures in record { passed = p.passed.0; axes = (axes-are c.args.scene.now p.driven_pass.timed.over.axes, p.driven_pass.timed.over.size, omega (arith, q.room)) }
 
 pub returns : goal.returns
 returns c =
     let p = c.requires in
-    iterates_made c.args.scene.now p.0.timed.over.axes p.0.timed.over.size _ p.1.1
+    iterates_made c.args.scene.now p.driven_pass.timed.over.axes p.driven_pass.timed.over.size _ p.passed.1
     c.traverse.ensures c.traverse-2.ensures
     c.traverse-3.ensures c.traverse4.ensures
     c.max_error.ensures

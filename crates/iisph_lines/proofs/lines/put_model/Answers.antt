@@ -19,7 +19,7 @@ pub put_particle-next-requires : goal.put_particle-next-requires
 put_particle-next-requires c =
     let t = c.loop-i-test.true in
     let l = c.loop-i in
-    (turn_fits _ _ t l.invariant.1 c.requires.n_in_bounds, line_fits _ _ _ _ _ l.i l.invariant.1 l.invariant.2 t c.requires.xs_in_bounds)
+    record { w_in_bounds = turn_fits _ _ t l.invariant.1 c.requires.n_in_bounds; w_in_bounds_2 = line_fits _ _ _ _ _ l.i l.invariant.1 l.invariant.2 t c.requires.xs_in_bounds }
 
 pub overflow_add-from : goal.overflow_add-from
 overflow_add-from c =

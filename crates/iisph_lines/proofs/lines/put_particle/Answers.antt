@@ -22,7 +22,7 @@ put_pair-answers-requires c =
 pub put_doubles-next-requires : goal.put_doubles-next-requires
 put_doubles-next-requires c =
     let room : let a = c.args in a.at + (length (kind_word a.kind) + length (pair_text a.m a.i) + length (doubles_text a.xs.now a.k a.w) + 1) ≤ length a.out.now = let a = c.args in omega (arith, length_line a.kind a.m a.i (doubles_text a.xs.now a.k a.w), c.requires.w_in_bounds_2) in
-    (c.requires.w_in_bounds, omega (arith, room))
+    record { w_in_bounds = c.requires.w_in_bounds; w_in_bounds_2 = omega (arith, room) }
 
 pub put_byte-requires : goal.put_byte-requires
 put_byte-requires c =

@@ -14,7 +14,7 @@ use Rattle.iisph_motion.proofs.acceleration.boundary_acceleration.Goals as goal
 pub target_of-j-requires : goal.target_of-j-requires
 target_of-j-requires c =
     let p = c.requires in
-    (p.0.0.indexed, target_ready p.1)
+    record { indexed = p.pass_over.0.indexed; target_ready = target_ready p.contact_ready }
 
 pub volume_at-requires : goal.volume_at-requires
 volume_at-requires c =
@@ -30,16 +30,16 @@ bounds-work-volume_at c = omega (arith, c.volume_at.ensures.1)
 pub overflow_add-at : goal.overflow_add-at
 overflow_add-at c =
     let p = c.requires in
-    omega (arith, contact-room (pass_axes p.0.0) p.1)
+    omega (arith, contact-room (pass_axes p.pass_over.0) p.contact_ready)
 
 pub vector-requires : goal.vector-requires
 vector-requires c =
     let p = c.requires in
-    (pass_axes p.0.0, p.1.doubles.gradient)
+    (pass_axes p.pass_over.0, p.contact_ready.doubles.gradient)
 
 pub returns : goal.returns
 returns c =
     let p = c.requires in
-    acceleration_made p.0.1 p.1 c.target_of-j.ensures c.volume_at.ensures.0 c.args.state
+    acceleration_made p.pass_over.1 p.contact_ready c.target_of-j.ensures c.volume_at.ensures.0 c.args.state
     c.vector.ensures
     (c.scale.ensures c.args.dim)

@@ -14,7 +14,7 @@ use Rattle.iisph_motion.proofs.Accelerations.{state_made}
 use Rattle.iisph_motion.proofs.acceleration.pressure_state_of.Goals as goal
 
 pub head_of-head-requires : goal.head_of-head-requires
-head_of-head-requires c = let p = c.requires in head_asked p.0.0 p.0.1
+head_of-head-requires c = let p = c.requires in head_asked p.pass_over.0 p.pass_over.1
 
 pub overflow_add-head : goal.overflow_add-head
 overflow_add-head c =
@@ -33,7 +33,7 @@ row_at-row-requires c =
 pub column_at-requires : goal.column_at-requires
 column_at-requires c =
     let p = c.requires in
-    (omega (arith, c.density_column.ensures), p.0.1, omega (arith, p.1.room))
+    (omega (arith, c.density_column.ensures), p.pass_over.1, omega (arith, p.iterating.room))
 
 pub offset_bounds-work-column_at : goal.offset_bounds-work-column_at
 offset_bounds-work-column_at c = omega (arith, c.column_at.ensures.1)
@@ -76,7 +76,7 @@ pub returns : goal.returns
 returns c =
     let here : let a = c.args in FluidParticleOk a.scene.now (record { head = c.head_of-head.result; at = (location_of Fluid a.scene.now a.i).at }) a.i = over_here c.requires.pass_over.0 c.requires.pass_over.1 refl c.head_of-head.ensures in
     let p = c.requires in
-    state_made p.0.0 p.1 (here) p.0.1 c.double-density0.ensures c.row_at-row.ensures.0
+    state_made p.pass_over.0 p.iterating (here) p.pass_over.1 c.double-density0.ensures c.row_at-row.ensures.0
     c.pressure_slot.ensures
     c.density_column.ensures
     c.column_at.ensures.0

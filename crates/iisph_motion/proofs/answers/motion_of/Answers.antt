@@ -15,7 +15,7 @@ final_change_of-change-requires c = c.requires
 pub record_of-at-requires : goal.record_of-at-requires
 record_of-at-requires c =
     let p = c.requires in
-    record_asked p.0.0.timed.over p.0.1
+    record_asked p.driven_pass.0.timed.over p.driven_pass.1
 
 pub overflow_add-at : goal.overflow_add-at
 overflow_add-at c =

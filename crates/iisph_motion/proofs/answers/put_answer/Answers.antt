@@ -14,7 +14,7 @@ use Rattle.iisph_motion.proofs.answers.put_answer.Goals as goal
 pub motion_of-motion-requires : goal.motion_of-motion-requires
 motion_of-motion-requires c =
     let p = c.requires in
-    ((p.0.0, p.1.0), p.0.1)
+    record { driven_pass = (p.driven_pass.0, p.i_lt_n.0); changes_ready = p.driven_pass.1 }
 
 pub row_at-requires : goal.row_at-requires
 row_at-requires c =

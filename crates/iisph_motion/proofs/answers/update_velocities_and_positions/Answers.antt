@@ -26,7 +26,7 @@ pub put_answer-requires : goal.put_answer-requires
 put_answer-requires c =
     let p = c.requires in
     let h = c.loop-i-test.true in
-    (p.0, (h, omega (arith, rows_apart (fluid_answer_width c.args.dim) h, p.1, c.loop-i.invariant.1)))
+    record { driven_pass = p.driven_pass; i_lt_n = (h, omega (arith, rows_apart (fluid_answer_width c.args.dim) h, p.n_in_bounds, c.loop-i.invariant.1)) }
 
 pub loop-i-preserved : goal.loop-i-preserved
 loop-i-preserved c =

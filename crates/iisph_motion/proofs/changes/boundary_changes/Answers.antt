@@ -32,7 +32,7 @@ overflow_add-c c =
 pub boundary_acceleration-requires : goal.boundary_acceleration-requires
 boundary_acceleration-requires c =
     let here : let a = c.args in ContactReady Boundary a.dim a.scene.now (a.list.at + c.contact_width-width.result * c.loop-k.k) = contact_here c.requires.contacts_ready c.loop-k.k c.contact_width-width.ensures.0 c.loop-k-test.true in
-    (c.requires.pass_over, here)
+    record { pass_over = c.requires.pass_over; contact_ready = here }
 
 pub overflow_add-k : goal.overflow_add-k
 overflow_add-k c = omega (arith, c.loop-k-test.true)

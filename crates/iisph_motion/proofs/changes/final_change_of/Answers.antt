@@ -16,25 +16,25 @@ pub contacts_of-fluid-requires : goal.contacts_of-fluid-requires
 contacts_of-fluid-requires c =
     let below : c.args.i < fluid_size (scene_of c.args.scene.now) = omega (arith, c.requires.driven_pass.0.timed.over.size, c.requires.driven_pass.1) in
     let p = c.requires.driven_pass.0.timed.over in
-    ((p.indexed, p.axes), below)
+    record { indexed = (p.indexed, p.axes); i_bound = below }
 
 pub contacts_of-boundary-requires : goal.contacts_of-boundary-requires
 contacts_of-boundary-requires c =
     let below : c.args.i < fluid_size (scene_of c.args.scene.now) = omega (arith, c.requires.driven_pass.0.timed.over.size, c.requires.driven_pass.1) in
     let p = c.requires.driven_pass.0.timed.over in
-    ((p.indexed, p.axes), below)
+    record { indexed = (p.indexed, p.axes); i_bound = below }
 
 pub pressure_state_of-state-requires : goal.pressure_state_of-state-requires
 pressure_state_of-state-requires c =
     let p = c.requires in
-    ((p.0.0.timed.over, p.0.1), p.1.iteration)
+    record { pass_over = (p.driven_pass.0.timed.over, p.driven_pass.1); iterating = p.changes_ready.iteration }
 
 pub column_at-requires : goal.column_at-requires
 column_at-requires c =
     let p = c.requires in (
-      omega (arith, c.quotient_column.ensures, (pass_axes p.0.0.timed.over).least),
-      p.0.1,
-      omega (arith, p.1.iteration.room),
+      omega (arith, c.quotient_column.ensures, (pass_axes p.driven_pass.0.timed.over).least),
+      p.driven_pass.1,
+      omega (arith, p.changes_ready.iteration.room),
     )
 
 pub offset_bounds-work-column_at : goal.offset_bounds-work-column_at
@@ -55,16 +55,16 @@ fluid_changes-part-requires c =
     let below : c.args.i < fluid_size (scene_of c.args.scene.now) = omega (arith, c.requires.driven_pass.0.timed.over.size, c.requires.driven_pass.1) in
     let fluid : let b = c.args.scene.now in ContactsAre b Fluid (particle (scene_of b) c.args.i) c.contacts_of-fluid.result = contacts_are c.requires.driven_pass.0.timed.over.indexed _ (below) c.contacts_of-fluid.ensures in
     let p = c.requires in
-    let over = p.0.0.timed.over in
-    ((over, p.1), list_ready over.axes (fluid))
+    let over = p.driven_pass.0.timed.over in
+    record { pass_over = (over, p.changes_ready); contacts_ready = list_ready over.axes (fluid) }
 
 pub boundary_changes-requires : goal.boundary_changes-requires
 boundary_changes-requires c =
     let below : c.args.i < fluid_size (scene_of c.args.scene.now) = omega (arith, c.requires.driven_pass.0.timed.over.size, c.requires.driven_pass.1) in
     let boundary : let b = c.args.scene.now in ContactsAre b Boundary (particle (scene_of b) c.args.i) c.contacts_of-boundary.result = contacts_are c.requires.driven_pass.0.timed.over.indexed _ (below) c.contacts_of-boundary.ensures in
     let p = c.requires in
-    let over = p.0.0.timed.over in
-    ((over, p.1.iteration), list_ready over.axes (boundary))
+    let over = p.driven_pass.0.timed.over in
+    record { pass_over = (over, p.changes_ready.iteration); contacts_ready = list_ready over.axes (boundary) }
 
 pub returns : goal.returns
 returns c =
@@ -72,10 +72,10 @@ returns c =
     let boundary : let b = c.args.scene.now in ContactsAre b Boundary (particle (scene_of b) c.args.i) c.contacts_of-boundary.result = contacts_are c.requires.driven_pass.0.timed.over.indexed _ (below) c.contacts_of-boundary.ensures in
     let fluid : let b = c.args.scene.now in ContactsAre b Fluid (particle (scene_of b) c.args.i) c.contacts_of-fluid.result = contacts_are c.requires.driven_pass.0.timed.over.indexed _ (below) c.contacts_of-fluid.ensures in
     let p = c.requires in
-    change_made p.0.0.timed.over.axes _ (fluid) (boundary) _ _ p.0.0.timed.dt_is _
+    change_made p.driven_pass.0.timed.over.axes _ (fluid) (boundary) _ _ p.driven_pass.0.timed.dt_is _
     c.pressure_state_of-state.ensures
     _
-    (share_at p.1 p.0.1 c.quotient_column.ensures c.column_at.ensures.0)
+    (share_at p.changes_ready p.driven_pass.1 c.quotient_column.ensures c.column_at.ensures.0)
     c.velocity_change_of-first.ensures
     c.fluid_changes-part.ensures
     c.boundary_changes.ensures

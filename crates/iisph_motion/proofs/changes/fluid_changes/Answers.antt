@@ -39,7 +39,7 @@ overflow_add-c c =
 pub target_of-j-requires : goal.target_of-j-requires
 target_of-j-requires c =
     let here : let a = c.args in ContactReady Fluid a.dim a.scene.now (a.list.at + c.contact_width-width.result * c.loop-k.k) = contact_here c.requires.contacts_ready c.loop-k.k c.contact_width-width.ensures.0 c.loop-k-test.true in
-    (c.requires.pass_over.0.indexed, target_ready (here))
+    record { indexed = c.requires.pass_over.0.indexed; target_ready = target_ready (here) }
 
 pub row_at-requires : goal.row_at-requires
 row_at-requires c =
@@ -61,9 +61,9 @@ column_at-requires c =
     let here : let a = c.args in ContactReady Fluid a.dim a.scene.now (a.list.at + c.contact_width-width.result * c.loop-k.k) = contact_here c.requires.contacts_ready c.loop-k.k c.contact_width-width.ensures.0 c.loop-k-test.true in
     let below : c.target_of-j.result < c.args.n = omega (arith, c.requires.pass_over.0.size, fluid_named here.target c.target_of-j.ensures refl) in
     let p = c.requires in (
-      omega (arith, c.quotient_column-shares.ensures, p.1.axes.least),
+      omega (arith, c.quotient_column-shares.ensures, p.contacts_ready.axes.least),
       below,
-      omega (arith, p.0.1.iteration.room),
+      omega (arith, p.pass_over.1.iteration.room),
     )
 
 pub offset_bounds-work-column_at : goal.offset_bounds-work-column_at
@@ -98,7 +98,7 @@ loop-k-preserved c =
       change_next Fluid d _
           (fluid_change (scene_of a.scene.now) (pressures_in d a.n a.work.now) a.dt a.own)
           a.list.at l.k _ c.contact_width-width.ensures.0 l.invariant.1
-          (fluid_change_lem _ (here) p.0.0 p.0.1 a.own a.dt c.target_of-j.ensures c.row_at.ensures.0
+          (fluid_change_lem _ (here) p.pass_over.0 p.pass_over.1 a.own a.dt c.target_of-j.ensures c.row_at.ensures.0
           c.quotient_column-shares.ensures
           c.column_at.ensures.0
           c.vector.ensures

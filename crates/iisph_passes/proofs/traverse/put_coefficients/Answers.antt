@@ -11,7 +11,7 @@ use borrow.Author.Rules.{rules}
 use Rattle.iisph_passes.proofs.traverse.put_coefficients.Goals as goal
 
 pub put_in_row-requires : goal.put_in_row-requires
-put_in_row-requires c = (c.requires, omega (arith, c.pressure_slot.ensures))
+put_in_row-requires c = record { axes = c.requires; dim_bound = omega (arith, c.pressure_slot.ensures) }
 
 pub put_column-requires : goal.put_column-requires
 put_column-requires c =

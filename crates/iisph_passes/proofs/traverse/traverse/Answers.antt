@@ -23,15 +23,12 @@ loop-i-init c = (omega arith, refl, stored_none nan (slot_at _ _) _ _ _)
 pub update_row-requires : goal.update_row-requires
 update_row-requires c =
     let axes : Axes c.args.dim = axes-are c.args.scene.now c.requires.driven_pass.timed.over.axes in
-    let a = c.args in (
-      (c.requires.driven_pass, c.loop-i-test.true),
-      (
+    let a = c.args in record { driven_pass = (c.requires.driven_pass, c.loop-i-test.true); room = (
         omega (arith, c.requires.room.0),
         ready_kept a.scene.now c.requires.driven_pass.timed.over.axes (axes) c.requires.driven_pass.timed.over.size c.loop-i.i
             c.loop-i.invariant.0 a.work.now
             a.pass c.loop-i.invariant.2 c.requires.room.1,
-      ),
-    )
+      ) }
 
 pub loop-i-preserved : goal.loop-i-preserved
 loop-i-preserved c =

@@ -22,11 +22,11 @@ pub put_in_row-requires : goal.put_in_row-requires
 put_in_row-requires c =
     let axes : Axes c.args.dim = axes-are c.args.scene.now c.requires.driven_pass.0.timed.over.axes in
     let room : volumes_at c.args.dim c.args.n ≤ length c.args.work.now = omega (arith, c.requires.room.0) in
-    ((axes, c.requires.driven_pass.1, room), omega arith)
+    record { axes = (axes, c.requires.driven_pass.1, room); dim_bound = omega arith }
 
 pub coefficients_of-c-requires : goal.coefficients_of-c-requires
 coefficients_of-c-requires c =
-    ((c.requires.driven_pass.0.timed, c.requires.driven_pass.1), coefficients_ready _ _ _ _ c.requires.room.1 c.enum-told2.given.1)
+    record { timed_pass = (c.requires.driven_pass.0.timed, c.requires.driven_pass.1); coefficients_ready = coefficients_ready _ _ _ _ c.requires.room.1 c.enum-told2.given.1 }
 
 pub put_coefficients-requires : goal.put_coefficients-requires
 put_coefficients-requires c =
@@ -47,7 +47,7 @@ put_column-requires c =
 
 pub dij_pjl_of-d-requires : goal.dij_pjl_of-d-requires
 dij_pjl_of-d-requires c =
-    ((c.requires.driven_pass.0.timed, c.requires.driven_pass.1), dij_ready _ _ _ _ c.requires.room.1 c.enum-told4.given.1)
+    record { timed_pass = (c.requires.driven_pass.0.timed, c.requires.driven_pass.1); dij_ready = dij_ready _ _ _ _ c.requires.room.1 c.enum-told4.given.1 }
 
 pub row_at-row-requires : goal.row_at-row-requires
 row_at-row-requires c =
@@ -68,7 +68,7 @@ put_vector-requires c =
 
 pub next_pressure_of-next-requires : goal.next_pressure_of-next-requires
 next_pressure_of-next-requires c =
-    ((c.requires.driven_pass.0.timed, c.requires.driven_pass.1), next_ready _ _ _ _ c.requires.room.1 c.enum-told5.given.1)
+    record { timed_pass = (c.requires.driven_pass.0.timed, c.requires.driven_pass.1); iterating = next_ready _ _ _ _ c.requires.room.1 c.enum-told5.given.1 }
 
 pub put_column-requires-in-NextPressures : goal.put_column-requires-in-NextPressures
 put_column-requires-in-NextPressures c =

@@ -36,7 +36,7 @@ overflow_add-c c =
 pub target_of-j-requires : goal.target_of-j-requires
 target_of-j-requires c =
     let here : let a = c.args in ContactReady Boundary a.dim a.scene.now (a.list.at + c.contact_width-width.result * c.loop-k.k) = contact_here c.requires.contacts_ready _ c.contact_width-width.ensures.0 c.loop-k-test.true in
-    (c.requires.pass_over.0.indexed, target_ready (here))
+    record { indexed = c.requires.pass_over.0.indexed; target_ready = target_ready (here) }
 
 pub overflow_add-c-in-loop-k : goal.overflow_add-c-in-loop-k
 overflow_add-c-in-loop-k c =
@@ -68,7 +68,7 @@ loop-k-preserved c =
       term_next Boundary a.dim _ (boundary_term (scene_of a.scene.now) a.list.density0 d) a.list.at l.k
           _ c.contact_width-width.ensures.0 l.invariant.1
           (ap (λ (k : ℕ). element_at a.work.now k ⊗ a.list.density0 ⊗ c.dot.result) c.volume_at-place.ensures.0
-          ∙ boundary_term_lem _ p.0.0.axes p.0.0.size p.0.1 c.vector-g.ensures (target_ready (here))
+          ∙ boundary_term_lem _ p.pass_over.0.axes p.pass_over.0.size p.pass_over.1 c.vector-g.ensures (target_ready (here))
           c.target_of-j.ensures
           a.list.density0 d c.dot.ensures),
     )

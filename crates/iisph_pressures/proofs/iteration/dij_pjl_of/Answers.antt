@@ -11,17 +11,17 @@ use Rattle.iisph_pressures.proofs.iteration.dij_pjl_of.Goals as goal
 pub contacts_of-list-requires : goal.contacts_of-list-requires
 contacts_of-list-requires c =
     let p = c.requires in
-    ((p.0.0.over.indexed, p.0.0.over.axes), omega (arith, p.0.0.over.size, p.0.1))
+    record { indexed = (p.timed_pass.0.over.indexed, p.timed_pass.0.over.axes); i_bound = omega (arith, p.timed_pass.0.over.size, p.timed_pass.1) }
 
 pub dij_sum-requires : goal.dij_sum-requires
 dij_sum-requires c =
-    let fluid : let b = c.args.scene.now in ContactsAre b Fluid (particle (scene_of b) c.args.i) c.contacts_of-list.result = let p = c.requires in contacts_are p.0.0.over.indexed _ (omega (arith, p.0.0.over.size, p.0.1)) c.contacts_of-list.ensures in
+    let fluid : let b = c.args.scene.now in ContactsAre b Fluid (particle (scene_of b) c.args.i) c.contacts_of-list.result = let p = c.requires in contacts_are p.timed_pass.0.over.indexed _ (omega (arith, p.timed_pass.0.over.size, p.timed_pass.1)) c.contacts_of-list.ensures in
     let p = c.requires in
-    ((p.0.0.over, p.1), list_ready p.0.0.over.axes (fluid))
+    record { pass_over = (p.timed_pass.0.over, p.dij_ready); contacts_ready = list_ready p.timed_pass.0.over.axes (fluid) }
 
 pub returns : goal.returns
 returns c =
-    let fluid : let b = c.args.scene.now in ContactsAre b Fluid (particle (scene_of b) c.args.i) c.contacts_of-list.result = let p = c.requires in contacts_are p.0.0.over.indexed _ (omega (arith, p.0.0.over.size, p.0.1)) c.contacts_of-list.ensures in
+    let fluid : let b = c.args.scene.now in ContactsAre b Fluid (particle (scene_of b) c.args.i) c.contacts_of-list.result = let p = c.requires in contacts_are p.timed_pass.0.over.indexed _ (omega (arith, p.timed_pass.0.over.size, p.timed_pass.1)) c.contacts_of-list.ensures in
     let p = c.requires.timed_pass.0 in
     dij_made p.over.axes (fluid) _ p.dt_is c.dij_sum.ensures
     (c.scale.ensures c.args.dim)

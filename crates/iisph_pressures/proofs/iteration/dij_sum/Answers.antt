@@ -35,7 +35,7 @@ overflow_add-c c =
 pub target_of-j-requires : goal.target_of-j-requires
 target_of-j-requires c =
     let here : let a = c.args in ContactReady Fluid a.dim a.scene.now (a.list.at + c.contact_width-width.result * c.loop-k.k) = contact_here c.requires.contacts_ready _ c.contact_width-width.ensures.0 c.loop-k-test.true in
-    (c.requires.pass_over.0.indexed, target_ready (here))
+    record { indexed = c.requires.pass_over.0.indexed; target_ready = target_ready (here) }
 
 pub vector-g-requires : goal.vector-g-requires
 vector-g-requires c =
@@ -50,11 +50,11 @@ overflow_add-c-in-loop-k c =
 pub column_at-place-requires : goal.column_at-place-requires
 column_at-place-requires c =
     let here : let a = c.args in ContactReady Fluid a.dim a.scene.now (a.list.at + c.contact_width-width.result * c.loop-k.k) = contact_here c.requires.contacts_ready _ c.contact_width-width.ensures.0 c.loop-k-test.true in
-    let below : c.target_of-j.result < c.args.n = let p = c.requires in omega (arith, p.0.0.size, fluid_named here.target c.target_of-j.ensures refl) in
+    let below : c.target_of-j.result < c.args.n = let p = c.requires in omega (arith, p.pass_over.0.size, fluid_named here.target c.target_of-j.ensures refl) in
     let p = c.requires in (
-      omega (arith, c.quotient_column-quotients.ensures, p.1.axes.least),
+      omega (arith, c.quotient_column-quotients.ensures, p.contacts_ready.axes.least),
       below,
-      omega (arith, p.0.1.room),
+      omega (arith, p.pass_over.1.room),
     )
 
 pub overflow_add-k : goal.overflow_add-k
@@ -66,7 +66,7 @@ pub loop-k-preserved : goal.loop-k-preserved
 unfolding contact_at
 loop-k-preserved c =
     let here : let a = c.args in ContactReady Fluid a.dim a.scene.now (a.list.at + c.contact_width-width.result * c.loop-k.k) = contact_here c.requires.contacts_ready _ c.contact_width-width.ensures.0 c.loop-k-test.true in
-    let below : c.target_of-j.result < c.args.n = let p = c.requires in omega (arith, p.0.0.size, fluid_named here.target c.target_of-j.ensures refl) in
+    let below : c.target_of-j.result < c.args.n = let p = c.requires in omega (arith, p.pass_over.0.size, fluid_named here.target c.target_of-j.ensures refl) in
     let l = c.loop-k in
     let a = c.args in
     let d = a.dim in

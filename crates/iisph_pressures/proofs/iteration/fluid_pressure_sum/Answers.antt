@@ -34,16 +34,13 @@ overflow_add-c c =
 pub target_of-j-requires : goal.target_of-j-requires
 target_of-j-requires c =
     let here : let a = c.args in ContactReady Fluid a.dim a.scene.now (a.list.at + c.contact_width-width.result * c.loop-k.k) = contact_here c.requires.contacts_ready _ c.contact_width-width.ensures.0 c.loop-k-test.true in
-    (c.requires.pass_over.0.indexed, target_ready (here))
+    record { indexed = c.requires.pass_over.0.indexed; target_ready = target_ready (here) }
 
 pub fluid_term-sum-requires : goal.fluid_term-sum-requires
 fluid_term-sum-requires c =
     let here : let a = c.args in ContactReady Fluid a.dim a.scene.now (a.list.at + c.contact_width-width.result * c.loop-k.k) = contact_here c.requires.contacts_ready _ c.contact_width-width.ensures.0 c.loop-k-test.true in
     let named : c.target_of-j.result < c.args.n =
-    omega (arith, c.requires.pass_over.0.size, fluid_named here.target c.target_of-j.ensures refl) in (
-      (c.requires.contacts_ready.axes, here.doubles.gradient),
-      omega (arith, row_within c.args.dim named, c.requires.pass_over.1.room),
-    )
+    omega (arith, c.requires.pass_over.0.size, fluid_named here.target c.target_of-j.ensures refl) in record { axes = (c.requires.contacts_ready.axes, here.doubles.gradient); dim_in_bounds = omega (arith, row_within c.args.dim named, c.requires.pass_over.1.room) }
 
 pub loop-k-preserved : goal.loop-k-preserved
 loop-k-preserved c =
@@ -58,7 +55,7 @@ loop-k-preserved c =
           (fluid_term d (scene_of a.scene.now) (pressures_in d a.n w) (dijs_in d a.n w) a.owner)
           a.list.at l.k +0 c.contact_width-width.ensures.0 l.invariant.1
           (c.fluid_term-sum.ensures
-          ∙ fluid_term_lem _ p.0.0.axes p.0.0.size p.0.1 refl (target_ready (here)) c.target_of-j.ensures
+          ∙ fluid_term_lem _ p.pass_over.0.axes p.pass_over.0.size p.pass_over.1 refl (target_ready (here)) c.target_of-j.ensures
           a.owner),
     )
 

@@ -20,17 +20,17 @@ columns : (c : tie.Start) {column : ℕ} → column ≤ aii_slot c.args.dim
     → (column < work_width c.args.dim) × (c.args.i < c.args.n)
     × (volumes_at c.args.dim c.args.n ≤ length c.args.work.now)
 columns c h =
-    (omega (arith, h, many_axes _ c.requires.0.0.over.axes), c.requires.0.1, omega (arith, c.requires.1.room))
+    (omega (arith, h, many_axes _ c.requires.timed_pass.0.over.axes), c.requires.timed_pass.1, omega (arith, c.requires.iterating.room))
 
 pub contacts_of-fluid-requires : goal.contacts_of-fluid-requires
 contacts_of-fluid-requires c =
     let below : c.args.i < fluid_size (scene_of c.args.scene.now) = omega (arith, c.requires.timed_pass.0.over.size, c.requires.timed_pass.1) in
-    let o = c.requires.timed_pass.0.over in ((o.indexed, o.axes), below)
+    let o = c.requires.timed_pass.0.over in record { indexed = (o.indexed, o.axes); i_bound = below }
 
 pub contacts_of-boundary-requires : goal.contacts_of-boundary-requires
 contacts_of-boundary-requires c =
     let below : c.args.i < fluid_size (scene_of c.args.scene.now) = omega (arith, c.requires.timed_pass.0.over.size, c.requires.timed_pass.1) in
-    let o = c.requires.timed_pass.0.over in ((o.indexed, o.axes), below)
+    let o = c.requires.timed_pass.0.over in record { indexed = (o.indexed, o.axes); i_bound = below }
 
 pub owner_of-owner-requires : goal.owner_of-owner-requires
 owner_of-owner-requires c =
@@ -41,14 +41,14 @@ fluid_pressure_sum-part-requires c =
     let below : c.args.i < fluid_size (scene_of c.args.scene.now) = omega (arith, c.requires.timed_pass.0.over.size, c.requires.timed_pass.1) in
     let fluid : let b = c.args.scene.now in ContactsAre b Fluid (particle (scene_of b) c.args.i) c.contacts_of-fluid.result = contacts_are c.requires.timed_pass.0.over.indexed _ (below) c.contacts_of-fluid.ensures in
     let p = c.requires in
-    ((p.0.0.over, p.1), list_ready p.0.0.over.axes (fluid))
+    record { pass_over = (p.timed_pass.0.over, p.iterating); contacts_ready = list_ready p.timed_pass.0.over.axes (fluid) }
 
 pub boundary_pressure_sum-sum-requires : goal.boundary_pressure_sum-sum-requires
 boundary_pressure_sum-sum-requires c =
     let below : c.args.i < fluid_size (scene_of c.args.scene.now) = omega (arith, c.requires.timed_pass.0.over.size, c.requires.timed_pass.1) in
     let boundary : let b = c.args.scene.now in ContactsAre b Boundary (particle (scene_of b) c.args.i) c.contacts_of-boundary.result = contacts_are c.requires.timed_pass.0.over.indexed _ (below) c.contacts_of-boundary.ensures in
     let p = c.requires in
-    ((p.0.0.over, p.1), list_ready p.0.0.over.axes (boundary))
+    record { pass_over = (p.timed_pass.0.over, p.iterating); contacts_ready = list_ready p.timed_pass.0.over.axes (boundary) }
 
 pub criterion-requires : goal.criterion-requires
 criterion-requires c =
@@ -69,7 +69,7 @@ returns c =
     let boundary : let b = c.args.scene.now in ContactsAre b Boundary (particle (scene_of b) c.args.i) c.contacts_of-boundary.result = contacts_are c.requires.timed_pass.0.over.indexed _ (below) c.contacts_of-boundary.ensures in
     let fluid : let b = c.args.scene.now in ContactsAre b Fluid (particle (scene_of b) c.args.i) c.contacts_of-fluid.result = contacts_are c.requires.timed_pass.0.over.indexed _ (below) c.contacts_of-fluid.ensures in
     let p = c.requires in
-    next_made _ p.0.0.over.axes p.0.0.over.size p.1 _ p.0.1 (fluid) (boundary) _ p.0.0.dt_is
+    next_made _ p.timed_pass.0.over.axes p.timed_pass.0.over.size p.iterating _ p.timed_pass.1 (fluid) (boundary) _ p.timed_pass.0.dt_is
     c.owner_of-owner.result c.owner_of-owner.ensures
     c.fluid_pressure_sum-part.ensures
     c.boundary_pressure_sum-sum.ensures

@@ -16,21 +16,21 @@ loop-p-init c = none_stored _ _ _ _
 pub overflow_add-first : goal.overflow_add-first
 overflow_add-first c =
     let p = c.requires in
-    omega (arith, p.1.0.within, p.0.few_boundary, c.loop-p-test.true)
+    omega (arith, p.boundary_run.0.within, p.indexed.few_boundary, c.loop-p-test.true)
 
 pub record_of-at-requires : goal.record_of-at-requires
-record_of-at-requires c = let p = c.requires in run_asked p.0 p.1.0 c.loop-p-test.true
+record_of-at-requires c = let p = c.requires in run_asked p.indexed p.boundary_run.0 c.loop-p-test.true
 
 pub volume-requires : goal.volume-requires
 volume-requires c =
     let p = c.requires in
-    (p.1.0.bit, record_ok p.0 p.1.0 c.loop-p-test.true c.record_of-at.ensures)
+    (p.boundary_run.0.bit, record_ok p.indexed p.boundary_run.0 c.loop-p-test.true c.record_of-at.ensures)
 
 pub loop-p-preserved : goal.loop-p-preserved
 loop-p-preserved c =
     let p = c.requires in
     one_more_stored _ _ _ _ c.loop-p.invariant c.loop-p-test.true
-    (c.volume.ensures ∙ volume_here p.0 p.1.0 c.loop-p-test.true c.record_of-at.ensures)
+    (c.volume.ensures ∙ volume_here p.indexed p.boundary_run.0 c.loop-p-test.true c.record_of-at.ensures)
 
 pub returns : goal.returns
 returns c = all_stored _ _ _ _ c.loop-p.invariant c.loop-p-test.false refl

@@ -8,4 +8,4 @@ use Rattle.iisph_solver.proofs.step.step_middle.Goals as goal
 pub step_long-requires : goal.step_long-requires
 step_long-requires c =
     let p = c.requires in
-    (p.0, omega (arith, p.1, long middle_index))
+    record { passed = p.passed; scene_in_bounds = omega (arith, p.scene_bound, long middle_index) }

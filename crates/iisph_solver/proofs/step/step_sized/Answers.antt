@@ -18,12 +18,12 @@ returns-then-lists_short c =
 pub step_small-requires : goal.step_small-requires
 step_small-requires c =
     let ready : let a = c.args in Passed a.scene.now a.layout × LongEnough a.scene.now (length a.answers.now) (length a.work.now) = (c.requires, long_lists _ _ _ (sym c.lists_short.ensures ∙ c.if-lists_short.false)) in
-    (ready, omega (arith, c.if-needed-le-SMALL_INDEX.true, c.index_needed-needed.ensures))
+    record { passed = ready; scene_bound = omega (arith, c.if-needed-le-SMALL_INDEX.true, c.index_needed-needed.ensures) }
 
 pub step_middle-requires : goal.step_middle-requires
 step_middle-requires c =
     let ready : let a = c.args in Passed a.scene.now a.layout × LongEnough a.scene.now (length a.answers.now) (length a.work.now) = (c.requires, long_lists _ _ _ (sym c.lists_short.ensures ∙ c.if-lists_short.false)) in
-    (ready, omega (arith, c.if-needed-le-MIDDLE_INDEX.true, c.index_needed-needed.ensures))
+    record { passed = ready; scene_bound = omega (arith, c.if-needed-le-MIDDLE_INDEX.true, c.index_needed-needed.ensures) }
 
 pub step_largest-requires : goal.step_largest-requires
 step_largest-requires c =

@@ -27,12 +27,12 @@ room = omega (arith, length-replicate {A = ℕ} nameable_models 0)
 pub fill_counts-requires : goal.fill_counts-requires
 fill_counts-requires c =
     let p = c.requires in
-    ((fields_within _ p.0 Fluid, fluids_are _ p.1), room)
+    record { models_within = (fields_within _ p.0 Fluid, fluids_are _ p.1); most_models_in_bounds = room }
 
 pub fill_counts-requires-2 : goal.fill_counts-requires-2
 fill_counts-requires-2 c =
     let p = c.requires in
-    ((fields_within _ p.0 Boundary, boundaries_are _ p.1), room)
+    record { models_within = (fields_within _ p.0 Boundary, boundaries_are _ p.1); most_models_in_bounds = room }
 
 pub models_names-w-requires : goal.models_names-w-requires
 unfolding first_head

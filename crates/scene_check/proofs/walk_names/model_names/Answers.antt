@@ -20,7 +20,7 @@ loop-i-init c = (
 
 pub record_names-w-requires : goal.record_names-w-requires
 record_names-w-requires c =
-    (c.requires.counts_are, holds_here c.loop-i.invariant.1 c.loop-i-test.true)
+    record { counts_are = c.requires.counts_are; record_within = holds_here c.loop-i.invariant.1 c.loop-i-test.true }
 
 pub returns-in_default : goal.returns-in_default
 unfolding model_names_of

@@ -14,11 +14,11 @@ use Rattle.scene_check.proofs.walk_names.models_names.Goals as goal
 pub loop-i-init : goal.loop-i-init
 loop-i-init c =
     let p = c.requires in
-    (p.1.1.0, none_done, rw (p.1.1.0, p.1.1.1) (none_stepped p.1.0.models))
+    (p.models_within.1.0, none_done, rw (p.models_within.1.0, p.models_within.1.1) (none_stepped p.models_within.0.models))
 
 pub model_names-w-requires : goal.model_names-w-requires
 model_names-w-requires c =
-    (c.requires.counts_are, holds_here c.loop-i.invariant.2 c.loop-i-test.true)
+    record { counts_are = c.requires.counts_are; model_within = holds_here c.loop-i.invariant.2 c.loop-i-test.true }
 
 pub returns-in_default : goal.returns-in_default
 unfolding models_names_of

@@ -15,10 +15,10 @@ use Rattle.scene_index.proofs.contacts.contacts_of.Goals as goal
 
 pub record_of-at-requires : goal.record_of-at-requires
 unfolding size_of
-record_of-at-requires c = let p = c.requires in (p.0.0, p.1)
+record_of-at-requires c = let p = c.requires in (p.indexed.0, p.i_bound)
 
 pub head_of-head-requires : goal.head_of-head-requires
-head_of-head-requires c = let p = c.requires in (p.0.0, p.1)
+head_of-head-requires c = let p = c.requires in (p.indexed.0, p.i_bound)
 
 pub overflow_add-head : goal.overflow_add-head
 overflow_add-head c =
@@ -82,14 +82,14 @@ pub returns-in-Fluid : goal.returns-in-Fluid
 returns-in-Fluid c =
     let counts-are : c.contact_counts-counts.result ≡ contact_count_offset Fluid (axes_of c.args.scene.now) = c.contact_counts-counts.ensures.0 ∙ ap (contact_count_offset Fluid) c.requires.indexed.1 in
     let p = c.requires in
-    fluid_contacts_lem p.0.0 _ p.1 c.record_of-at.ensures c.head_of-head.ensures
+    fluid_contacts_lem p.indexed.0 _ p.i_bound c.record_of-at.ensures c.head_of-head.ensures
     c.double-density0.ensures (counts-are) c.byte-fluids.ensures.0 c.in-Fluid.is
 
 pub returns-in-Boundary : goal.returns-in-Boundary
 returns-in-Boundary c =
     let counts-are : c.contact_counts-counts.result ≡ contact_count_offset Fluid (axes_of c.args.scene.now) = c.contact_counts-counts.ensures.0 ∙ ap (contact_count_offset Fluid) c.requires.indexed.1 in
     let p = c.requires in
-    boundary_contacts_lem p.0.0 _ p.1 c.record_of-at.ensures c.head_of-head.ensures
+    boundary_contacts_lem p.indexed.0 _ p.i_bound c.record_of-at.ensures c.head_of-head.ensures
     c.double-density0.ensures (counts-are) c.byte-fluids.ensures.0
-    (c.contact_width.ensures.0 ∙ ap contact_width p.0.1) c.byte-count.ensures.0
+    (c.contact_width.ensures.0 ∙ ap contact_width p.indexed.1) c.byte-count.ensures.0
     c.in-Boundary.is

@@ -26,7 +26,7 @@ returns-in-Fluid c =
 pub overflow_add-result-in-Fluid : goal.overflow_add-result-in-Fluid
 overflow_add-result-in-Fluid c =
     let p = c.requires in
-    omega (arith, returns c, target_few p.0 _ _ p.1.0)
+    omega (arith, returns c, target_few p.indexed _ _ p.target_ready.0)
 
 pub bounds-index-0 : goal.bounds-index-0
 bounds-index-0 c = omega (arith, c.requires.indexed.room)
@@ -54,4 +54,4 @@ returns-in-Boundary c =
 pub overflow_add-result-in-Boundary-2 : goal.overflow_add-result-in-Boundary-2
 overflow_add-result-in-Boundary-2 c =
     let p = c.requires in
-    omega (arith, returns-2 c, target_few p.0 _ _ p.1.0)
+    omega (arith, returns-2 c, target_few p.indexed _ _ p.target_ready.0)

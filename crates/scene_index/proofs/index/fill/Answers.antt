@@ -24,7 +24,7 @@ fill_bases-requires c =
     let fluids : ModelsWithin Fluid c.args.scene.now × (c.args.layout.fluids ≡ layout_models Fluid c.args.scene.now) = (accepted_within _ c.requires.0.walk Fluid, fluids_are _ c.requires.0.layout_is) in
     let long-starts : length c.put_starts.new.1.0 ≡ length c.args.index.now = c.put_starts.auto.1.0 in
     let long = long-starts in
-    (fluids, (size_few _ c.requires.0.walk Fluid, omega (arith, c.requires.1, long)))
+    record { models_within = fluids; scene_bound = (size_few _ c.requires.0.walk Fluid, omega (arith, c.requires.1, long)) }
 
 pub fill_bases-requires-2 : goal.fill_bases-requires-2
 fill_bases-requires-2 c =
@@ -33,7 +33,7 @@ fill_bases-requires-2 c =
     let long-starts : length c.put_starts.new.1.0 ≡ length c.args.index.now = c.put_starts.auto.1.0 in
     let long-fluid-bases : length c.fill_bases.new.1.1.1.1.0 ≡ length c.args.index.now = c.fill_bases.auto.1.1.1.1.0 ∙ long-starts in
     let long = long-fluid-bases in
-    (boundaries, (size_few _ c.requires.0.walk Boundary, omega (arith, c.requires.1, are.bases, long)))
+    record { models_within = boundaries; scene_bound = (size_few _ c.requires.0.walk Boundary, omega (arith, c.requires.1, are.bases, long)) }
 
 pub fill_models-requires : goal.fill_models-requires
 fill_models-requires c =
@@ -43,7 +43,7 @@ fill_models-requires c =
     let long-fluid-bases : length c.fill_bases.new.1.1.1.1.0 ≡ length c.args.index.now = c.fill_bases.auto.1.1.1.1.0 ∙ long-starts in
     let long-bases : length c.fill_bases-2.new.1.1.1.1.0 ≡ length c.args.index.now = c.fill_bases-2.auto.1.1.1.1.0 ∙ long-fluid-bases in
     let long = long-bases in
-    (fluids, omega (arith, c.requires.1, fluid_places c.requires.0, are.records, long))
+    record { models_within = fluids; scene_in_bounds = omega (arith, c.requires.1, fluid_places c.requires.0, are.records, long) }
 
 pub fill_models-requires-2 : goal.fill_models-requires-2
 fill_models-requires-2 c =
@@ -54,7 +54,7 @@ fill_models-requires-2 c =
     let long-bases : length c.fill_bases-2.new.1.1.1.1.0 ≡ length c.args.index.now = c.fill_bases-2.auto.1.1.1.1.0 ∙ long-fluid-bases in
     let long-records : length c.fill_models.new.1.1.1.1.1.0 ≡ length c.args.index.now = c.fill_models.auto.1.1.1.1.1.0 ∙ long-bases in
     let long = long-records in
-    (fluids, omega (arith, c.requires.1, fluid_places c.requires.0, are.heads, long))
+    record { models_within = fluids; scene_in_bounds = omega (arith, c.requires.1, fluid_places c.requires.0, are.heads, long) }
 
 pub fill_models-requires-3 : goal.fill_models-requires-3
 fill_models-requires-3 c =
@@ -66,7 +66,7 @@ fill_models-requires-3 c =
     let long-records : length c.fill_models.new.1.1.1.1.1.0 ≡ length c.args.index.now = c.fill_models.auto.1.1.1.1.1.0 ∙ long-bases in
     let long-heads : length c.fill_models-2.new.1.1.1.1.1.0 ≡ length c.args.index.now = c.fill_models-2.auto.1.1.1.1.1.0 ∙ long-records in
     let long = long-heads in
-    (boundaries, omega (arith, c.requires.1, boundary_places c.requires.0, are.boundary_records, long))
+    record { models_within = boundaries; scene_in_bounds = omega (arith, c.requires.1, boundary_places c.requires.0, are.boundary_records, long) }
 
 pub returns : goal.returns
 returns c =

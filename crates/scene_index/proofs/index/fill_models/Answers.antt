@@ -31,7 +31,7 @@ pub fill_model-requires : goal.fill_model-requires
 fill_model-requires c =
     let turn : let a = c.args in Turn a.kind a.scene.now a.models.heads c.loop-m.m = this_turn c.requires.models_within.0 c.requires.models_within.1 _ c.loop-m-test.true in
     let room : c.loop-m.to + c.particles-n.result ≤ length c.loop-m.index = rw c.particles-n.ensures.0 (model_room _ _ _ _ _ c.loop-m.invariant turn.below turn.head c.requires.scene_in_bounds) in
-    (turn.within, (c.particles-n.ensures.0, room))
+    record { model_within = turn.within; n_value = (c.particles-n.ensures.0, room) }
 
 pub overflow_add-to : goal.overflow_add-to
 overflow_add-to c =
