@@ -24,4 +24,4 @@ pub returns : goal.returns
 returns c =
     let n = c.be16.result * 65536 + c.be16-2.result in
     let room = c.args.room.now in
-    fits_whole _ c.read_scene.new.1.0 (drop n room) c.read_scene.ensures
+    fits_whole _ c.read_scene.new.scene (drop n room) c.read_scene.ensures

@@ -11,17 +11,17 @@ use Rattle.cases_texts.proofs.print_next.Goals as goal
 
 pub slice_bounds-scene-end : goal.slice_bounds-scene-end
 slice_bounds-scene-end c =
-    let fits : c.in-Scene.n ≤ length c.read_next.new.1.0 = scene_fits c.read_next.ensures c.in-Scene.is in
+    let fits : c.in-Scene.n ≤ length c.read_next.new.room = scene_fits c.read_next.ensures c.in-Scene.is in
     fits
 
 pub slice_bounds-print_text-end : goal.slice_bounds-print_text-end
 slice_bounds-print_text-end c =
-    let fits : c.in-Scene.n ≤ length c.read_next.new.1.0 = scene_fits c.read_next.ensures c.in-Scene.is in
+    let fits : c.in-Scene.n ≤ length c.read_next.new.room = scene_fits c.read_next.ensures c.in-Scene.is in
     sym (length-take-le _ _ (fits))
 
 pub returns-in-Scene : goal.returns-in-Scene
 returns-in-Scene c =
-    let fits : c.in-Scene.n ≤ length c.read_next.new.1.0 = scene_fits c.read_next.ensures c.in-Scene.is in
+    let fits : c.in-Scene.n ≤ length c.read_next.new.room = scene_fits c.read_next.ensures c.in-Scene.is in
     scene_came _ _ _ _ _ (fits) (c.read_next.auto.1.0 ∙ length-replicate {A = ℕ} room 0) c.print_text.ensures
 
 pub returns-in-Nothing : goal.returns-in-Nothing

@@ -40,7 +40,7 @@ zero_refusal-answer-requires c =
     let length-of : length (prepared (axes_of c.args.scene.now) (scene_of c.args.scene.now) c.args.work.now) ≡ length c.args.work.now = length-prepared c.args.scene.now c.args.work.now in
     let is : c.args.dim ≡ axes_of c.args.scene.now = c.requires.driven_pass.timed.over.axes in
     let size : c.args.n ≡ fluid_size (scene_of c.args.scene.now) = c.requires.driven_pass.timed.over.size in
-    let made : c.fill_rows.new.1.1.1.1.1.1.0 ≡ prepared (axes_of c.args.scene.now) (scene_of c.args.scene.now) c.args.work.now = prepared_made c.args.scene.now (is) (size) c.args.work.now c.compute_boundary_volumes.ensures c.fill_rows.ensures in
+    let made : c.fill_rows.new.work ≡ prepared (axes_of c.args.scene.now) (scene_of c.args.scene.now) c.args.work.now = prepared_made c.args.scene.now (is) (size) c.args.work.now c.compute_boundary_volumes.ensures c.fill_rows.ensures in
     let room : volumes_at (axes_of c.args.scene.now) (fluid_size (scene_of c.args.scene.now)) + boundary_size (scene_of c.args.scene.now) ≤ length c.args.work.now = omega (arith, c.requires.passed.1, work_least c.args.scene.now) in
     let room_for : Room (scene_of c.args.scene.now) c.args.dim c.args.n c.args.work.now = room_of c.args.scene.now (is) (size) c.args.work.now (room) in
     (c.requires.driven_pass.timed.over, omega (arith, room_for, ap length (made), length-of))
@@ -53,7 +53,7 @@ clear-requires c =
     let length-of : length (prepared (axes_of c.args.scene.now) (scene_of c.args.scene.now) c.args.work.now) ≡ length c.args.work.now = length-prepared c.args.scene.now c.args.work.now in
     let is : c.args.dim ≡ axes_of c.args.scene.now = c.requires.driven_pass.timed.over.axes in
     let size : c.args.n ≡ fluid_size (scene_of c.args.scene.now) = c.requires.driven_pass.timed.over.size in
-    let made : c.fill_rows.new.1.1.1.1.1.1.0 ≡ prepared (axes_of c.args.scene.now) (scene_of c.args.scene.now) c.args.work.now = prepared_made c.args.scene.now (is) (size) c.args.work.now c.compute_boundary_volumes.ensures c.fill_rows.ensures in
+    let made : c.fill_rows.new.work ≡ prepared (axes_of c.args.scene.now) (scene_of c.args.scene.now) c.args.work.now = prepared_made c.args.scene.now (is) (size) c.args.work.now c.compute_boundary_volumes.ensures c.fill_rows.ensures in
     let needed : c.lengths_of-needed.result.work ≡ work_needed (scene_of c.args.scene.now) = ap (λ n. n.work) c.lengths_of-needed.ensures in
     omega (arith, c.requires.passed.1, needed, ap length (made), length-of)
 
@@ -62,7 +62,7 @@ unfolding work_prepared
 returns-in-Ready c =
     let is : c.args.dim ≡ axes_of c.args.scene.now = c.requires.driven_pass.timed.over.axes in
     let size : c.args.n ≡ fluid_size (scene_of c.args.scene.now) = c.requires.driven_pass.timed.over.size in
-    let made : c.fill_rows.new.1.1.1.1.1.1.0 ≡ prepared (axes_of c.args.scene.now) (scene_of c.args.scene.now) c.args.work.now = prepared_made c.args.scene.now (is) (size) c.args.work.now c.compute_boundary_volumes.ensures c.fill_rows.ensures in
+    let made : c.fill_rows.new.work ≡ prepared (axes_of c.args.scene.now) (scene_of c.args.scene.now) c.args.work.now = prepared_made c.args.scene.now (is) (size) c.args.work.now c.compute_boundary_volumes.ensures c.fill_rows.ensures in
     let room : volumes_at (axes_of c.args.scene.now) (fluid_size (scene_of c.args.scene.now)) + boundary_size (scene_of c.args.scene.now) ≤ length c.args.work.now = omega (arith, c.requires.passed.1, work_least c.args.scene.now) in
     (
       sym c.in-Ready.is
@@ -75,7 +75,7 @@ pub returns-in-Refused : goal.returns-in-Refused
 returns-in-Refused c =
     let is : c.args.dim ≡ axes_of c.args.scene.now = c.requires.driven_pass.timed.over.axes in
     let size : c.args.n ≡ fluid_size (scene_of c.args.scene.now) = c.requires.driven_pass.timed.over.size in
-    let made : c.fill_rows.new.1.1.1.1.1.1.0 ≡ prepared (axes_of c.args.scene.now) (scene_of c.args.scene.now) c.args.work.now = prepared_made c.args.scene.now (is) (size) c.args.work.now c.compute_boundary_volumes.ensures c.fill_rows.ensures in
+    let made : c.fill_rows.new.work ≡ prepared (axes_of c.args.scene.now) (scene_of c.args.scene.now) c.args.work.now = prepared_made c.args.scene.now (is) (size) c.args.work.now c.compute_boundary_volumes.ensures c.fill_rows.ensures in
     let needed : c.lengths_of-needed.result.work ≡ work_needed (scene_of c.args.scene.now) = ap (λ n. n.work) c.lengths_of-needed.ensures in
     let room : volumes_at (axes_of c.args.scene.now) (fluid_size (scene_of c.args.scene.now)) + boundary_size (scene_of c.args.scene.now) ≤ length c.args.work.now = omega (arith, c.requires.passed.1, work_least c.args.scene.now) in
     (

@@ -15,30 +15,30 @@ put_in_row-requires c = record { axes = c.requires; dim_bound = omega (arith, c.
 
 pub put_column-requires : goal.put_column-requires
 put_column-requires c =
-    let first-kept : length c.put_in_row.new.0 ≡ length c.args.work.now = ap length c.put_in_row.ensures ∙ simp (length-sets, length-set) in
+    let first-kept : length c.put_in_row.new.work ≡ length c.args.work.now = ap length c.put_in_row.ensures ∙ simp (length-sets, length-set) in
     let p = c.requires in
     (omega (arith, c.density_column.ensures), p.1, omega (arith, p.2, first-kept))
 
 pub put_column-requires-2 : goal.put_column-requires-2
 put_column-requires-2 c =
-    let first-kept : length c.put_in_row.new.0 ≡ length c.args.work.now = ap length c.put_in_row.ensures ∙ simp (length-sets, length-set) in
-    let second-kept : length c.put_column.new.0 ≡ length c.args.work.now = ap length c.put_column.ensures ∙ (simp length-set) ∙ first-kept in
+    let first-kept : length c.put_in_row.new.work ≡ length c.args.work.now = ap length c.put_in_row.ensures ∙ simp (length-sets, length-set) in
+    let second-kept : length c.put_column.new.work ≡ length c.args.work.now = ap length c.put_column.ensures ∙ (simp length-set) ∙ first-kept in
     let p = c.requires in
     (omega (arith, c.predicted_column.ensures), p.1, omega (arith, p.2, second-kept))
 
 pub put_column-requires-3 : goal.put_column-requires-3
 put_column-requires-3 c =
-    let first-kept : length c.put_in_row.new.0 ≡ length c.args.work.now = ap length c.put_in_row.ensures ∙ simp (length-sets, length-set) in
-    let second-kept : length c.put_column.new.0 ≡ length c.args.work.now = ap length c.put_column.ensures ∙ (simp length-set) ∙ first-kept in
-    let third-kept : length c.put_column-2.new.0 ≡ length c.args.work.now = ap length c.put_column-2.ensures ∙ (simp length-set) ∙ second-kept in
+    let first-kept : length c.put_in_row.new.work ≡ length c.args.work.now = ap length c.put_in_row.ensures ∙ simp (length-sets, length-set) in
+    let second-kept : length c.put_column.new.work ≡ length c.args.work.now = ap length c.put_column.ensures ∙ (simp length-set) ∙ first-kept in
+    let third-kept : length c.put_column-2.new.work ≡ length c.args.work.now = ap length c.put_column-2.ensures ∙ (simp length-set) ∙ second-kept in
     let p = c.requires in
     (omega (arith, c.aii_column.ensures), p.1, omega (arith, p.2, third-kept))
 
 pub shape_of-work : goal.shape_of-work
 shape_of-work c =
-    let first-kept : length c.put_in_row.new.0 ≡ length c.args.work.now = ap length c.put_in_row.ensures ∙ simp (length-sets, length-set) in
-    let second-kept : length c.put_column.new.0 ≡ length c.args.work.now = ap length c.put_column.ensures ∙ (simp length-set) ∙ first-kept in
-    let third-kept : length c.put_column-2.new.0 ≡ length c.args.work.now = ap length c.put_column-2.ensures ∙ (simp length-set) ∙ second-kept in
+    let first-kept : length c.put_in_row.new.work ≡ length c.args.work.now = ap length c.put_in_row.ensures ∙ simp (length-sets, length-set) in
+    let second-kept : length c.put_column.new.work ≡ length c.args.work.now = ap length c.put_column.ensures ∙ (simp length-set) ∙ first-kept in
+    let third-kept : length c.put_column-2.new.work ≡ length c.args.work.now = ap length c.put_column-2.ensures ∙ (simp length-set) ∙ second-kept in
     ap length c.put_column-3.ensures ∙ (simp length-set) ∙ third-kept
 
 pub returns : goal.returns

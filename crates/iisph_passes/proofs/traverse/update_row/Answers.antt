@@ -80,7 +80,7 @@ pub put_column-requires-in-NextPressures-2 : goal.put_column-requires-in-NextPre
 put_column-requires-in-NextPressures-2 c =
     let axes : Axes c.args.dim = axes-are c.args.scene.now c.requires.driven_pass.0.timed.over.axes in
     let room : volumes_at c.args.dim c.args.n ≤ length c.args.work.now = omega (arith, c.requires.room.0) in
-    let kept : length c.put_column-in-NextPressures.new.0 ≡ length c.args.work.now =
+    let kept : length c.put_column-in-NextPressures.new.work ≡ length c.args.work.now =
     ap length c.put_column-in-NextPressures.ensures ∙ simp length-set in (
       next_within (axes) c.next_pressure_column.ensures,
       c.requires.driven_pass.1,

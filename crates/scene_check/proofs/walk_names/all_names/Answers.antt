@@ -7,7 +7,10 @@ use lib.ListN.{length, replicate, length-replicate}
 use borrow.Author.Rules.{rules}
 use Rattle.scene_fields.specs.Fields.{◌▹◌}
 use Rattle.scene_format.specs.Format.{most_models, nameable_models, axes_of, header_width, first_head}
+use mathlib.Core.List.{List}
 use Rattle.scene_format.specs.Within.{ModelsWithin}
+use Rattle.scene_format.specs.declared.Walk.TheVariants.{At}
+use Rattle.scene_walk.specs.Walk.{fields}
 use Rattle.scene_format.specs.declared.Kind.{Kind}
 use Rattle.scene_format.specs.declared.Kind.TheVariants.{Fluid, Boundary}
 use Rattle.scene_check.specs.Check.{CountsAre}
@@ -18,8 +21,8 @@ use Rattle.scene_walk.proofs.Within.{fields_within}
 use Rattle.scene_check.proofs.walk_names.all_names.Goals as goal
 
 -- every model ends within the bytes
-within : (c : tie.After-fill-counts2) (κ : Kind) → ModelsWithin κ (Begin c).args.s.now
-within c = fields_within _ (Begin c).requires.0
+within : (b : List ℕ) → fields b ≡ At (length b) → (κ : Kind) → ModelsWithin κ b
+within b h = fields_within b h
 
 room : most_models ≤ length (replicate {A = ℕ} nameable_models 0)
 room = omega (arith, length-replicate {A = ℕ} nameable_models 0)
@@ -37,9 +40,13 @@ fill_counts-requires-2 c =
 pub models_names-w-requires : goal.models_names-w-requires
 unfolding first_head
 models_names-w-requires c =
-    let known : CountsAre c.args.s.now c.fill_counts.new.1.1.1.0 c.fill_counts-2.new.1.1.1.0 = counts-are _ (within c) c.fill_counts.ensures c.fill_counts-2.ensures in
+    let known : CountsAre c.args.s.now c.fill_counts.new.counts c.fill_counts-2.new.counts = counts-are _ (within c.args.s.now c.requires.0) c.fill_counts.ensures c.fill_counts-2.ensures in
     let start_is : c.header_width-first.result ≡ header_width (axes_of c.args.s.now) = c.header_width-first.ensures ∙ ap header_width c.axes.ensures.0 in
-    (known, (within c Fluid, (fluid-number _ c.requires.1, start_is)))
+    record {
+      counts_are = known;
+      models_within = within c.args.s.now c.requires.0 Fluid;
+      n_value = (fluid-number _ c.requires.1, start_is);
+    }
 
 pub returns-in_default : goal.returns-in_default
 unfolding all_names ◌▹◌
@@ -53,8 +60,12 @@ unfolding first_head
 models_names-requires c =
     let start_is : c.header_width-first.result ≡ header_width (axes_of c.args.s.now) = c.header_width-first.ensures ∙ ap header_width c.axes.ensures.0 in
     let fluids-end : c.in-At.at ≡ first_head Boundary c.args.s.now = rw (← start_is) (models_names-steps c.args.s.now Fluid _ _ (sym c.models_names-w.ensures ∙ c.in-At.is)).0 in
-    let known : CountsAre c.args.s.now c.fill_counts.new.1.1.1.0 c.fill_counts-2.new.1.1.1.0 = counts-are _ (within c) c.fill_counts.ensures c.fill_counts-2.ensures in
-    (known, (within c Boundary, (boundary-number _ c.requires.1, fluids-end)))
+    let known : CountsAre c.args.s.now c.fill_counts.new.counts c.fill_counts-2.new.counts = counts-are _ (within c.args.s.now c.requires.0) c.fill_counts.ensures c.fill_counts-2.ensures in
+    record {
+      counts_are = known;
+      models_within = within c.args.s.now c.requires.0 Boundary;
+      n_value = (boundary-number _ c.requires.1, fluids-end);
+    }
 
 pub returns : goal.returns
 unfolding all_names ◌▹◌

@@ -13,6 +13,9 @@ use Rattle.scene_layout.proofs.Locations.{length_counts}
 use Rattle.scene_layout.proofs.Turns.{Turn, this_turn, number_is}
 use Rattle.scene_check.proofs.walk_names.fill_counts.Given as goal
 
+abbrev count : Kind → List ℕ → ℕ → ℕ
+count κ b m = get_or (counts_of κ b) m 0
+
 abbrev pub invariant-loop-m : goal.invariant-loop-m
 invariant-loop-m l = Filling l.initial.counts 0 (count l.kind l.s) (model_number l.kind l.s) l.m l.counts
 

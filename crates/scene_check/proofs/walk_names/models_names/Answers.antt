@@ -14,7 +14,7 @@ use Rattle.scene_check.proofs.walk_names.models_names.Goals as goal
 pub loop-i-init : goal.loop-i-init
 loop-i-init c =
     let p = c.requires in
-    (p.models_within.1.0, none_done, rw (p.models_within.1.0, p.models_within.1.1) (none_stepped p.models_within.0.models))
+    (p.n_value.0, none_done, rw (p.n_value.0, p.n_value.1) (none_stepped p.models_within.models))
 
 pub model_names-w-requires : goal.model_names-w-requires
 model_names-w-requires c =
