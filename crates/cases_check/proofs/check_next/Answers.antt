@@ -24,7 +24,7 @@ pub returns-in-Scene : goal.returns-in-Scene
 unfolding line_of
 returns-in-Scene c =
     let fits : c.in-Scene.n ≤ length c.read_next.new.room = scene_fits c.read_next.ensures c.in-Scene.is in
-    scene_came _ _ _ _ _ (fits) (c.read_next.auto.1.0 ∙ length-replicate {A = ℕ} room 0)
+    scene_came _ _ _ _ _ (fits) (c.read_next.auto.room ∙ length-replicate {A = ℕ} room 0)
     (ap Number c.print_check.ensures)
 
 pub returns-in-Nothing : goal.returns-in-Nothing

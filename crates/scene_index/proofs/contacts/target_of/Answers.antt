@@ -25,8 +25,9 @@ returns-in-Fluid c =
 
 pub overflow_add-result-in-Fluid : goal.overflow_add-result-in-Fluid
 overflow_add-result-in-Fluid c =
+    let fluid : let a = c.args in let p = c.contact_name-name.result.particle.0 in let x = bases_at Fluid a.scene.now + (model_blocks * c.contact_name-name.result.model.0 + p / block_size) in (x < length a.index.now) × (get_or a.index.now x 0 + p % block_size ≡ target_at (starts_of a.kind a.scene.now) a.scene.now a.at) = base_found c.requires.indexed c.args.kind _ c.contact_name-name.ensures c.requires.target_ready.0 (sym (ap (λ κ. bases_at κ c.args.scene.now) c.in-Fluid.is)) in
     let p = c.requires in
-    omega (arith, returns c, target_few p.indexed _ _ p.target_ready.0)
+    omega (arith, fluid.1, target_few p.indexed _ _ p.target_ready.0)
 
 pub bounds-index-0 : goal.bounds-index-0
 bounds-index-0 c = omega (arith, c.requires.indexed.room)
@@ -53,5 +54,6 @@ returns-in-Boundary c =
 
 pub overflow_add-result-in-Boundary-2 : goal.overflow_add-result-in-Boundary-2
 overflow_add-result-in-Boundary-2 c =
+    let boundary : let a = c.args in let p = c.contact_name-name.result.particle.0 in let x = get_or a.index.now 0 0 + (model_blocks * c.contact_name-name.result.model.0 + p / block_size) in (x < length a.index.now) × (get_or a.index.now x 0 + p % block_size ≡ target_at (starts_of a.kind a.scene.now) a.scene.now a.at) = base_found c.requires.indexed c.args.kind _ c.contact_name-name.ensures c.requires.target_ready.0 (bases_begin c.requires.indexed ∙ sym (ap (λ κ. bases_at κ c.args.scene.now) c.in-Boundary.is)) in
     let p = c.requires in
-    omega (arith, returns-2 c, target_few p.indexed _ _ p.target_ready.0)
+    omega (arith, boundary.1, target_few p.indexed _ _ p.target_ready.0)

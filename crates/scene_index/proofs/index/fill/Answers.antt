@@ -22,7 +22,7 @@ put_starts-requires c = omega (arith, c.requires.1)
 pub fill_bases-requires : goal.fill_bases-requires
 fill_bases-requires c =
     let fluids : ModelsWithin Fluid c.args.scene.now × (c.args.layout.fluids ≡ layout_models Fluid c.args.scene.now) = (accepted_within _ c.requires.0.walk Fluid, fluids_are _ c.requires.0.layout_is) in
-    let long-starts : length c.put_starts.new.index ≡ length c.args.index.now = c.put_starts.auto.1.0 in
+    let long-starts : length c.put_starts.new.index ≡ length c.args.index.now = c.put_starts.auto.index in
     let long = long-starts in
     record { models_within = fluids; scene_bound = (size_few _ c.requires.0.walk Fluid, omega (arith, c.requires.1, long)) }
 
@@ -30,8 +30,8 @@ pub fill_bases-requires-2 : goal.fill_bases-requires-2
 fill_bases-requires-2 c =
     let are : SectionsAre c.args.scene.now c.sections_of-sections.result = sections_are c.sections_of-sections.ensures in
     let boundaries : ModelsWithin Boundary c.args.scene.now × (c.args.layout.boundaries ≡ layout_models Boundary c.args.scene.now) = (accepted_within _ c.requires.0.walk Boundary, boundaries_are _ c.requires.0.layout_is) in
-    let long-starts : length c.put_starts.new.index ≡ length c.args.index.now = c.put_starts.auto.1.0 in
-    let long-fluid-bases : length c.fill_bases.new.index ≡ length c.args.index.now = c.fill_bases.auto.1.1.1.1.0 ∙ long-starts in
+    let long-starts : length c.put_starts.new.index ≡ length c.args.index.now = c.put_starts.auto.index in
+    let long-fluid-bases : length c.fill_bases.new.index ≡ length c.args.index.now = c.fill_bases.auto.index ∙ long-starts in
     let long = long-fluid-bases in
     record { models_within = boundaries; scene_bound = (size_few _ c.requires.0.walk Boundary, omega (arith, c.requires.1, are.bases, long)) }
 
@@ -39,9 +39,9 @@ pub fill_models-requires : goal.fill_models-requires
 fill_models-requires c =
     let are : SectionsAre c.args.scene.now c.sections_of-sections.result = sections_are c.sections_of-sections.ensures in
     let fluids : ModelsWithin Fluid c.args.scene.now × (c.args.layout.fluids ≡ layout_models Fluid c.args.scene.now) = (accepted_within _ c.requires.0.walk Fluid, fluids_are _ c.requires.0.layout_is) in
-    let long-starts : length c.put_starts.new.index ≡ length c.args.index.now = c.put_starts.auto.1.0 in
-    let long-fluid-bases : length c.fill_bases.new.index ≡ length c.args.index.now = c.fill_bases.auto.1.1.1.1.0 ∙ long-starts in
-    let long-bases : length c.fill_bases-2.new.index ≡ length c.args.index.now = c.fill_bases-2.auto.1.1.1.1.0 ∙ long-fluid-bases in
+    let long-starts : length c.put_starts.new.index ≡ length c.args.index.now = c.put_starts.auto.index in
+    let long-fluid-bases : length c.fill_bases.new.index ≡ length c.args.index.now = c.fill_bases.auto.index ∙ long-starts in
+    let long-bases : length c.fill_bases-2.new.index ≡ length c.args.index.now = c.fill_bases-2.auto.index ∙ long-fluid-bases in
     let long = long-bases in
     record { models_within = fluids; scene_in_bounds = omega (arith, c.requires.1, fluid_places c.requires.0, are.records, long) }
 
@@ -49,10 +49,10 @@ pub fill_models-requires-2 : goal.fill_models-requires-2
 fill_models-requires-2 c =
     let are : SectionsAre c.args.scene.now c.sections_of-sections.result = sections_are c.sections_of-sections.ensures in
     let fluids : ModelsWithin Fluid c.args.scene.now × (c.args.layout.fluids ≡ layout_models Fluid c.args.scene.now) = (accepted_within _ c.requires.0.walk Fluid, fluids_are _ c.requires.0.layout_is) in
-    let long-starts : length c.put_starts.new.index ≡ length c.args.index.now = c.put_starts.auto.1.0 in
-    let long-fluid-bases : length c.fill_bases.new.index ≡ length c.args.index.now = c.fill_bases.auto.1.1.1.1.0 ∙ long-starts in
-    let long-bases : length c.fill_bases-2.new.index ≡ length c.args.index.now = c.fill_bases-2.auto.1.1.1.1.0 ∙ long-fluid-bases in
-    let long-records : length c.fill_models.new.index ≡ length c.args.index.now = c.fill_models.auto.1.1.1.1.1.0 ∙ long-bases in
+    let long-starts : length c.put_starts.new.index ≡ length c.args.index.now = c.put_starts.auto.index in
+    let long-fluid-bases : length c.fill_bases.new.index ≡ length c.args.index.now = c.fill_bases.auto.index ∙ long-starts in
+    let long-bases : length c.fill_bases-2.new.index ≡ length c.args.index.now = c.fill_bases-2.auto.index ∙ long-fluid-bases in
+    let long-records : length c.fill_models.new.index ≡ length c.args.index.now = c.fill_models.auto.index ∙ long-bases in
     let long = long-records in
     record { models_within = fluids; scene_in_bounds = omega (arith, c.requires.1, fluid_places c.requires.0, are.heads, long) }
 
@@ -60,11 +60,11 @@ pub fill_models-requires-3 : goal.fill_models-requires-3
 fill_models-requires-3 c =
     let are : SectionsAre c.args.scene.now c.sections_of-sections.result = sections_are c.sections_of-sections.ensures in
     let boundaries : ModelsWithin Boundary c.args.scene.now × (c.args.layout.boundaries ≡ layout_models Boundary c.args.scene.now) = (accepted_within _ c.requires.0.walk Boundary, boundaries_are _ c.requires.0.layout_is) in
-    let long-starts : length c.put_starts.new.index ≡ length c.args.index.now = c.put_starts.auto.1.0 in
-    let long-fluid-bases : length c.fill_bases.new.index ≡ length c.args.index.now = c.fill_bases.auto.1.1.1.1.0 ∙ long-starts in
-    let long-bases : length c.fill_bases-2.new.index ≡ length c.args.index.now = c.fill_bases-2.auto.1.1.1.1.0 ∙ long-fluid-bases in
-    let long-records : length c.fill_models.new.index ≡ length c.args.index.now = c.fill_models.auto.1.1.1.1.1.0 ∙ long-bases in
-    let long-heads : length c.fill_models-2.new.index ≡ length c.args.index.now = c.fill_models-2.auto.1.1.1.1.1.0 ∙ long-records in
+    let long-starts : length c.put_starts.new.index ≡ length c.args.index.now = c.put_starts.auto.index in
+    let long-fluid-bases : length c.fill_bases.new.index ≡ length c.args.index.now = c.fill_bases.auto.index ∙ long-starts in
+    let long-bases : length c.fill_bases-2.new.index ≡ length c.args.index.now = c.fill_bases-2.auto.index ∙ long-fluid-bases in
+    let long-records : length c.fill_models.new.index ≡ length c.args.index.now = c.fill_models.auto.index ∙ long-bases in
+    let long-heads : length c.fill_models-2.new.index ≡ length c.args.index.now = c.fill_models-2.auto.index ∙ long-records in
     let long = long-heads in
     record { models_within = boundaries; scene_in_bounds = omega (arith, c.requires.1, boundary_places c.requires.0, are.boundary_records, long) }
 

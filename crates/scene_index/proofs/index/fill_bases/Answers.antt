@@ -16,8 +16,7 @@ loop-m-init c = none_based _ _ _ _
 pub fill_blocks-requires : goal.fill_blocks-requires
 fill_blocks-requires c =
     let turn : let a = c.args in Turn a.kind a.scene.now a.models.heads c.loop-m.m = this_turn c.requires.models_within.0 c.requires.models_within.1 _ c.loop-m-test.true in
-    let few : let a = c.args in c.loop-m.start + get_or (counts_of a.kind a.scene.now) c.loop-m.m 0 ≤ most_of_a_kind = omega (arith, start_few _ _ _ _ c.loop-m.invariant turn.below, c.requires.scene_bound.0) in
-    (
+    let few : let a = c.args in c.loop-m.start + get_or (counts_of a.kind a.scene.now) c.loop-m.m 0 ≤ most_of_a_kind = omega (arith, start_few _ _ _ _ c.loop-m.invariant turn.below, c.requires.scene_bound.0) in (
       omega (arith, few),
       blocks_room _ _ _ _ c.loop-m.invariant turn.below c.requires.scene_bound.1,
     )
@@ -47,7 +46,7 @@ overflow_add-start c =
 pub overflow_add-to : goal.overflow_add-to
 overflow_add-to c =
     let turn : let a = c.args in Turn a.kind a.scene.now a.models.heads c.loop-m.m = this_turn c.requires.models_within.0 c.requires.models_within.1 _ c.loop-m-test.true in
-    omega (arith, blocks_room _ _ _ _ c.loop-m.inv turn.below c.requires.scene_bound.1)
+    omega (arith, blocks_room _ _ _ _ c.loop-m.invariant turn.below c.requires.scene_bound.1)
 
 pub overflow_add-m : goal.overflow_add-m
 overflow_add-m c =
@@ -58,7 +57,7 @@ pub loop-m-preserved : goal.loop-m-preserved
 loop-m-preserved c =
     let turn : let a = c.args in Turn a.kind a.scene.now a.models.heads c.loop-m.m = this_turn c.requires.models_within.0 c.requires.models_within.1 _ c.loop-m-test.true in
     let count : let a = c.args in c.particles-start.result ≡ get_or (counts_of a.kind a.scene.now) c.loop-m.m 0 = c.particles-start.ensures.0 ∙ turn.count in
-    one_more_based _ _ _ _ c.loop-m.inv turn.below (count)
+    one_more_based _ _ _ _ c.loop-m.invariant turn.below (count)
     c.fill_blocks.ensures
 
 pub shape_of-index : goal.shape_of-index

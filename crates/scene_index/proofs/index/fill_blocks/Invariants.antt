@@ -7,6 +7,9 @@ use Rattle.lists.proofs.Fills.{Filling, none_stored, one_more_stored, all_stored
 use Rattle.scene_index.specs.Index.{block_size, model_blocks, blocks_from}
 use Rattle.scene_index.proofs.index.fill_blocks.Given as goal
 
+abbrev base : ℕ → ℕ → ℕ
+base start x = start + block_size * x
+
 abbrev pub invariant-loop-x : goal.invariant-loop-x
 invariant-loop-x l = Filling l.initial.index l.k (base l.start) model_blocks l.x l.index
 
