@@ -1,7 +1,6 @@
 -- `cubic_spline::and_finite` meets its contract: a magnitude is below infinity exactly where the double is finite.
 -- Assumes nothing.
 use mathlib.Core.Path.{◌≡◌, refl, ap, ◌∙◌}
-use borrow.Author.Rules.{rules}
 use lib.Ieee.{Float, nan, inf, fin, lt, of_bits, nan_bits}
 use lib.Ieee.Scale.{finite}
 use Rattle.math.specs.Real.{+∞, magnitude}

@@ -2,7 +2,6 @@
 -- Assumes nothing.
 use mathlib.Core.Path.{◌≡◌, sym, ◌∙◌}
 use mathlib.Core.Bool.{true}
-use borrow.Author.Rules.{rules}
 use Rattle.cubic_spline.specs.Shape.{is_distance}
 use Rattle.cubic_spline.specs.Answer.{kernel_answer}
 use Rattle.cubic_spline.proofs.Answers.{kernel_promise}

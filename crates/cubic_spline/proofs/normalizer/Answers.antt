@@ -1,5 +1,4 @@
 -- `cubic_spline::normalizer` meets its contract: each arm is the definition at its dimension. Assumes nothing.
-use borrow.Author.Rules.{rules}
 use Rattle.cubic_spline.proofs.normalizer.Goals as goal
 
 pub returns-in-Two : goal.returns-in-Two

@@ -1,6 +1,5 @@
 -- `cubic_spline::scalar_apply` meets its contract: the definition is the code, by what the calls ensure, and Apply has
 -- the bound. Assumes nothing.
-use borrow.Author.Rules.{rules}
 use Rattle.cubic_spline.proofs.Apply.{apply_promise}
 use Rattle.cubic_spline.proofs.scalar_apply.Goals as goal
 

@@ -1,6 +1,5 @@
 -- `cubic_spline::scalar_apply_diff` meets its contract: the definition is the code, by what the calls ensure.
 -- Assumes nothing.
-use borrow.Author.Rules.{rules}
 use Rattle.cubic_spline.proofs.scalar_apply_diff.Goals as goal
 
 pub returns : goal.returns
