@@ -1,7 +1,7 @@
 -- The claims of specs/Versions.antt on versions: a step's result is made of the check, the scene and where its records
 -- stand, which are the same whichever of two known forms with one rule and as many axes a packed scene has; and with
 -- rule 0 the first two versions are such forms. Assumes nothing.
-use Prim.Native.Nat.{ℕ, suc, ◌≤◌}
+use Prim.Native.Nat.{ℕ, zero, suc, ◌≤◌}
 use mathlib.Core.Path.{◌≡◌, refl, sym, ◌∙◌}
 use mathlib.Core.Bool.{true}
 use mathlib.Core.List.{List, [], ◌∷◌}
@@ -49,6 +49,7 @@ same_results b b' s e f f' =
 behind_first : (version x : ℕ) (b : List ℕ) (at : ℕ) → 1 ≤ at
     → byte_at (as_version version (x ∷ b)) at ≡ byte_at (x ∷ b) at
 unfolding as_version
+behind_first version x b zero h = elim h [ ]
 behind_first version x b (suc at) h = refl
 
 pub as_version_lem : (version : ℕ) (b : List ℕ) → axes_of (as_version version b) ≡ axes_of b

@@ -18,13 +18,13 @@ slice_bounds-scene-end c =
 pub slice_bounds-print_check-end : goal.slice_bounds-print_check-end
 slice_bounds-print_check-end c =
     let fits : c.in-Scene.n ≤ length c.read_next.new.room = scene_fits c.read_next.ensures c.in-Scene.is in
-    sym (length-take-le _ _ (fits))
+    sym (length-take-le _ _ fits)
 
 pub returns-in-Scene : goal.returns-in-Scene
 unfolding line_of
 returns-in-Scene c =
     let fits : c.in-Scene.n ≤ length c.read_next.new.room = scene_fits c.read_next.ensures c.in-Scene.is in
-    scene_came _ _ _ _ _ (fits) (c.read_next.auto.room ∙ length-replicate {A = ℕ} room 0)
+    scene_came _ _ _ _ _ fits (c.read_next.auto.room ∙ length-replicate {A = ℕ} room 0)
     (ap Number c.print_check.ensures)
 
 pub returns-in-Nothing : goal.returns-in-Nothing

@@ -17,12 +17,12 @@ slice_bounds-scene-end c =
 pub slice_bounds-print_text-end : goal.slice_bounds-print_text-end
 slice_bounds-print_text-end c =
     let fits : c.in-Scene.n ≤ length c.read_next.new.room = scene_fits c.read_next.ensures c.in-Scene.is in
-    sym (length-take-le _ _ (fits))
+    sym (length-take-le _ _ fits)
 
 pub returns-in-Scene : goal.returns-in-Scene
 returns-in-Scene c =
     let fits : c.in-Scene.n ≤ length c.read_next.new.room = scene_fits c.read_next.ensures c.in-Scene.is in
-    scene_came _ _ _ _ _ (fits) (c.read_next.auto.room ∙ length-replicate {A = ℕ} room 0) c.print_text.ensures
+    scene_came _ _ _ _ _ fits (c.read_next.auto.room ∙ length-replicate {A = ℕ} room 0) c.print_text.ensures
 
 pub returns-in-Nothing : goal.returns-in-Nothing
 returns-in-Nothing c = nothing_came _ _ _

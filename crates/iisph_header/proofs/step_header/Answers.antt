@@ -15,7 +15,7 @@ pub loop-init : goal.loop-init
 loop-init c =
     let header : HeaderOk c.args.scene.now = (accepted _ c.requires).fields.header in
     let numbers : c.header_numbers.result ≡ Numbers (header_numbers_of c.args.scene.now) = let h = header in c.header_numbers.ensures ∙ numbers_found _ h.total_step_size h.remaining_time h.max_density_error in
-    not_refused (sym (numbers) ∙ c.in_default.is)
+    not_refused (sym numbers ∙ c.in_default.is)
 
 pub loop-smaller : goal.loop-smaller
 loop-smaller c = absurd c.loop.invariant
@@ -23,7 +23,7 @@ loop-smaller c = absurd c.loop.invariant
 pub vector-gravity-requires : goal.vector-gravity-requires
 vector-gravity-requires c =
     let header : HeaderOk c.args.scene.now = (accepted _ c.requires).fields.header in
-    gravity_read _ c.axes.ensures.0 (header)
+    gravity_read _ c.axes.ensures.0 header
 
 pub byte-requires : goal.byte-requires
 byte-requires c =

@@ -73,6 +73,6 @@ returns c =
     p.passed.0.1.enough_answers
     c.update_velocities_and_positions.ensures
     c.boundary_answers.ensures
-    (needed)
+    needed
     c.clear.ensures
     (report_made _ p.pass_over.1.clock_is c.pressure_solve-solved.ensures.iterations c.pressure_solve-solved.ensures.ending)

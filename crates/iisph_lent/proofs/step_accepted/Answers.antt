@@ -33,7 +33,7 @@ returns-then-index-needed c =
     let e = c.index_needed-needed.ensures in (
       rw e
           (short_lent c.args.scene.now c.args.answers.now c.args.work.now _ c.requires.walk
-          (long) (omega (arith, c.if-index-needed.true, e))),
+          long (omega (arith, c.if-index-needed.true, e))),
       λ _. refl,
     )
 
@@ -50,6 +50,6 @@ returns c =
     let scene = c.args.scene.now in
     let answers = c.args.answers.now in
     let work = c.args.work.now in (
-      steps_lent scene answers work _ (room) c.step_long.ensures,
-      λ q. absurd (unequal (sym (used scene (length answers) (length work) c.requires.walk (long) _ (room)) ∙ q)),
+      steps_lent scene answers work _ room c.step_long.ensures,
+      λ q. absurd (unequal (sym (used scene (length answers) (length work) c.requires.walk long _ room) ∙ q)),
     )

@@ -11,7 +11,7 @@ use Rattle.iisph_lent.proofs.step_lent.Goals as goal
 pub step_accepted-requires : goal.step_accepted-requires
 step_accepted-requires c =
     let bytes : Bytes c.args.scene.now = λ i. omega (arith, c.shared_slice_known-1.given i) in
-    verdict_accepted _ c.check-found.ensures (bytes) c.in-Accepted.is
+    verdict_accepted _ c.check-found.ensures bytes c.in-Accepted.is
 
 pub returns-in-Refused : goal.returns-in-Refused
 returns-in-Refused c =

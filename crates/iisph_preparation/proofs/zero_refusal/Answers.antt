@@ -52,14 +52,14 @@ pub record_of-requires : goal.record_of-requires
 record_of-requires c =
     let density-found : let a = c.args in c.first_zero-density.result ≡ found_below a.n (first_zero (column a.n (density_slot a.dim) a.work.now)) = let a = c.args in c.first_zero-density.ensures ∙ in-slot a.n a.work.now c.density_column.ensures in
     let found : First c (density_slot c.args.dim) c.in-At.i = sym c.in-At.is ∙ density-found in
-    record_asked c.requires.0 (found_lt _ _ (found))
+    record_asked c.requires.0 (found_lt _ _ found)
 
 pub record_of-requires-in-At-predicted : goal.record_of-requires-in-At-predicted
 record_of-requires-in-At-predicted c =
     let predicted-found : let a = c.args in c.first_zero-predicted.result ≡ found_below a.n (first_zero (column a.n (predicted_slot a.dim) a.work.now)) = let a = c.args in c.first_zero-predicted.ensures ∙ in-slot a.n a.work.now c.predicted_column.ensures in
     let found-2 : First c (predicted_slot c.args.dim) c.in-At-predicted.j = sym c.in-At-predicted.is ∙ predicted-found in
     record_asked c.requires.0
-    (found_lt _ _ (found-2))
+    (found_lt _ _ found-2)
 
 pub returns-in-At : goal.returns-in-At
 unfolding readiness
@@ -70,7 +70,7 @@ returns-in-At c =
     λ report.
     sym (ap readiness
     (unless_found (λ i. (location_of Fluid a.scene.now i).at) ZeroDensity
-    (column a.n (density_slot a.dim) a.work.now) _ (length-table a.n _) (found)
+    (column a.n (density_slot a.dim) a.work.now) _ (length-table a.n _) found
     ∙ sym (ap (λ (at : ℕ). Refused (ZeroDensity at)) c.record_of.ensures)))
 
 pub returns-in-At-predicted : goal.returns-in-At-predicted
@@ -85,9 +85,9 @@ returns-in-At-predicted c =
     sym (ap readiness
     (unless_nothing (λ i. (location_of Fluid a.scene.now i).at) ZeroDensity
     (column a.n (density_slot a.dim) a.work.now) _ (length-table a.n _)
-    (nothing)
+    nothing
     ∙ unless_found (λ i. (location_of Fluid a.scene.now i).at) ZeroPredictedDensity
-    (column a.n (predicted_slot a.dim) a.work.now) _ (length-table a.n _) (found-2)
+    (column a.n (predicted_slot a.dim) a.work.now) _ (length-table a.n _) found-2
     ∙ sym (ap (λ (at : ℕ). Refused (ZeroPredictedDensity at)) c.record_of-in-At-predicted.ensures)))
 
 pub returns-in-Nothing-predicted : goal.returns-in-Nothing-predicted
@@ -102,6 +102,6 @@ returns-in-Nothing-predicted c =
     sym (ap readiness
     (unless_nothing (λ i. (location_of Fluid a.scene.now i).at) ZeroDensity
     (column a.n (density_slot a.dim) a.work.now) _ (length-table a.n _)
-    (nothing)
+    nothing
     ∙ unless_nothing (λ i. (location_of Fluid a.scene.now i).at) ZeroPredictedDensity
-    (column a.n (predicted_slot a.dim) a.work.now) (Done report) (length-table a.n _) (nothing-2)))
+    (column a.n (predicted_slot a.dim) a.work.now) (Done report) (length-table a.n _) nothing-2))

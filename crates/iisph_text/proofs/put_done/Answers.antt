@@ -25,10 +25,10 @@ overflow_mul-behind c =
 pub put_models-requires : goal.put_models-requires
 put_models-requires c =
     let begins : c.fluid_answer_width.result * c.args.layout.fluids.total ≡ behind c.args.scene.now = behind-is _ c.fluid_answer_width.ensures.0 c.axes.ensures.0 (fluid-total c.requires.0) in
-    record { models_within = (accepted_within _ c.requires.0.walk Boundary, boundaries_are _ c.requires.0.layout_is); scene_in_bounds = boundaries_room c.requires.1 c.put_step-second.ensures c.put_clock-third.ensures (begins) c.put_models-next.ensures }
+    record { models_within = (accepted_within _ c.requires.0.walk Boundary, boundaries_are _ c.requires.0.layout_is); scene_in_bounds = boundaries_room c.requires.1 c.put_step-second.ensures c.put_clock-third.ensures begins c.put_models-next.ensures }
 
 pub returns : goal.returns
 returns c =
     let begins : c.fluid_answer_width.result * c.args.layout.fluids.total ≡ behind c.args.scene.now = behind-is _ c.fluid_answer_width.ensures.0 c.axes.ensures.0 (fluid-total c.requires.0) in
-    parts-written _ _ _ (begins) c.put_step-second.ensures c.put_clock-third.ensures c.put_models-next.ensures
+    parts-written _ _ _ begins c.put_step-second.ensures c.put_clock-third.ensures c.put_models-next.ensures
     c.put_models.ensures

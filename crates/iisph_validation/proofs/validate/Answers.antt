@@ -11,7 +11,7 @@ validate_sized-requires c =
     let bytes : Bytes c.args.scene.now = λ i. omega (arith, c.shared_slice_known-1.given i) in
     let h = c.check-found.ensures in
     let a = c.in-Accepted.is in
-    verdict_accepted _ h (bytes) a
+    verdict_accepted _ h bytes a
 
 pub returns-in-Refused : goal.returns-in-Refused
 returns-in-Refused c =

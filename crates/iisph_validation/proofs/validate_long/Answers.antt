@@ -33,7 +33,7 @@ returns-in-Ready c =
     let w = c.args.work.now in
     ready_validates b w c.requires.passed.0.walk c.requires.passed.1 (sym c.in-Ready.is ∙ c.prepare-answer.ensures.answer)
     (c.prepare-answer.ensures.list ∙ ap (λ (x : Readiness). work_prepared b x w) c.in-Ready.is)
-    (needed)
+    needed
     c.clear.ensures
 
 pub returns-in-Refused : goal.returns-in-Refused

@@ -9,7 +9,7 @@ use Rattle.math.proofs.magnitude.Goals as goal
 pub returns-then-x : goal.returns-then-x
 returns-then-x c =
     let held : T (fits binary64 c.args.x) = subst T (sym c.well_formed.0.1) tt in
-    magnitude-zero c.args.x (held) c.if-x.true
+    magnitude-zero c.args.x held c.if-x.true
 
 pub returns-then-x-2 : goal.returns-then-x-2
 returns-then-x-2 c = magnitude_below c.args.x c.if-x-2.true

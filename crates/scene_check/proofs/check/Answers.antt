@@ -27,12 +27,12 @@ all_names-requires c =
 pub returns-in-Refused-all_names : goal.returns-in-Refused-all_names
 returns-in-Refused-all_names c =
     let fields-passed : let b = c.args.scene.now in fields b ≡ At (length b) = let q = sym c.fields.ensures ∙ c.in_default.is in q ∙ ap At (fields_leads _ _ q).0 in
-    checks_refused _ (names_decide _ (fields-passed) ∙ sym c.all_names.ensures ∙ c.in-Refused-all_names.is)
+    checks_refused _ (names_decide _ fields-passed ∙ sym c.all_names.ensures ∙ c.in-Refused-all_names.is)
     c.refused-in-Refused-all_names.ensures
 
 pub returns : goal.returns
 returns c =
     let fields-passed : let b = c.args.scene.now in fields b ≡ At (length b) = let q = sym c.fields.ensures ∙ c.in_default.is in q ∙ ap At (fields_leads _ _ q).0 in
     checks_accepted _
-    (names_decide _ (fields-passed) ∙ sym c.all_names.ensures ∙ c.in_default-all_names.is)
+    (names_decide _ fields-passed ∙ sym c.all_names.ensures ∙ c.in_default-all_names.is)
     c.layout_of-found.ensures

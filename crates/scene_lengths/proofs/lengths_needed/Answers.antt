@@ -18,4 +18,4 @@ returns-in-Refused c =
 pub returns-in-Accepted : goal.returns-in-Accepted
 returns-in-Accepted c =
     let passed : Passed c.args.scene.now c.check-found.result.layout = verdict_accepted _ c.check-found.ensures (λ i. omega (arith, c.shared_slice_known-1.given i)) c.in-Accepted.is in
-    accepted_needs (passed) c.lengths_of.ensures
+    accepted_needs passed c.lengths_of.ensures

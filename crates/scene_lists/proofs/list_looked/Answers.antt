@@ -33,7 +33,7 @@ names-requires c =
     let count-is : c.contact_counts-count.result ≡ contact_count_offset Fluid (axes_of c.args.s.now) = c.contact_counts-count.ensures.0 ∙ ap (contact_count_offset Fluid) c.axes-dim.ensures.0 in
     let width_is : c.contact_width-width.result ≡ contact_width (axes_of c.args.s.now) = c.contact_width-width.ensures.0 ∙ ap contact_width c.axes-dim.ensures.0 in
     let ends = rw c.in-FluidFluid.is at c.requires.record_within.ends in
-    (omega arith, first-within _ _ _ (count-is) (width_is) (rw (count-is) at c.byte-n.ensures.0) ends)
+    (omega arith, first-within _ _ _ count-is width_is (rw count-is at c.byte-n.ensures.0) ends)
 
 pub byte-before-requires : goal.byte-before-requires
 unfolding owner_of own_width

@@ -16,18 +16,18 @@ pub returns-in_default : goal.returns-in_default
 unfolding boundary_record
 returns-in_default c =
     let own : let a = c.args in let b = a.s.now in c.plain_on-boundaries.result ≡ times (boundary_record_doubles (axes_of b) a.k) (double b) a.from ▹ plain b 1 = onward _ c.plain_on-boundaries.ensures (rw (c.boundary_doubles.ensures, c.axes-dim.ensures.0) at c.doubles-own.ensures) in
-    onward _ (stopped _ c.in_default.is) (own)
+    onward _ (stopped _ c.in_default.is) own
 
 pub overflow_add-from : goal.overflow_add-from
 overflow_add-from c =
     let own : let a = c.args in let b = a.s.now in c.plain_on-boundaries.result ≡ times (boundary_record_doubles (axes_of b) a.k) (double b) a.from ▹ plain b 1 = onward _ c.plain_on-boundaries.ensures (rw (c.boundary_doubles.ensures, c.axes-dim.ensures.0) at c.doubles-own.ensures) in
-    let count-there : let a = c.args in a.from + (c.boundary_count-count.result + 1) ≤ length a.s.now = let axes = c.axes-dim in rw (c.boundary_count-count.ensures.0, axes.ensures.0) (boundary_own_leads _ _ _ _ (sym (own) ∙ c.in-At.is)).1.1 in
+    let count-there : let a = c.args in a.from + (c.boundary_count-count.result + 1) ≤ length a.s.now = let axes = c.axes-dim in rw (c.boundary_count-count.ensures.0, axes.ensures.0) (boundary_own_leads _ _ _ _ (sym own ∙ c.in-At.is)).1.1 in
     omega (arith, count-there)
 
 pub byte-requires : goal.byte-requires
 byte-requires c =
     let own : let a = c.args in let b = a.s.now in c.plain_on-boundaries.result ≡ times (boundary_record_doubles (axes_of b) a.k) (double b) a.from ▹ plain b 1 = onward _ c.plain_on-boundaries.ensures (rw (c.boundary_doubles.ensures, c.axes-dim.ensures.0) at c.doubles-own.ensures) in
-    let count-there : let a = c.args in a.from + (c.boundary_count-count.result + 1) ≤ length a.s.now = let axes = c.axes-dim in rw (c.boundary_count-count.ensures.0, axes.ensures.0) (boundary_own_leads _ _ _ _ (sym (own) ∙ c.in-At.is)).1.1 in
+    let count-there : let a = c.args in a.from + (c.boundary_count-count.result + 1) ≤ length a.s.now = let axes = c.axes-dim in rw (c.boundary_count-count.ensures.0, axes.ensures.0) (boundary_own_leads _ _ _ _ (sym own ∙ c.in-At.is)).1.1 in
     omega (arith, count-there)
 
 pub returns : goal.returns
@@ -38,4 +38,4 @@ returns c =
     onward _
     (gone_on _ c.in-At.is
     (rw (← axes.ensures.0, ← c.boundary_count-count.ensures.0, ← c.byte.ensures.0) c.contacts.ensures))
-    (own)
+    own

@@ -31,7 +31,7 @@ unfolding contacts_plainly_finite
 returns-then-not-doubles_plainly_finite c =
     let found : let a = c.args in c.doubles_plainly_finite.result ≡ doubles_plainly_finite a.s.now a.d (a.from + contact_bytes a.d * c.loop-i.i + name_width) = rw (← c.loop-i.invariant.1) c.doubles_plainly_finite.ensures in
     one_failed c.loop-i.invariant.0 c.loop-i-test.true
-    (sym (found) ∙ c.if-not-doubles_plainly_finite.true)
+    (sym found ∙ c.if-not-doubles_plainly_finite.true)
 
 pub overflow_mul-at : goal.overflow_mul-at
 overflow_mul-at c =
@@ -52,7 +52,7 @@ pub loop-i-preserved : goal.loop-i-preserved
 loop-i-preserved c =
     let found : let a = c.args in c.doubles_plainly_finite.result ≡ doubles_plainly_finite a.s.now a.d (a.from + contact_bytes a.d * c.loop-i.i + name_width) = rw (← c.loop-i.invariant.1) c.doubles_plainly_finite.ensures in
     let l = c.loop-i in (
-      one_more_passed l.invariant.0 c.loop-i-test.true (sym (found) ∙ c.if-not-doubles_plainly_finite.false),
+      one_more_passed l.invariant.0 c.loop-i-test.true (sym found ∙ c.if-not-doubles_plainly_finite.false),
       rw (add-one l.i, mul-suc) (omega (arith, l.invariant.1)),
     )
 

@@ -11,13 +11,13 @@ unfolding head_of ◌▹◌
 returns-in_default c =
     let counted : let a = c.args in c.count-particles.result ≡ count Fluid a.s.now a.from = rw c.in-Fluid.is at c.count-particles.ensures in
     let q = c.in_default.is in
-    rw (c.in-Fluid.is, sym (counted) ∙ q) q
+    rw (c.in-Fluid.is, sym counted ∙ q) q
 
 pub returns-in-At : goal.returns-in-At
 unfolding head_of ◌▹◌
 returns-in-At c =
     let counted : let a = c.args in c.count-particles.result ≡ count Fluid a.s.now a.from = rw c.in-Fluid.is at c.count-particles.ensures in
-    rw (c.in-Fluid.is, sym (counted) ∙ c.in-At.is) c.double.ensures
+    rw (c.in-Fluid.is, sym counted ∙ c.in-At.is) c.double.ensures
 
 pub returns-in-Boundary : goal.returns-in-Boundary
 unfolding head_of

@@ -28,7 +28,7 @@ pub row_at-row-requires : goal.row_at-row-requires
 row_at-row-requires c =
     let below : c.args.i < fluid_size (scene_of c.args.scene.now) = omega (arith, c.requires.timed_pass.0.over.size, c.requires.timed_pass.1) in
     let p = c.requires in
-    own_row p.timed_pass.0.over p.coefficients_ready _ (below)
+    own_row p.timed_pass.0.over p.coefficients_ready _ below
 
 pub overflow_add-row : goal.overflow_add-row
 overflow_add-row c = omega (arith, c.row_at-row.ensures.1)
@@ -40,32 +40,32 @@ vector_at-v-requires c =
 pub fluid_densities-part-requires : goal.fluid_densities-part-requires
 fluid_densities-part-requires c =
     let below : c.args.i < fluid_size (scene_of c.args.scene.now) = omega (arith, c.requires.timed_pass.0.over.size, c.requires.timed_pass.1) in
-    let fluid : let b = c.args.scene.now in ContactsAre b Fluid (particle (scene_of b) c.args.i) c.contacts_of-fluid.result = contacts_are c.requires.timed_pass.0.over.indexed _ (below) c.contacts_of-fluid.ensures in
-    let fluid-ready : ContactsReady Fluid c.args.dim c.args.scene.now c.contacts_of-fluid.result = list_ready c.requires.timed_pass.0.over.axes (fluid) in
+    let fluid : let b = c.args.scene.now in ContactsAre b Fluid (particle (scene_of b) c.args.i) c.contacts_of-fluid.result = contacts_are c.requires.timed_pass.0.over.indexed _ below c.contacts_of-fluid.ensures in
+    let fluid-ready : ContactsReady Fluid c.args.dim c.args.scene.now c.contacts_of-fluid.result = list_ready c.requires.timed_pass.0.over.axes fluid in
     let p = c.requires in
     (p.timed_pass.0.over, fluid-ready, p.coefficients_ready)
 
 pub boundary_densities-sums-requires : goal.boundary_densities-sums-requires
 boundary_densities-sums-requires c =
     let below : c.args.i < fluid_size (scene_of c.args.scene.now) = omega (arith, c.requires.timed_pass.0.over.size, c.requires.timed_pass.1) in
-    let boundary : let b = c.args.scene.now in ContactsAre b Boundary (particle (scene_of b) c.args.i) c.contacts_of-boundary.result = contacts_are c.requires.timed_pass.0.over.indexed _ (below) c.contacts_of-boundary.ensures in
-    let boundary-ready : ContactsReady Boundary c.args.dim c.args.scene.now c.contacts_of-boundary.result = list_ready c.requires.timed_pass.0.over.axes (boundary) in
+    let boundary : let b = c.args.scene.now in ContactsAre b Boundary (particle (scene_of b) c.args.i) c.contacts_of-boundary.result = contacts_are c.requires.timed_pass.0.over.indexed _ below c.contacts_of-boundary.ensures in
+    let boundary-ready : ContactsReady Boundary c.args.dim c.args.scene.now c.contacts_of-boundary.result = list_ready c.requires.timed_pass.0.over.axes boundary in
     let p = c.requires in
     (p.timed_pass.0.over, boundary-ready, p.coefficients_ready)
 
 pub fluid_dii-part-requires : goal.fluid_dii-part-requires
 fluid_dii-part-requires c =
     let below : c.args.i < fluid_size (scene_of c.args.scene.now) = omega (arith, c.requires.timed_pass.0.over.size, c.requires.timed_pass.1) in
-    let fluid : let b = c.args.scene.now in ContactsAre b Fluid (particle (scene_of b) c.args.i) c.contacts_of-fluid.result = contacts_are c.requires.timed_pass.0.over.indexed _ (below) c.contacts_of-fluid.ensures in
-    let fluid-ready : ContactsReady Fluid c.args.dim c.args.scene.now c.contacts_of-fluid.result = list_ready c.requires.timed_pass.0.over.axes (fluid) in
+    let fluid : let b = c.args.scene.now in ContactsAre b Fluid (particle (scene_of b) c.args.i) c.contacts_of-fluid.result = contacts_are c.requires.timed_pass.0.over.indexed _ below c.contacts_of-fluid.ensures in
+    let fluid-ready : ContactsReady Fluid c.args.dim c.args.scene.now c.contacts_of-fluid.result = list_ready c.requires.timed_pass.0.over.axes fluid in
     let p = c.requires in
     (p.timed_pass.0.over, fluid-ready, p.coefficients_ready)
 
 pub boundary_dii-d-requires : goal.boundary_dii-d-requires
 boundary_dii-d-requires c =
     let below : c.args.i < fluid_size (scene_of c.args.scene.now) = omega (arith, c.requires.timed_pass.0.over.size, c.requires.timed_pass.1) in
-    let boundary : let b = c.args.scene.now in ContactsAre b Boundary (particle (scene_of b) c.args.i) c.contacts_of-boundary.result = contacts_are c.requires.timed_pass.0.over.indexed _ (below) c.contacts_of-boundary.ensures in
-    let boundary-ready : ContactsReady Boundary c.args.dim c.args.scene.now c.contacts_of-boundary.result = list_ready c.requires.timed_pass.0.over.axes (boundary) in
+    let boundary : let b = c.args.scene.now in ContactsAre b Boundary (particle (scene_of b) c.args.i) c.contacts_of-boundary.result = contacts_are c.requires.timed_pass.0.over.indexed _ below c.contacts_of-boundary.ensures in
+    let boundary-ready : ContactsReady Boundary c.args.dim c.args.scene.now c.contacts_of-boundary.result = list_ready c.requires.timed_pass.0.over.axes boundary in
     let p = c.requires in
     (p.timed_pass.0.over, boundary-ready, p.coefficients_ready)
 
@@ -82,35 +82,35 @@ bounds-work-row c = omega (arith, c.row_at-row.ensures.1)
 pub fluid_aii-part-requires : goal.fluid_aii-part-requires
 fluid_aii-part-requires c =
     let below : c.args.i < fluid_size (scene_of c.args.scene.now) = omega (arith, c.requires.timed_pass.0.over.size, c.requires.timed_pass.1) in
-    let fluid : let b = c.args.scene.now in ContactsAre b Fluid (particle (scene_of b) c.args.i) c.contacts_of-fluid.result = contacts_are c.requires.timed_pass.0.over.indexed _ (below) c.contacts_of-fluid.ensures in
-    let fluid-ready : ContactsReady Fluid c.args.dim c.args.scene.now c.contacts_of-fluid.result = list_ready c.requires.timed_pass.0.over.axes (fluid) in
+    let fluid : let b = c.args.scene.now in ContactsAre b Fluid (particle (scene_of b) c.args.i) c.contacts_of-fluid.result = contacts_are c.requires.timed_pass.0.over.indexed _ below c.contacts_of-fluid.ensures in
+    let fluid-ready : ContactsReady Fluid c.args.dim c.args.scene.now c.contacts_of-fluid.result = list_ready c.requires.timed_pass.0.over.axes fluid in
     let p = c.requires in
     (p.timed_pass.0.over, fluid-ready, p.coefficients_ready)
 
 pub boundary_aii-a-requires : goal.boundary_aii-a-requires
 boundary_aii-a-requires c =
     let below : c.args.i < fluid_size (scene_of c.args.scene.now) = omega (arith, c.requires.timed_pass.0.over.size, c.requires.timed_pass.1) in
-    let boundary : let b = c.args.scene.now in ContactsAre b Boundary (particle (scene_of b) c.args.i) c.contacts_of-boundary.result = contacts_are c.requires.timed_pass.0.over.indexed _ (below) c.contacts_of-boundary.ensures in
-    let boundary-ready : ContactsReady Boundary c.args.dim c.args.scene.now c.contacts_of-boundary.result = list_ready c.requires.timed_pass.0.over.axes (boundary) in
+    let boundary : let b = c.args.scene.now in ContactsAre b Boundary (particle (scene_of b) c.args.i) c.contacts_of-boundary.result = contacts_are c.requires.timed_pass.0.over.indexed _ below c.contacts_of-boundary.ensures in
+    let boundary-ready : ContactsReady Boundary c.args.dim c.args.scene.now c.contacts_of-boundary.result = list_ready c.requires.timed_pass.0.over.axes boundary in
     let p = c.requires in
     (p.timed_pass.0.over, boundary-ready, p.coefficients_ready)
 
 pub returns : goal.returns
 returns c =
     let below : c.args.i < fluid_size (scene_of c.args.scene.now) = omega (arith, c.requires.timed_pass.0.over.size, c.requires.timed_pass.1) in
-    let boundary : let b = c.args.scene.now in ContactsAre b Boundary (particle (scene_of b) c.args.i) c.contacts_of-boundary.result = contacts_are c.requires.timed_pass.0.over.indexed _ (below) c.contacts_of-boundary.ensures in
-    let fluid : let b = c.args.scene.now in ContactsAre b Fluid (particle (scene_of b) c.args.i) c.contacts_of-fluid.result = contacts_are c.requires.timed_pass.0.over.indexed _ (below) c.contacts_of-fluid.ensures in
+    let boundary : let b = c.args.scene.now in ContactsAre b Boundary (particle (scene_of b) c.args.i) c.contacts_of-boundary.result = contacts_are c.requires.timed_pass.0.over.indexed _ below c.contacts_of-boundary.ensures in
+    let fluid : let b = c.args.scene.now in ContactsAre b Fluid (particle (scene_of b) c.args.i) c.contacts_of-fluid.result = contacts_are c.requires.timed_pass.0.over.indexed _ below c.contacts_of-fluid.ensures in
     let p = c.requires in
     let over = p.timed_pass.0.over in
-    coefficients_made over.axes (fluid) (boundary) c.vector_at-v.result c.fluid_dii-part.result
+    coefficients_made over.axes fluid boundary c.vector_at-v.result c.fluid_dii-part.result
     p.timed_pass.0.dt_is
-    (c.vector_at-v.ensures ∙ own_velocity over p.coefficients_ready _ (below) c.row_at-row.ensures.0)
+    (c.vector_at-v.ensures ∙ own_velocity over p.coefficients_ready _ below c.row_at-row.ensures.0)
     c.fluid_densities-part.ensures.0
     c.fluid_densities-part.ensures.1
     c.boundary_densities-sums.ensures.0
     c.boundary_densities-sums.ensures.1
     c.fluid_dii-part.ensures
     c.boundary_dii-d.ensures
-    (own_mass over p.coefficients_ready _ (below) c.row_at-row.ensures.0)
+    (own_mass over p.coefficients_ready _ below c.row_at-row.ensures.0)
     c.fluid_aii-part.ensures
     c.boundary_aii-a.ensures

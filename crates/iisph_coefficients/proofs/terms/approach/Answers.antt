@@ -34,14 +34,14 @@ pub overflow_add-c-2 : goal.overflow_add-c-2
 overflow_add-c-2 c =
     let flat : c.args.dim ≡ plane = ⊎_elim (λ e. e) (λ e. absurd (c.if-dim-eq-SPACE.false e)) (plane_or_space c.requires.0) in
     let p = c.requires in
-    omega (arith, ((vector_at_lem (flat) _ _ p.0 p.1).1.each 0 (omega arith)).present)
+    omega (arith, ((vector_at_lem flat _ _ p.0 p.1).1.each 0 (omega arith)).present)
 
 pub vector-g-requires-2 : goal.vector-g-requires-2
 vector-g-requires-2 c =
     let flat : c.args.dim ≡ plane = ⊎_elim (λ e. e) (λ e. absurd (c.if-dim-eq-SPACE.false e)) (plane_or_space c.requires.0) in
-    let p = c.requires in vector_at_lem (flat) _ _ p.0 p.1
+    let p = c.requires in vector_at_lem flat _ _ p.0 p.1
 
 pub returns : goal.returns
 returns c =
     let flat : c.args.dim ≡ plane = ⊎_elim (λ e. e) (λ e. absurd (c.if-dim-eq-SPACE.false e)) (plane_or_space c.requires.0) in
-    dot-here (flat) _ _ _ _ c.dot-2.ensures c.vector-g-2.ensures
+    dot-here flat _ _ _ _ c.dot-2.ensures c.vector-g-2.ensures

@@ -32,7 +32,7 @@ pub gather_list-requires : goal.gather_list-requires
 gather_list-requires c =
     let below : c.loop-i.i < fluid_size (scene_of c.args.scene.now) = omega (arith, c.loop-i-test.true, c.requires.pass_over.0.size) in
     let p = c.requires in record { pass_over = p.pass_over; force_contacts = (
-        force_contacts p.pass_over.0.indexed c.loop-i.i (below) p.pass_over.0.axes c.contacts_of-list.ensures,
+        force_contacts p.pass_over.0.indexed c.loop-i.i below p.pass_over.0.axes c.contacts_of-list.ensures,
         p.forces_known.0,
         omega (arith, c.loop-i.invariant.1, p.forces_known.1),
       ) }
@@ -50,7 +50,7 @@ loop-i-preserved c =
     let d = c.args.dim in
     let ps = pressures_in d c.args.n c.args.work.now in
     let over = c.requires.pass_over.0 in
-    let made = from_made over.indexed loop.i (below) over.axes c.contacts_of-list.ensures
+    let made = from_made over.indexed loop.i below over.axes c.contacts_of-list.ensures
     c.pressure_state_of-state.ensures
     loop.answers
     c.gather_list.ensures in (

@@ -55,8 +55,8 @@ pub force_start-requires : goal.force_start-requires
 force_start-requires c =
     let needed-small : answers_needed (scene_of c.args.scene.now) < 0x8000000000000000 = omega (arith, c.requires.passed.2) in
     let turn : let a = c.args in Turn Boundary a.scene.now a.layout.boundaries.heads c.loop-m.m = boundary_turn c.requires.passed.0 _ c.loop-m-test.true in
-    let run : BoundaryRun c.args.scene.now c.loop-m.first c.particles-count.result c.keeps-kept.result = turn_run c.requires.passed.0 (turn) c.loop-m.invariant.start c.particles-count.ensures.0 c.keeps-kept.ensures.0 in
-    omega (arith, boundary-room _ _ _ _ c.loop-m.invariant c.requires.pass_over.0.axes (run), needed-small)
+    let run : BoundaryRun c.args.scene.now c.loop-m.first c.particles-count.result c.keeps-kept.result = turn_run c.requires.passed.0 turn c.loop-m.invariant.start c.particles-count.ensures.0 c.keeps-kept.ensures.0 in
+    omega (arith, boundary-room _ _ _ _ c.loop-m.invariant c.requires.pass_over.0.axes run, needed-small)
 
 pub offset_bounds-forces-m : goal.offset_bounds-forces-m
 offset_bounds-forces-m c =
@@ -71,7 +71,7 @@ bounds-forces-m c =
 pub put_boundary-to-requires : goal.put_boundary-to-requires
 put_boundary-to-requires c =
     let turn : let a = c.args in Turn Boundary a.scene.now a.layout.boundaries.heads c.loop-m.m = boundary_turn c.requires.passed.0 _ c.loop-m-test.true in
-    let run : BoundaryRun c.args.scene.now c.loop-m.first c.particles-count.result c.keeps-kept.result = turn_run c.requires.passed.0 (turn) c.loop-m.invariant.start c.particles-count.ensures.0 c.keeps-kept.ensures.0 in
+    let run : BoundaryRun c.args.scene.now c.loop-m.first c.particles-count.result c.keeps-kept.result = turn_run c.requires.passed.0 turn c.loop-m.invariant.start c.particles-count.ensures.0 c.keeps-kept.ensures.0 in
     let inv = c.loop-m.invariant in
     let p = c.requires in
     record { pass_over = p.pass_over; fact = (run, inv.next, omega (arith, inv.long, p.passed.2)) }
@@ -79,7 +79,7 @@ put_boundary-to-requires c =
 pub overflow_add-first : goal.overflow_add-first
 overflow_add-first c =
     let turn : let a = c.args in Turn Boundary a.scene.now a.layout.boundaries.heads c.loop-m.m = boundary_turn c.requires.passed.0 _ c.loop-m-test.true in
-    let run : BoundaryRun c.args.scene.now c.loop-m.first c.particles-count.result c.keeps-kept.result = turn_run c.requires.passed.0 (turn) c.loop-m.invariant.start c.particles-count.ensures.0 c.keeps-kept.ensures.0 in
+    let run : BoundaryRun c.args.scene.now c.loop-m.first c.particles-count.result c.keeps-kept.result = turn_run c.requires.passed.0 turn c.loop-m.invariant.start c.particles-count.ensures.0 c.keeps-kept.ensures.0 in
     omega (arith, run.within, c.requires.pass_over.0.indexed.few_boundary)
 
 pub overflow_add-m : goal.overflow_add-m
@@ -90,9 +90,9 @@ overflow_add-m c =
 pub loop-m-preserved : goal.loop-m-preserved
 loop-m-preserved c =
     let turn : let a = c.args in Turn Boundary a.scene.now a.layout.boundaries.heads c.loop-m.m = boundary_turn c.requires.passed.0 _ c.loop-m-test.true in
-    let run : BoundaryRun c.args.scene.now c.loop-m.first c.particles-count.result c.keeps-kept.result = turn_run c.requires.passed.0 (turn) c.loop-m.invariant.start c.particles-count.ensures.0 c.keeps-kept.ensures.0 in
+    let run : BoundaryRun c.args.scene.now c.loop-m.first c.particles-count.result c.keeps-kept.result = turn_run c.requires.passed.0 turn c.loop-m.invariant.start c.particles-count.ensures.0 c.keeps-kept.ensures.0 in
     let p = c.requires in
-    one_more_boundary _ _ _ _ c.loop-m.invariant turn.below (turn) p.pass_over.0.axes p.passed.0.walk (run)
+    one_more_boundary _ _ _ _ c.loop-m.invariant turn.below turn p.pass_over.0.axes p.passed.0.walk run
     c.particles-count.ensures.0
     c.keeps-kept.ensures.0
     c.force_start.ensures

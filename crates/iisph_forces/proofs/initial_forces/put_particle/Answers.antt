@@ -51,14 +51,14 @@ record_of-record-requires c = let p = c.requires in (p.pass_over.0.indexed, p.fa
 pub overflow_add-record : goal.overflow_add-record
 overflow_add-record c =
     let kept : let a = c.args in (boundary (scene_of a.scene.now) a.j).keeps_forces ≡ true = kept_here c.requires.fact.1 c.if-keeps-eq1.true in
-    let finite : let a = c.args in AllFinite a.scene.now (c.record_of-record.result + c.vector_width.result) a.dim = force_finite c.requires.pass_over.0.indexed c.args.j c.requires.fact.0 (kept) c.requires.pass_over.0.axes c.record_of-record.ensures c.vector_width.ensures.0 in
+    let finite : let a = c.args in AllFinite a.scene.now (c.record_of-record.result + c.vector_width.result) a.dim = force_finite c.requires.pass_over.0.indexed c.args.j c.requires.fact.0 kept c.requires.pass_over.0.axes c.record_of-record.ensures c.vector_width.ensures.0 in
     let axes = pass_axes c.requires.pass_over.0 in
     omega (arith, (finite.each 0 (omega (arith, axes.least))).present)
 
 pub vector-force-requires : goal.vector-force-requires
 vector-force-requires c =
     let kept : let a = c.args in (boundary (scene_of a.scene.now) a.j).keeps_forces ≡ true = kept_here c.requires.fact.1 c.if-keeps-eq1.true in
-    let finite : let a = c.args in AllFinite a.scene.now (c.record_of-record.result + c.vector_width.result) a.dim = force_finite c.requires.pass_over.0.indexed c.args.j c.requires.fact.0 (kept) c.requires.pass_over.0.axes c.record_of-record.ensures c.vector_width.ensures.0 in
+    let finite : let a = c.args in AllFinite a.scene.now (c.record_of-record.result + c.vector_width.result) a.dim = force_finite c.requires.pass_over.0.indexed c.args.j c.requires.fact.0 kept c.requires.pass_over.0.axes c.record_of-record.ensures c.vector_width.ensures.0 in
     (pass_axes c.requires.pass_over.0, finite)
 
 pub overflow_add-at : goal.overflow_add-at
@@ -71,14 +71,14 @@ pub put_vector-requires : goal.put_vector-requires
 put_vector-requires c =
     let kept : let a = c.args in (boundary (scene_of a.scene.now) a.j).keeps_forces ≡ true = kept_here c.requires.fact.1 c.if-keeps-eq1.true in
     let room : let a = c.args in (a.at + width_at a.dim (scene_of a.scene.now) a.j ≤ length a.answers.now) × (length a.answers.now * 8 < 0x8000000000000000) × (length a.work.now * 8 < 0x8000000000000000) = (c.requires.fact.2, c.well_formed.1.1.1.1.1.1.1.1.0.1, c.well_formed.1.1.0.1) in
-    let wide : let a = c.args in a.at + kept_answer_width a.dim ≤ length a.answers.now = let a = c.args in omega (arith, room, width_kept a.dim (scene_of a.scene.now) a.j (kept)) in
+    let wide : let a = c.args in a.at + kept_answer_width a.dim ≤ length a.answers.now = let a = c.args in omega (arith, room, width_kept a.dim (scene_of a.scene.now) a.j kept) in
     (pass_axes c.requires.pass_over.0, simp length-set (omega (arith, wide)))
 
 pub overflow_add-result : goal.overflow_add-result
 overflow_add-result c =
     let room : let a = c.args in (a.at + width_at a.dim (scene_of a.scene.now) a.j ≤ length a.answers.now) × (length a.answers.now * 8 < 0x8000000000000000) × (length a.work.now * 8 < 0x8000000000000000) = (c.requires.fact.2, c.well_formed.1.1.1.1.1.1.1.1.0.1, c.well_formed.1.1.0.1) in
     let kept : let a = c.args in (boundary (scene_of a.scene.now) a.j).keeps_forces ≡ true = kept_here c.requires.fact.1 c.if-keeps-eq1.true in
-    let wide : let a = c.args in a.at + kept_answer_width a.dim ≤ length a.answers.now = let a = c.args in omega (arith, room, width_kept a.dim (scene_of a.scene.now) a.j (kept)) in
+    let wide : let a = c.args in a.at + kept_answer_width a.dim ≤ length a.answers.now = let a = c.args in omega (arith, room, width_kept a.dim (scene_of a.scene.now) a.j kept) in
     omega (arith, wide, room, c.kept_answer_width-width.ensures.0)
 
 pub shape_of-answers-then-keeps-eq1 : goal.shape_of-answers-then-keeps-eq1
@@ -90,13 +90,13 @@ returns-then-keeps-eq1 c =
     let a = c.args in
     let p = c.requires in
     let s = scene_of a.scene.now in (
-      omega (arith, width_kept a.dim s a.j (kept), c.kept_answer_width-width.ensures.0),
+      omega (arith, width_kept a.dim s a.j kept, c.kept_answer_width-width.ensures.0),
       c.put_vector.ensures
           ∙ initial_kept s a.j a.answers.now a.at
           (volume_read s a.dim a.n p.pass_over.1.volume a.j p.fact.0 c.volume_at.ensures.0)
-          (kept)
+          kept
           (c.vector-force.ensures
-          ∙ force_here p.pass_over.0.indexed a.j p.fact.0 (kept) p.pass_over.0.axes c.record_of-record.ensures
+          ∙ force_here p.pass_over.0.indexed a.j p.fact.0 kept p.pass_over.0.axes c.record_of-record.ensures
           c.vector_width.ensures.0),
     )
 

@@ -41,7 +41,7 @@ with_fluid-error-requires c =
     let turn : let a = c.args in Turn Fluid a.scene.now a.layout.fluids.heads c.loop-m.m = fluid_turn c.requires.passed _ c.loop-m-test.true in
     let below : c.loop-m.m < length (counts_of Fluid c.args.scene.now) = rw (length_counts Fluid c.args.scene.now) turn.below in
     let count : c.particles-count.result ≡ get_or (counts_of Fluid c.args.scene.now) c.loop-m.m 0 = c.particles-count.ensures.0 ∙ turn.count in
-    let room : c.loop-m.from + c.particles-count.result ≤ c.args.n = omega (arith, next_rows _ _ _ _ _ _ c.loop-m.invariant (below), count) in
+    let room : c.loop-m.from + c.particles-count.result ≤ c.args.n = omega (arith, next_rows _ _ _ _ _ _ c.loop-m.invariant below, count) in
     let p = c.requires.axes in (p.0, room, p.2)
 
 pub overflow_add-from : goal.overflow_add-from
@@ -49,7 +49,7 @@ overflow_add-from c =
     let turn : let a = c.args in Turn Fluid a.scene.now a.layout.fluids.heads c.loop-m.m = fluid_turn c.requires.passed _ c.loop-m-test.true in
     let below : c.loop-m.m < length (counts_of Fluid c.args.scene.now) = rw (length_counts Fluid c.args.scene.now) turn.below in
     let count : c.particles-count.result ≡ get_or (counts_of Fluid c.args.scene.now) c.loop-m.m 0 = c.particles-count.ensures.0 ∙ turn.count in
-    let room : c.loop-m.from + c.particles-count.result ≤ c.args.n = omega (arith, next_rows _ _ _ _ _ _ c.loop-m.invariant (below), count) in
+    let room : c.loop-m.from + c.particles-count.result ≤ c.args.n = omega (arith, next_rows _ _ _ _ _ _ c.loop-m.invariant below, count) in
     omega (arith, room, c.requires.axes.2)
 
 pub overflow_add-m : goal.overflow_add-m
@@ -62,7 +62,7 @@ loop-m-preserved c =
     let turn : let a = c.args in Turn Fluid a.scene.now a.layout.fluids.heads c.loop-m.m = fluid_turn c.requires.passed _ c.loop-m-test.true in
     let below : c.loop-m.m < length (counts_of Fluid c.args.scene.now) = rw (length_counts Fluid c.args.scene.now) turn.below in
     let count : c.particles-count.result ≡ get_or (counts_of Fluid c.args.scene.now) c.loop-m.m 0 = c.particles-count.ensures.0 ∙ turn.count in
-    next_averaged _ _ _ _ _ _ c.loop-m.invariant (below) (count) c.with_fluid-error.ensures
+    next_averaged _ _ _ _ _ _ c.loop-m.invariant below count c.with_fluid-error.ensures
 
 pub returns : goal.returns
 returns c =

@@ -33,7 +33,7 @@ returns-then-number-least c =
     let below : c.loop-i.i < (scene_of c.args.scene.now).header.max_pressure_iter = omega (arith, c.loop-i-test.true, c.requires.driven_pass.1.most) in
     let p = c.requires in
     solved_early c.args.scene.now p.driven_pass.0.timed.over.axes p.driven_pass.0.timed.over.size _
-    c.loop-i.invariant (below) c.iterate-error.ensures
+    c.loop-i.invariant below c.iterate-error.ensures
     (is_last_lem (scene_of c.args.scene.now) c.loop-i.i c.iterate-error.result.value
     (sym (ap (λ x. Ieee.le c.iterate-error.result.value x) p.driven_pass.1.limit) ∙ c.if-error-limit.true)
     (omega (arith, p.driven_pass.1.least, c.if-number-least.true)))
@@ -45,7 +45,7 @@ loop-i-preserved-else-number-least c =
     let below : c.loop-i.i < (scene_of c.args.scene.now).header.max_pressure_iter = omega (arith, c.loop-i-test.true, c.requires.driven_pass.1.most) in
     let p = c.requires in
     next_solved c.args.scene.now p.driven_pass.0.timed.over.axes p.driven_pass.0.timed.over.size _
-    c.loop-i.invariant (below) c.iterate-error.ensures
+    c.loop-i.invariant below c.iterate-error.ensures
     (not_least (scene_of c.args.scene.now) c.loop-i.i c.iterate-error.result.value
     (omega (arith, p.driven_pass.1.least, c.if-number-least.false)))
 
@@ -54,7 +54,7 @@ loop-i-preserved c =
     let below : c.loop-i.i < (scene_of c.args.scene.now).header.max_pressure_iter = omega (arith, c.loop-i-test.true, c.requires.driven_pass.1.most) in
     let p = c.requires in
     next_solved c.args.scene.now p.driven_pass.0.timed.over.axes p.driven_pass.0.timed.over.size _
-    c.loop-i.invariant (below) c.iterate-error.ensures
+    c.loop-i.invariant below c.iterate-error.ensures
     (not_small (scene_of c.args.scene.now) c.loop-i.i c.iterate-error.result.value
     (sym (ap (λ x. Ieee.le c.iterate-error.result.value x) p.driven_pass.1.limit) ∙ c.if-error-limit.false))
 

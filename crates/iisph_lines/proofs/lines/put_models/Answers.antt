@@ -44,15 +44,15 @@ put_model-next-requires c =
     let turn : let a = c.args in Turn a.kind a.scene.now a.models.heads c.loop-m.m = this_turn c.requires.models_within.0 c.requires.models_within.1 _ c.loop-m-test.true in
     let count : let a = c.args in c.particles-n.result ≡ get_or (counts_of a.kind a.scene.now) c.loop-m.m 0 = c.particles-n.ensures.0 ∙ turn.count in
     let width : let a = c.args in let b = a.scene.now in c.answer_width-w.result ≡ width_in (axes_of b) a.kind (keeps_of a.kind b) c.loop-m.m = c.answer_width-w.ensures.0 ∙ cc (c.keeps.ensures.0, turn.keeps) in
-    let fits : c.loop-m.from + c.answer_width-w.result * c.particles-n.result ≤ length c.args.xs.now = let l = c.loop-m in model_fits _ _ _ _ _ l.m l.invariant.1 (width) (count) turn.below c.requires.scene_in_bounds.0 in
-    let l = c.loop-m in record { n_in_bounds = fits; xs_in_bounds = model_room _ _ _ _ _ _ l.m l.invariant.1 (width) (count) l.invariant.2 turn.below c.requires.scene_in_bounds.1 }
+    let fits : c.loop-m.from + c.answer_width-w.result * c.particles-n.result ≤ length c.args.xs.now = let l = c.loop-m in model_fits _ _ _ _ _ l.m l.invariant.1 width count turn.below c.requires.scene_in_bounds.0 in
+    let l = c.loop-m in record { n_in_bounds = fits; xs_in_bounds = model_room _ _ _ _ _ _ l.m l.invariant.1 width count l.invariant.2 turn.below c.requires.scene_in_bounds.1 }
 
 pub overflow_mul-from : goal.overflow_mul-from
 overflow_mul-from c =
     let turn : let a = c.args in Turn a.kind a.scene.now a.models.heads c.loop-m.m = this_turn c.requires.models_within.0 c.requires.models_within.1 _ c.loop-m-test.true in
     let count : let a = c.args in c.particles-n.result ≡ get_or (counts_of a.kind a.scene.now) c.loop-m.m 0 = c.particles-n.ensures.0 ∙ turn.count in
     let width : let a = c.args in let b = a.scene.now in c.answer_width-w.result ≡ width_in (axes_of b) a.kind (keeps_of a.kind b) c.loop-m.m = c.answer_width-w.ensures.0 ∙ cc (c.keeps.ensures.0, turn.keeps) in
-    let fits : c.loop-m.from + c.answer_width-w.result * c.particles-n.result ≤ length c.args.xs.now = let l = c.loop-m in model_fits _ _ _ _ _ l.m l.invariant.1 (width) (count) turn.below c.requires.scene_in_bounds.0 in
+    let fits : c.loop-m.from + c.answer_width-w.result * c.particles-n.result ≤ length c.args.xs.now = let l = c.loop-m in model_fits _ _ _ _ _ l.m l.invariant.1 width count turn.below c.requires.scene_in_bounds.0 in
     omega (arith, fits)
 
 pub overflow_add-from : goal.overflow_add-from
@@ -60,7 +60,7 @@ overflow_add-from c =
     let turn : let a = c.args in Turn a.kind a.scene.now a.models.heads c.loop-m.m = this_turn c.requires.models_within.0 c.requires.models_within.1 _ c.loop-m-test.true in
     let count : let a = c.args in c.particles-n.result ≡ get_or (counts_of a.kind a.scene.now) c.loop-m.m 0 = c.particles-n.ensures.0 ∙ turn.count in
     let width : let a = c.args in let b = a.scene.now in c.answer_width-w.result ≡ width_in (axes_of b) a.kind (keeps_of a.kind b) c.loop-m.m = c.answer_width-w.ensures.0 ∙ cc (c.keeps.ensures.0, turn.keeps) in
-    let fits : c.loop-m.from + c.answer_width-w.result * c.particles-n.result ≤ length c.args.xs.now = let l = c.loop-m in model_fits _ _ _ _ _ l.m l.invariant.1 (width) (count) turn.below c.requires.scene_in_bounds.0 in
+    let fits : c.loop-m.from + c.answer_width-w.result * c.particles-n.result ≤ length c.args.xs.now = let l = c.loop-m in model_fits _ _ _ _ _ l.m l.invariant.1 width count turn.below c.requires.scene_in_bounds.0 in
     omega (arith, fits)
 
 pub overflow_add-m : goal.overflow_add-m
@@ -75,8 +75,8 @@ loop-m-preserved c =
     let width : let a = c.args in let b = a.scene.now in c.answer_width-w.result ≡ width_in (axes_of b) a.kind (keeps_of a.kind b) c.loop-m.m = c.answer_width-w.ensures.0 ∙ cc (c.keeps.ensures.0, turn.keeps) in
     let l = c.loop-m in (
       omega (arith, turn.below),
-      model_next _ _ _ _ _ l.m l.invariant.1 (width) (count),
-      model_written _ _ _ _ _ _ l.m l.invariant.1 (width) (count) l.invariant.2
+      model_next _ _ _ _ _ l.m l.invariant.1 width count,
+      model_written _ _ _ _ _ _ l.m l.invariant.1 width count l.invariant.2
           c.put_model-next.ensures,
     )
 

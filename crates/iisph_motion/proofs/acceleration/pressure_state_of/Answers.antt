@@ -76,7 +76,7 @@ pub returns : goal.returns
 returns c =
     let here : let a = c.args in FluidParticleOk a.scene.now (record { head = c.head_of-head.result; at = (location_of Fluid a.scene.now a.i).at }) a.i = over_here c.requires.pass_over.0 c.requires.pass_over.1 refl c.head_of-head.ensures in
     let p = c.requires in
-    state_made p.pass_over.0 p.iterating (here) p.pass_over.1 c.double-density0.ensures c.row_at-row.ensures.0
+    state_made p.pass_over.0 p.iterating here p.pass_over.1 c.double-density0.ensures c.row_at-row.ensures.0
     c.pressure_slot.ensures
     c.density_column.ensures
     c.column_at.ensures.0

@@ -21,18 +21,18 @@ pub overflow_add-at : goal.overflow_add-at
 overflow_add-at c =
     let here : let a = c.args in FluidParticleOk a.scene.now (record { head = (location_of Fluid a.scene.now a.i).head; at = c.record_of-at.result }) a.i = record_here c.requires.driven_pass.0.timed.over c.requires.driven_pass.1 c.record_of-at.ensures in
     let over = c.requires.driven_pass.0.timed.over in
-    omega (arith, velocity_within over.axes (here) c.vector_width.ensures.0)
+    omega (arith, velocity_within over.axes here c.vector_width.ensures.0)
 
 pub vector-before-requires : goal.vector-before-requires
 vector-before-requires c =
     let here : let a = c.args in FluidParticleOk a.scene.now (record { head = (location_of Fluid a.scene.now a.i).head; at = c.record_of-at.result }) a.i = record_here c.requires.driven_pass.0.timed.over c.requires.driven_pass.1 c.record_of-at.ensures in
     let over = c.requires.driven_pass.0.timed.over in
-    velocity_read over.axes (here) c.vector_width.ensures.0
+    velocity_read over.axes here c.vector_width.ensures.0
 
 pub vector-requires : goal.vector-requires
 vector-requires c =
     let here : let a = c.args in FluidParticleOk a.scene.now (record { head = (location_of Fluid a.scene.now a.i).head; at = c.record_of-at.result }) a.i = record_here c.requires.driven_pass.0.timed.over c.requires.driven_pass.1 c.record_of-at.ensures in
-    position_read c.requires.driven_pass.0.timed.over.axes (here)
+    position_read c.requires.driven_pass.0.timed.over.axes here
 
 pub returns : goal.returns
 returns c =
@@ -43,10 +43,10 @@ returns c =
     let offset = c.vector_width.ensures.0 in
     record {
       position =
-          position_made timed.over.axes (here) _ change offset c.vector-before.ensures (c.add-velocity.ensures d)
+          position_made timed.over.axes here _ change offset c.vector-before.ensures (c.add-velocity.ensures d)
           timed.dt_is
           c.vector.ensures
           (c.scale.ensures d)
           (c.add-position.ensures d);
-      velocity = velocity_made timed.over.axes (here) _ change offset c.vector-before.ensures (c.add-velocity.ensures d);
+      velocity = velocity_made timed.over.axes here _ change offset c.vector-before.ensures (c.add-velocity.ensures d);
     }

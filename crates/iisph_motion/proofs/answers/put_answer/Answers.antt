@@ -65,7 +65,7 @@ overflow_mul-answers c = omega (arith, c.wide-axes.ensures.1)
 pub overflow_add-answers : goal.overflow_add-answers
 overflow_add-answers c =
     let kept : length c.put_vector.new.work ≡ length c.args.answers.now = ap length c.put_vector.ensures ∙ simp length-sets in
-    let kept_again : length c.put_vector-2.new.work ≡ length c.args.answers.now = ap length c.put_vector-2.ensures ∙ simp length-sets (kept) in
+    let kept_again : length c.put_vector-2.new.work ≡ length c.args.answers.now = ap length c.put_vector-2.ensures ∙ simp length-sets kept in
     let room : let a = c.args in let w = c.fluid_answer_width.result in w * a.i + w ≤ length a.answers.now = answer_room c.args.dim c.args.i c.fluid_answer_width.ensures.0 c.requires.i_lt_n.1 in
     let last : c.fluid_answer_width.result * c.args.i + 2 * c.wide-axes.result < length c.put_vector-2.new.work = omega (arith, kept_again, room, c.fluid_answer_width.ensures.0, c.wide-axes.ensures.0) in
     let short : length c.args.answers.now * 8 < 0x8000000000000000 = c.well_formed.1.1.1.1.1.1.1.0.1 in
@@ -74,7 +74,7 @@ overflow_add-answers c =
 pub offset_bounds-answers-at : goal.offset_bounds-answers-at
 offset_bounds-answers-at c =
     let kept : length c.put_vector.new.work ≡ length c.args.answers.now = ap length c.put_vector.ensures ∙ simp length-sets in
-    let kept_again : length c.put_vector-2.new.work ≡ length c.args.answers.now = ap length c.put_vector-2.ensures ∙ simp length-sets (kept) in
+    let kept_again : length c.put_vector-2.new.work ≡ length c.args.answers.now = ap length c.put_vector-2.ensures ∙ simp length-sets kept in
     let room : let a = c.args in let w = c.fluid_answer_width.result in w * a.i + w ≤ length a.answers.now = answer_room c.args.dim c.args.i c.fluid_answer_width.ensures.0 c.requires.i_lt_n.1 in
     let last : c.fluid_answer_width.result * c.args.i + 2 * c.wide-axes.result < length c.put_vector-2.new.work = omega (arith, kept_again, room, c.fluid_answer_width.ensures.0, c.wide-axes.ensures.0) in
     let short : length c.args.answers.now * 8 < 0x8000000000000000 = c.well_formed.1.1.1.1.1.1.1.0.1 in
@@ -83,7 +83,7 @@ offset_bounds-answers-at c =
 pub bounds-answers-at : goal.bounds-answers-at
 bounds-answers-at c =
     let kept : length c.put_vector.new.work ≡ length c.args.answers.now = ap length c.put_vector.ensures ∙ simp length-sets in
-    let kept_again : length c.put_vector-2.new.work ≡ length c.args.answers.now = ap length c.put_vector-2.ensures ∙ simp length-sets (kept) in
+    let kept_again : length c.put_vector-2.new.work ≡ length c.args.answers.now = ap length c.put_vector-2.ensures ∙ simp length-sets kept in
     let room : let a = c.args in let w = c.fluid_answer_width.result in w * a.i + w ≤ length a.answers.now = answer_room c.args.dim c.args.i c.fluid_answer_width.ensures.0 c.requires.i_lt_n.1 in
     let last : c.fluid_answer_width.result * c.args.i + 2 * c.wide-axes.result < length c.put_vector-2.new.work = omega (arith, kept_again, room, c.fluid_answer_width.ensures.0, c.wide-axes.ensures.0) in
     omega (arith, last)
@@ -91,8 +91,8 @@ bounds-answers-at c =
 pub shape_of-answers : goal.shape_of-answers
 shape_of-answers c =
     let kept : length c.put_vector.new.work ≡ length c.args.answers.now = ap length c.put_vector.ensures ∙ simp length-sets in
-    let kept_again : length c.put_vector-2.new.work ≡ length c.args.answers.now = ap length c.put_vector-2.ensures ∙ simp length-sets (kept) in
-    simp length-set (kept_again)
+    let kept_again : length c.put_vector-2.new.work ≡ length c.args.answers.now = ap length c.put_vector-2.ensures ∙ simp length-sets kept in
+    simp length-set kept_again
 
 pub returns : goal.returns
 returns c =

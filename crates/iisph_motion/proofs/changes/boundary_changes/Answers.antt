@@ -22,12 +22,12 @@ loop-k-init c = (omega arith, refl)
 pub overflow_mul-c : goal.overflow_mul-c
 overflow_mul-c c =
     let here : let a = c.args in ContactReady Boundary a.dim a.scene.now (a.list.at + c.contact_width-width.result * c.loop-k.k) = contact_here c.requires.contacts_ready c.loop-k.k c.contact_width-width.ensures.0 c.loop-k-test.true in
-    omega (arith, contact-room c.requires.contacts_ready.axes (here))
+    omega (arith, contact-room c.requires.contacts_ready.axes here)
 
 pub overflow_add-c : goal.overflow_add-c
 overflow_add-c c =
     let here : let a = c.args in ContactReady Boundary a.dim a.scene.now (a.list.at + c.contact_width-width.result * c.loop-k.k) = contact_here c.requires.contacts_ready c.loop-k.k c.contact_width-width.ensures.0 c.loop-k-test.true in
-    omega (arith, contact-room c.requires.contacts_ready.axes (here))
+    omega (arith, contact-room c.requires.contacts_ready.axes here)
 
 pub boundary_acceleration-requires : goal.boundary_acceleration-requires
 boundary_acceleration-requires c =

@@ -53,26 +53,26 @@ velocity_change_of-first-requires c = c.requires.driven_pass
 pub fluid_changes-part-requires : goal.fluid_changes-part-requires
 fluid_changes-part-requires c =
     let below : c.args.i < fluid_size (scene_of c.args.scene.now) = omega (arith, c.requires.driven_pass.0.timed.over.size, c.requires.driven_pass.1) in
-    let fluid : let b = c.args.scene.now in ContactsAre b Fluid (particle (scene_of b) c.args.i) c.contacts_of-fluid.result = contacts_are c.requires.driven_pass.0.timed.over.indexed _ (below) c.contacts_of-fluid.ensures in
+    let fluid : let b = c.args.scene.now in ContactsAre b Fluid (particle (scene_of b) c.args.i) c.contacts_of-fluid.result = contacts_are c.requires.driven_pass.0.timed.over.indexed _ below c.contacts_of-fluid.ensures in
     let p = c.requires in
     let over = p.driven_pass.0.timed.over in
-    record { pass_over = (over, p.changes_ready); contacts_ready = list_ready over.axes (fluid) }
+    record { pass_over = (over, p.changes_ready); contacts_ready = list_ready over.axes fluid }
 
 pub boundary_changes-requires : goal.boundary_changes-requires
 boundary_changes-requires c =
     let below : c.args.i < fluid_size (scene_of c.args.scene.now) = omega (arith, c.requires.driven_pass.0.timed.over.size, c.requires.driven_pass.1) in
-    let boundary : let b = c.args.scene.now in ContactsAre b Boundary (particle (scene_of b) c.args.i) c.contacts_of-boundary.result = contacts_are c.requires.driven_pass.0.timed.over.indexed _ (below) c.contacts_of-boundary.ensures in
+    let boundary : let b = c.args.scene.now in ContactsAre b Boundary (particle (scene_of b) c.args.i) c.contacts_of-boundary.result = contacts_are c.requires.driven_pass.0.timed.over.indexed _ below c.contacts_of-boundary.ensures in
     let p = c.requires in
     let over = p.driven_pass.0.timed.over in
-    record { pass_over = (over, p.changes_ready.iteration); contacts_ready = list_ready over.axes (boundary) }
+    record { pass_over = (over, p.changes_ready.iteration); contacts_ready = list_ready over.axes boundary }
 
 pub returns : goal.returns
 returns c =
     let below : c.args.i < fluid_size (scene_of c.args.scene.now) = omega (arith, c.requires.driven_pass.0.timed.over.size, c.requires.driven_pass.1) in
-    let boundary : let b = c.args.scene.now in ContactsAre b Boundary (particle (scene_of b) c.args.i) c.contacts_of-boundary.result = contacts_are c.requires.driven_pass.0.timed.over.indexed _ (below) c.contacts_of-boundary.ensures in
-    let fluid : let b = c.args.scene.now in ContactsAre b Fluid (particle (scene_of b) c.args.i) c.contacts_of-fluid.result = contacts_are c.requires.driven_pass.0.timed.over.indexed _ (below) c.contacts_of-fluid.ensures in
+    let boundary : let b = c.args.scene.now in ContactsAre b Boundary (particle (scene_of b) c.args.i) c.contacts_of-boundary.result = contacts_are c.requires.driven_pass.0.timed.over.indexed _ below c.contacts_of-boundary.ensures in
+    let fluid : let b = c.args.scene.now in ContactsAre b Fluid (particle (scene_of b) c.args.i) c.contacts_of-fluid.result = contacts_are c.requires.driven_pass.0.timed.over.indexed _ below c.contacts_of-fluid.ensures in
     let p = c.requires in
-    change_made p.driven_pass.0.timed.over.axes _ (fluid) (boundary) _ _ p.driven_pass.0.timed.dt_is _
+    change_made p.driven_pass.0.timed.over.axes _ fluid boundary _ _ p.driven_pass.0.timed.dt_is _
     c.pressure_state_of-state.ensures
     _
     (share_at p.changes_ready p.driven_pass.1 c.quotient_column.ensures c.column_at.ensures.0)

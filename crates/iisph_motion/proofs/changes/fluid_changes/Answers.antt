@@ -27,25 +27,25 @@ loop-k-init c = (omega arith, refl)
 pub overflow_mul-c : goal.overflow_mul-c
 overflow_mul-c c =
     let here : let a = c.args in ContactReady Fluid a.dim a.scene.now (a.list.at + c.contact_width-width.result * c.loop-k.k) = contact_here c.requires.contacts_ready c.loop-k.k c.contact_width-width.ensures.0 c.loop-k-test.true in
-    let within : let a = c.args in a.list.at + c.contact_width-width.result * c.loop-k.k + contact_width a.dim ≤ length a.scene.now = contact-room c.requires.contacts_ready.axes (here) in
+    let within : let a = c.args in a.list.at + c.contact_width-width.result * c.loop-k.k + contact_width a.dim ≤ length a.scene.now = contact-room c.requires.contacts_ready.axes here in
     omega (arith, within)
 
 pub overflow_add-c : goal.overflow_add-c
 overflow_add-c c =
     let here : let a = c.args in ContactReady Fluid a.dim a.scene.now (a.list.at + c.contact_width-width.result * c.loop-k.k) = contact_here c.requires.contacts_ready c.loop-k.k c.contact_width-width.ensures.0 c.loop-k-test.true in
-    let within : let a = c.args in a.list.at + c.contact_width-width.result * c.loop-k.k + contact_width a.dim ≤ length a.scene.now = contact-room c.requires.contacts_ready.axes (here) in
+    let within : let a = c.args in a.list.at + c.contact_width-width.result * c.loop-k.k + contact_width a.dim ≤ length a.scene.now = contact-room c.requires.contacts_ready.axes here in
     omega (arith, within)
 
 pub target_of-j-requires : goal.target_of-j-requires
 target_of-j-requires c =
     let here : let a = c.args in ContactReady Fluid a.dim a.scene.now (a.list.at + c.contact_width-width.result * c.loop-k.k) = contact_here c.requires.contacts_ready c.loop-k.k c.contact_width-width.ensures.0 c.loop-k-test.true in
-    record { indexed = c.requires.pass_over.0.indexed; target_ready = target_ready (here) }
+    record { indexed = c.requires.pass_over.0.indexed; target_ready = target_ready here }
 
 pub row_at-requires : goal.row_at-requires
 row_at-requires c =
     let here : let a = c.args in ContactReady Fluid a.dim a.scene.now (a.list.at + c.contact_width-width.result * c.loop-k.k) = contact_here c.requires.contacts_ready c.loop-k.k c.contact_width-width.ensures.0 c.loop-k-test.true in
     let below : c.target_of-j.result < c.args.n = omega (arith, c.requires.pass_over.0.size, fluid_named here.target c.target_of-j.ensures refl) in
-    omega (arith, row_within c.args.dim (below), c.requires.pass_over.1.iteration.room)
+    omega (arith, row_within c.args.dim below, c.requires.pass_over.1.iteration.room)
 
 pub overflow_add-m : goal.overflow_add-m
 overflow_add-m c = omega (arith, c.row_at.ensures.1)
@@ -75,7 +75,7 @@ bounds-work-column_at c = omega (arith, c.column_at.ensures.1)
 pub overflow_add-c-in-loop-k : goal.overflow_add-c-in-loop-k
 overflow_add-c-in-loop-k c =
     let here : let a = c.args in ContactReady Fluid a.dim a.scene.now (a.list.at + c.contact_width-width.result * c.loop-k.k) = contact_here c.requires.contacts_ready c.loop-k.k c.contact_width-width.ensures.0 c.loop-k-test.true in
-    let within : let a = c.args in a.list.at + c.contact_width-width.result * c.loop-k.k + contact_width a.dim ≤ length a.scene.now = contact-room c.requires.contacts_ready.axes (here) in
+    let within : let a = c.args in a.list.at + c.contact_width-width.result * c.loop-k.k + contact_width a.dim ≤ length a.scene.now = contact-room c.requires.contacts_ready.axes here in
     omega (arith, within)
 
 pub vector-requires : goal.vector-requires
@@ -98,7 +98,7 @@ loop-k-preserved c =
       change_next Fluid d _
           (fluid_change (scene_of a.scene.now) (pressures_in d a.n a.work.now) a.dt a.own)
           a.list.at l.k _ c.contact_width-width.ensures.0 l.invariant.1
-          (fluid_change_lem _ (here) p.pass_over.0 p.pass_over.1 a.own a.dt c.target_of-j.ensures c.row_at.ensures.0
+          (fluid_change_lem _ here p.pass_over.0 p.pass_over.1 a.own a.dt c.target_of-j.ensures c.row_at.ensures.0
           c.quotient_column-shares.ensures
           c.column_at.ensures.0
           c.vector.ensures

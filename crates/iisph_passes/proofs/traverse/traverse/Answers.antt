@@ -25,7 +25,7 @@ update_row-requires c =
     let axes : Axes c.args.dim = axes-are c.args.scene.now c.requires.driven_pass.timed.over.axes in
     let a = c.args in record { driven_pass = (c.requires.driven_pass, c.loop-i-test.true); room = (
         omega (arith, c.requires.room.0),
-        ready_kept a.scene.now c.requires.driven_pass.timed.over.axes (axes) c.requires.driven_pass.timed.over.size c.loop-i.i
+        ready_kept a.scene.now c.requires.driven_pass.timed.over.axes axes c.requires.driven_pass.timed.over.size c.loop-i.i
             c.loop-i.invariant.0 a.work.now
             a.pass c.loop-i.invariant.2 c.requires.room.1,
       ) }
@@ -40,7 +40,7 @@ loop-i-preserved c =
           (row_of a.dim (scene_of a.scene.now) a.work.now a.pass)
           a.work.now c.loop-i.i c.loop-i.invariant.2
           (c.update_row.ensures
-          ∙ row_again a.scene.now c.requires.driven_pass.timed.over.axes (axes) c.requires.driven_pass.timed.over.size
+          ∙ row_again a.scene.now c.requires.driven_pass.timed.over.axes axes c.requires.driven_pass.timed.over.size
           c.loop-i.i
           c.loop-i-test.true a.work.now a.pass c.loop-i.invariant.2),
     )

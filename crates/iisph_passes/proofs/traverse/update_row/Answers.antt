@@ -43,7 +43,7 @@ pub put_column-requires : goal.put_column-requires
 put_column-requires c =
     let axes : Axes c.args.dim = axes-are c.args.scene.now c.requires.driven_pass.0.timed.over.axes in
     let room : volumes_at c.args.dim c.args.n ≤ length c.args.work.now = omega (arith, c.requires.room.0) in
-    (quotient_within (axes) c.quotient_column.ensures, c.requires.driven_pass.1, room)
+    (quotient_within axes c.quotient_column.ensures, c.requires.driven_pass.1, room)
 
 pub dij_pjl_of-d-requires : goal.dij_pjl_of-d-requires
 dij_pjl_of-d-requires c =
@@ -74,7 +74,7 @@ pub put_column-requires-in-NextPressures : goal.put_column-requires-in-NextPress
 put_column-requires-in-NextPressures c =
     let axes : Axes c.args.dim = axes-are c.args.scene.now c.requires.driven_pass.0.timed.over.axes in
     let room : volumes_at c.args.dim c.args.n ≤ length c.args.work.now = omega (arith, c.requires.room.0) in
-    (quotient_within (axes) c.quotient_column-in-NextPressures.ensures, c.requires.driven_pass.1, room)
+    (quotient_within axes c.quotient_column-in-NextPressures.ensures, c.requires.driven_pass.1, room)
 
 pub put_column-requires-in-NextPressures-2 : goal.put_column-requires-in-NextPressures-2
 put_column-requires-in-NextPressures-2 c =
@@ -82,7 +82,7 @@ put_column-requires-in-NextPressures-2 c =
     let room : volumes_at c.args.dim c.args.n ≤ length c.args.work.now = omega (arith, c.requires.room.0) in
     let kept : length c.put_column-in-NextPressures.new.work ≡ length c.args.work.now =
     ap length c.put_column-in-NextPressures.ensures ∙ simp length-set in (
-      next_within (axes) c.next_pressure_column.ensures,
+      next_within axes c.next_pressure_column.ensures,
       c.requires.driven_pass.1,
       omega (arith, room, kept),
     )
@@ -102,7 +102,7 @@ pub put_column-requires-in-Shares : goal.put_column-requires-in-Shares
 put_column-requires-in-Shares c =
     let axes : Axes c.args.dim = axes-are c.args.scene.now c.requires.driven_pass.0.timed.over.axes in
     let room : volumes_at c.args.dim c.args.n ≤ length c.args.work.now = omega (arith, c.requires.room.0) in
-    (quotient_within (axes) c.quotient_column-in-Shares.ensures, c.requires.driven_pass.1, room)
+    (quotient_within axes c.quotient_column-in-Shares.ensures, c.requires.driven_pass.1, room)
 
 pub shape_of-work-in-Advection : goal.shape_of-work-in-Advection
 shape_of-work-in-Advection c = ap length c.put_in_row.ensures ∙ simp (length-sets, length-set)

@@ -26,22 +26,22 @@ loop-k-init c = (omega arith, refl)
 pub overflow_mul-c : goal.overflow_mul-c
 overflow_mul-c c =
     let here : let a = c.args in ContactReady Boundary a.dim a.scene.now (a.list.at + c.contact_width-width.result * c.loop-k.k) = contact_here c.requires.contacts_ready _ c.contact_width-width.ensures.0 c.loop-k-test.true in
-    omega (arith, (target_ready (here)).1)
+    omega (arith, (target_ready here).1)
 
 pub overflow_add-c : goal.overflow_add-c
 overflow_add-c c =
     let here : let a = c.args in ContactReady Boundary a.dim a.scene.now (a.list.at + c.contact_width-width.result * c.loop-k.k) = contact_here c.requires.contacts_ready _ c.contact_width-width.ensures.0 c.loop-k-test.true in
-    omega (arith, (target_ready (here)).1)
+    omega (arith, (target_ready here).1)
 
 pub target_of-j-requires : goal.target_of-j-requires
 target_of-j-requires c =
     let here : let a = c.args in ContactReady Boundary a.dim a.scene.now (a.list.at + c.contact_width-width.result * c.loop-k.k) = contact_here c.requires.contacts_ready _ c.contact_width-width.ensures.0 c.loop-k-test.true in
-    record { indexed = c.requires.pass_over.0.indexed; target_ready = target_ready (here) }
+    record { indexed = c.requires.pass_over.0.indexed; target_ready = target_ready here }
 
 pub overflow_add-c-in-loop-k : goal.overflow_add-c-in-loop-k
 overflow_add-c-in-loop-k c =
     let here : let a = c.args in ContactReady Boundary a.dim a.scene.now (a.list.at + c.contact_width-width.result * c.loop-k.k) = contact_here c.requires.contacts_ready _ c.contact_width-width.ensures.0 c.loop-k-test.true in
-    omega (arith, contact-room c.requires.contacts_ready.axes (here))
+    omega (arith, contact-room c.requires.contacts_ready.axes here)
 
 pub vector-g-requires : goal.vector-g-requires
 vector-g-requires c =
@@ -68,7 +68,7 @@ loop-k-preserved c =
       term_next Boundary a.dim _ (boundary_term (scene_of a.scene.now) a.list.density0 d) a.list.at l.k
           _ c.contact_width-width.ensures.0 l.invariant.1
           (ap (λ (k : ℕ). element_at a.work.now k ⊗ a.list.density0 ⊗ c.dot.result) c.volume_at-place.ensures.0
-          ∙ boundary_term_lem _ p.pass_over.0.axes p.pass_over.0.size p.pass_over.1 c.vector-g.ensures (target_ready (here))
+          ∙ boundary_term_lem _ p.pass_over.0.axes p.pass_over.0.size p.pass_over.1 c.vector-g.ensures (target_ready here)
           c.target_of-j.ensures
           a.list.density0 d c.dot.ensures),
     )

@@ -17,11 +17,11 @@ pub dij_sum-requires : goal.dij_sum-requires
 dij_sum-requires c =
     let fluid : let b = c.args.scene.now in ContactsAre b Fluid (particle (scene_of b) c.args.i) c.contacts_of-list.result = let p = c.requires in contacts_are p.timed_pass.0.over.indexed _ (omega (arith, p.timed_pass.0.over.size, p.timed_pass.1)) c.contacts_of-list.ensures in
     let p = c.requires in
-    record { pass_over = (p.timed_pass.0.over, p.dij_ready); contacts_ready = list_ready p.timed_pass.0.over.axes (fluid) }
+    record { pass_over = (p.timed_pass.0.over, p.dij_ready); contacts_ready = list_ready p.timed_pass.0.over.axes fluid }
 
 pub returns : goal.returns
 returns c =
     let fluid : let b = c.args.scene.now in ContactsAre b Fluid (particle (scene_of b) c.args.i) c.contacts_of-list.result = let p = c.requires in contacts_are p.timed_pass.0.over.indexed _ (omega (arith, p.timed_pass.0.over.size, p.timed_pass.1)) c.contacts_of-list.ensures in
     let p = c.requires.timed_pass.0 in
-    dij_made p.over.axes (fluid) _ p.dt_is c.dij_sum.ensures
+    dij_made p.over.axes fluid _ p.dt_is c.dij_sum.ensures
     (c.scale.ensures c.args.dim)

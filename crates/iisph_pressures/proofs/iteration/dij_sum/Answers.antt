@@ -25,17 +25,17 @@ loop-k-init c =
 pub overflow_mul-c : goal.overflow_mul-c
 overflow_mul-c c =
     let here : let a = c.args in ContactReady Fluid a.dim a.scene.now (a.list.at + c.contact_width-width.result * c.loop-k.k) = contact_here c.requires.contacts_ready _ c.contact_width-width.ensures.0 c.loop-k-test.true in
-    omega (arith, (target_ready (here)).1)
+    omega (arith, (target_ready here).1)
 
 pub overflow_add-c : goal.overflow_add-c
 overflow_add-c c =
     let here : let a = c.args in ContactReady Fluid a.dim a.scene.now (a.list.at + c.contact_width-width.result * c.loop-k.k) = contact_here c.requires.contacts_ready _ c.contact_width-width.ensures.0 c.loop-k-test.true in
-    omega (arith, (target_ready (here)).1)
+    omega (arith, (target_ready here).1)
 
 pub target_of-j-requires : goal.target_of-j-requires
 target_of-j-requires c =
     let here : let a = c.args in ContactReady Fluid a.dim a.scene.now (a.list.at + c.contact_width-width.result * c.loop-k.k) = contact_here c.requires.contacts_ready _ c.contact_width-width.ensures.0 c.loop-k-test.true in
-    record { indexed = c.requires.pass_over.0.indexed; target_ready = target_ready (here) }
+    record { indexed = c.requires.pass_over.0.indexed; target_ready = target_ready here }
 
 pub vector-g-requires : goal.vector-g-requires
 vector-g-requires c =
@@ -45,7 +45,7 @@ vector-g-requires c =
 pub overflow_add-c-in-loop-k : goal.overflow_add-c-in-loop-k
 overflow_add-c-in-loop-k c =
     let here : let a = c.args in ContactReady Fluid a.dim a.scene.now (a.list.at + c.contact_width-width.result * c.loop-k.k) = contact_here c.requires.contacts_ready _ c.contact_width-width.ensures.0 c.loop-k-test.true in
-    omega (arith, contact-room c.requires.contacts_ready.axes (here))
+    omega (arith, contact-room c.requires.contacts_ready.axes here)
 
 pub column_at-place-requires : goal.column_at-place-requires
 column_at-place-requires c =
@@ -82,7 +82,7 @@ loop-k-preserved c =
           (c.scale.ensures d)
           c.vector-g.ensures
           (quotient_there scene ps d c.requires.pass_over.1.quotients c.quotient_column-quotients.ensures
-          (below)
+          below
           c.column_at-place.ensures.0
           ∙ ap (quotient scene ps) c.target_of-j.ensures)),
     )

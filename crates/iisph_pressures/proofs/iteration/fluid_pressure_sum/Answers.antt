@@ -24,17 +24,17 @@ loop-k-init c = (omega arith, refl)
 pub overflow_mul-c : goal.overflow_mul-c
 overflow_mul-c c =
     let here : let a = c.args in ContactReady Fluid a.dim a.scene.now (a.list.at + c.contact_width-width.result * c.loop-k.k) = contact_here c.requires.contacts_ready _ c.contact_width-width.ensures.0 c.loop-k-test.true in
-    omega (arith, (target_ready (here)).1)
+    omega (arith, (target_ready here).1)
 
 pub overflow_add-c : goal.overflow_add-c
 overflow_add-c c =
     let here : let a = c.args in ContactReady Fluid a.dim a.scene.now (a.list.at + c.contact_width-width.result * c.loop-k.k) = contact_here c.requires.contacts_ready _ c.contact_width-width.ensures.0 c.loop-k-test.true in
-    omega (arith, (target_ready (here)).1)
+    omega (arith, (target_ready here).1)
 
 pub target_of-j-requires : goal.target_of-j-requires
 target_of-j-requires c =
     let here : let a = c.args in ContactReady Fluid a.dim a.scene.now (a.list.at + c.contact_width-width.result * c.loop-k.k) = contact_here c.requires.contacts_ready _ c.contact_width-width.ensures.0 c.loop-k-test.true in
-    record { indexed = c.requires.pass_over.0.indexed; target_ready = target_ready (here) }
+    record { indexed = c.requires.pass_over.0.indexed; target_ready = target_ready here }
 
 pub fluid_term-sum-requires : goal.fluid_term-sum-requires
 fluid_term-sum-requires c =
@@ -55,7 +55,7 @@ loop-k-preserved c =
           (fluid_term d (scene_of a.scene.now) (pressures_in d a.n w) (dijs_in d a.n w) a.owner)
           a.list.at l.k +0 c.contact_width-width.ensures.0 l.invariant.1
           (c.fluid_term-sum.ensures
-          ∙ fluid_term_lem _ p.pass_over.0.axes p.pass_over.0.size p.pass_over.1 refl (target_ready (here)) c.target_of-j.ensures
+          ∙ fluid_term_lem _ p.pass_over.0.axes p.pass_over.0.size p.pass_over.1 refl (target_ready here) c.target_of-j.ensures
           a.owner),
     )
 

@@ -33,11 +33,11 @@ term-here e b c work j owner re ge = rw (re, ge, e)
 pub overflow_add-c : goal.overflow_add-c
 overflow_add-c c =
     let p = c.requires.axes in
-    omega (arith, ((gradient-at c.if-dim-eq-SPACE.true _ _ p.axes p.dim_in_bounds).1.each 0 (omega arith)).present)
+    omega (arith, ((gradient-at c.if-dim-eq-SPACE.true _ _ p.0 p.1).1.each 0 (omega arith)).present)
 
 pub vector-g-requires : goal.vector-g-requires
 vector-g-requires c =
-    let p = c.requires.axes in gradient-at c.if-dim-eq-SPACE.true _ _ p.axes p.dim_in_bounds
+    let p = c.requires.axes in gradient-at c.if-dim-eq-SPACE.true _ _ p.0 p.1
 
 pub row_term-requires : goal.row_term-requires
 row_term-requires c =
@@ -53,21 +53,21 @@ pub overflow_add-c-2 : goal.overflow_add-c-2
 overflow_add-c-2 c =
     let flat : c.args.dim ≡ plane = ⊎_elim (λ e. e) (λ e. absurd (c.if-dim-eq-SPACE.false e)) (plane_or_space c.requires.axes.0) in
     let p = c.requires.axes in
-    omega (arith, ((gradient-at (flat) _ _ p.axes p.dim_in_bounds).1.each 0 (omega arith)).present)
+    omega (arith, ((gradient-at flat _ _ p.0 p.1).1.each 0 (omega arith)).present)
 
 pub vector-g-requires-2 : goal.vector-g-requires-2
 vector-g-requires-2 c =
     let flat : c.args.dim ≡ plane = ⊎_elim (λ e. e) (λ e. absurd (c.if-dim-eq-SPACE.false e)) (plane_or_space c.requires.axes.0) in
-    let p = c.requires.axes in gradient-at (flat) _ _ p.axes p.dim_in_bounds
+    let p = c.requires.axes in gradient-at flat _ _ p.0 p.1
 
 pub row_term-requires-2 : goal.row_term-requires-2
 row_term-requires-2 c =
     let flat : c.args.dim ≡ plane = ⊎_elim (λ e. e) (λ e. absurd (c.if-dim-eq-SPACE.false e)) (plane_or_space c.requires.axes.0) in
-    let p = c.requires in row_here (flat) _ p.axes.0 p.dim_in_bounds
+    let p = c.requires in row_here flat _ p.axes.0 p.dim_in_bounds
 
 pub returns : goal.returns
 returns c =
     let flat : c.args.dim ≡ plane = ⊎_elim (λ e. e) (λ e. absurd (c.if-dim-eq-SPACE.false e)) (plane_or_space c.requires.axes.0) in
     let a = c.args in
-    term-here (flat) _ _ a.work.now _ a.owner c.row_term-2.ensures
+    term-here flat _ _ a.work.now _ a.owner c.row_term-2.ensures
     c.vector-g-2.ensures

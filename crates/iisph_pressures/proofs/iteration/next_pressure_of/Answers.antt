@@ -15,13 +15,6 @@ use Rattle.scene_index.proofs.ContactLists.{ContactsAre, contacts_are, list_read
 use Rattle.iisph_pressures.proofs.IterationTerms.{axes-are, many_axes, next_made}
 use Rattle.iisph_pressures.proofs.iteration.next_pressure_of.Goals as goal
 
--- what a place in a column asks
-columns : (c : tie.Start) {column : ℕ} → column ≤ aii_slot c.args.dim
-    → (column < work_width c.args.dim) × (c.args.i < c.args.n)
-    × (volumes_at c.args.dim c.args.n ≤ length c.args.work.now)
-columns c h =
-    (omega (arith, h, many_axes _ c.requires.timed_pass.0.over.axes), c.requires.timed_pass.1, omega (arith, c.requires.iterating.room))
-
 pub contacts_of-fluid-requires : goal.contacts_of-fluid-requires
 contacts_of-fluid-requires c =
     let below : c.args.i < fluid_size (scene_of c.args.scene.now) = omega (arith, c.requires.timed_pass.0.over.size, c.requires.timed_pass.1) in
@@ -39,16 +32,16 @@ owner_of-owner-requires c =
 pub fluid_pressure_sum-part-requires : goal.fluid_pressure_sum-part-requires
 fluid_pressure_sum-part-requires c =
     let below : c.args.i < fluid_size (scene_of c.args.scene.now) = omega (arith, c.requires.timed_pass.0.over.size, c.requires.timed_pass.1) in
-    let fluid : let b = c.args.scene.now in ContactsAre b Fluid (particle (scene_of b) c.args.i) c.contacts_of-fluid.result = contacts_are c.requires.timed_pass.0.over.indexed _ (below) c.contacts_of-fluid.ensures in
+    let fluid : let b = c.args.scene.now in ContactsAre b Fluid (particle (scene_of b) c.args.i) c.contacts_of-fluid.result = contacts_are c.requires.timed_pass.0.over.indexed _ below c.contacts_of-fluid.ensures in
     let p = c.requires in
-    record { pass_over = (p.timed_pass.0.over, p.iterating); contacts_ready = list_ready p.timed_pass.0.over.axes (fluid) }
+    record { pass_over = (p.timed_pass.0.over, p.iterating); contacts_ready = list_ready p.timed_pass.0.over.axes fluid }
 
 pub boundary_pressure_sum-sum-requires : goal.boundary_pressure_sum-sum-requires
 boundary_pressure_sum-sum-requires c =
     let below : c.args.i < fluid_size (scene_of c.args.scene.now) = omega (arith, c.requires.timed_pass.0.over.size, c.requires.timed_pass.1) in
-    let boundary : let b = c.args.scene.now in ContactsAre b Boundary (particle (scene_of b) c.args.i) c.contacts_of-boundary.result = contacts_are c.requires.timed_pass.0.over.indexed _ (below) c.contacts_of-boundary.ensures in
+    let boundary : let b = c.args.scene.now in ContactsAre b Boundary (particle (scene_of b) c.args.i) c.contacts_of-boundary.result = contacts_are c.requires.timed_pass.0.over.indexed _ below c.contacts_of-boundary.ensures in
     let p = c.requires in
-    record { pass_over = (p.timed_pass.0.over, p.iterating); contacts_ready = list_ready p.timed_pass.0.over.axes (boundary) }
+    record { pass_over = (p.timed_pass.0.over, p.iterating); contacts_ready = list_ready p.timed_pass.0.over.axes boundary }
 
 pub criterion-requires : goal.criterion-requires
 criterion-requires c =
@@ -56,20 +49,21 @@ criterion-requires c =
 
 pub in_column-requires : goal.in_column-requires
 in_column-requires c =
-    columns c (omega (arith, c.aii_column.ensures))
+    let p = c.requires in
+    (omega (arith, c.aii_column.ensures, many_axes _ p.timed_pass.0.over.axes), p.timed_pass.1, omega (arith, p.iterating.room))
 
 pub in_column-requires-2 : goal.in_column-requires-2
 in_column-requires-2 c =
-    columns c
-    (omega (arith, c.predicted_column.ensures))
+    let p = c.requires in
+    (omega (arith, c.predicted_column.ensures, many_axes _ p.timed_pass.0.over.axes), p.timed_pass.1, omega (arith, p.iterating.room))
 
 pub returns : goal.returns
 returns c =
     let below : c.args.i < fluid_size (scene_of c.args.scene.now) = omega (arith, c.requires.timed_pass.0.over.size, c.requires.timed_pass.1) in
-    let boundary : let b = c.args.scene.now in ContactsAre b Boundary (particle (scene_of b) c.args.i) c.contacts_of-boundary.result = contacts_are c.requires.timed_pass.0.over.indexed _ (below) c.contacts_of-boundary.ensures in
-    let fluid : let b = c.args.scene.now in ContactsAre b Fluid (particle (scene_of b) c.args.i) c.contacts_of-fluid.result = contacts_are c.requires.timed_pass.0.over.indexed _ (below) c.contacts_of-fluid.ensures in
+    let boundary : let b = c.args.scene.now in ContactsAre b Boundary (particle (scene_of b) c.args.i) c.contacts_of-boundary.result = contacts_are c.requires.timed_pass.0.over.indexed _ below c.contacts_of-boundary.ensures in
+    let fluid : let b = c.args.scene.now in ContactsAre b Fluid (particle (scene_of b) c.args.i) c.contacts_of-fluid.result = contacts_are c.requires.timed_pass.0.over.indexed _ below c.contacts_of-fluid.ensures in
     let p = c.requires in
-    next_made _ p.timed_pass.0.over.axes p.timed_pass.0.over.size p.iterating _ p.timed_pass.1 (fluid) (boundary) _ p.timed_pass.0.dt_is
+    next_made _ p.timed_pass.0.over.axes p.timed_pass.0.over.size p.iterating _ p.timed_pass.1 fluid boundary _ p.timed_pass.0.dt_is
     c.owner_of-owner.result c.owner_of-owner.ensures
     c.fluid_pressure_sum-part.ensures
     c.boundary_pressure_sum-sum.ensures

@@ -45,7 +45,7 @@ overflow_mul-behind c =
 pub overflow_add-behind : goal.overflow_add-behind
 overflow_add-behind c =
     let turn : let a = c.args in Turn Boundary a.scene.now a.layout.boundaries.heads c.loop-m.m = boundary_turn c.requires.indexed.1 _ c.loop-m-test.true in
-    let run : BoundaryRun c.args.scene.now c.loop-m.first c.particles-count.result c.keeps.result = turn_run c.requires.indexed.1 (turn) c.loop-m.invariant.start c.particles-count.ensures.0 c.keeps.ensures.0 in
+    let run : BoundaryRun c.args.scene.now c.loop-m.first c.particles-count.result c.keeps.result = turn_run c.requires.indexed.1 turn c.loop-m.invariant.start c.particles-count.ensures.0 c.keeps.ensures.0 in
     let w = c.work_width.ensures.1 in
     omega (
       arith,
@@ -60,13 +60,13 @@ pub put_volumes-requires : goal.put_volumes-requires
 put_volumes-requires c =
     let behind-is : let a = c.args in c.work_width.result * a.n ≡ volumes_at a.dim a.n = rw c.work_width.ensures.0 in
     let turn : let a = c.args in Turn Boundary a.scene.now a.layout.boundaries.heads c.loop-m.m = boundary_turn c.requires.indexed.1 _ c.loop-m-test.true in
-    let run : BoundaryRun c.args.scene.now c.loop-m.first c.particles-count.result c.keeps.result = turn_run c.requires.indexed.1 (turn) c.loop-m.invariant.start c.particles-count.ensures.0 c.keeps.ensures.0 in
+    let run : BoundaryRun c.args.scene.now c.loop-m.first c.particles-count.result c.keeps.result = turn_run c.requires.indexed.1 turn c.loop-m.invariant.start c.particles-count.ensures.0 c.keeps.ensures.0 in
     record { indexed = c.requires.indexed.0; boundary_run = (run, omega (arith, behind-is, c.requires.n_value.1, run.within, c.loop-m.invariant.long)) }
 
 pub overflow_add-first : goal.overflow_add-first
 overflow_add-first c =
     let turn : let a = c.args in Turn Boundary a.scene.now a.layout.boundaries.heads c.loop-m.m = boundary_turn c.requires.indexed.1 _ c.loop-m-test.true in
-    let run : BoundaryRun c.args.scene.now c.loop-m.first c.particles-count.result c.keeps.result = turn_run c.requires.indexed.1 (turn) c.loop-m.invariant.start c.particles-count.ensures.0 c.keeps.ensures.0 in
+    let run : BoundaryRun c.args.scene.now c.loop-m.first c.particles-count.result c.keeps.result = turn_run c.requires.indexed.1 turn c.loop-m.invariant.start c.particles-count.ensures.0 c.keeps.ensures.0 in
     omega (arith, run.within, c.requires.indexed.0.few_boundary)
 
 pub overflow_add-m : goal.overflow_add-m

@@ -27,16 +27,16 @@ pub weight_sum-denominator-requires : goal.weight_sum-denominator-requires
 weight_sum-denominator-requires c =
     let count-is : let a = c.args in c.boundary_count-count.result ≡ boundary_count_offset (axes_of a.scene.now) a.keeps = c.boundary_count-count.ensures.0 ∙ ap (λ (d : ℕ). boundary_count_offset d c.args.keeps) c.axes.ensures.0 in
     λ j l.
-    weights_here c.requires.1 (count-is) c.byte-n.ensures.0 l
+    weights_here c.requires.1 count-is c.byte-n.ensures.0 l
 
 pub returns-then-is_zero : goal.returns-then-is_zero
 returns-then-is_zero c =
     let count-is : let a = c.args in c.boundary_count-count.result ≡ boundary_count_offset (axes_of a.scene.now) a.keeps = c.boundary_count-count.ensures.0 ∙ ap (λ (d : ℕ). boundary_count_offset d c.args.keeps) c.axes.ensures.0 in
-    volume_zero _ _ _ (count-is) c.byte-n.ensures.0 c.weight_sum-denominator.ensures
+    volume_zero _ _ _ count-is c.byte-n.ensures.0 c.weight_sum-denominator.ensures
     (sym c.if-is_zero.true ∙ c.is_zero.ensures)
 
 pub returns-else-is_zero : goal.returns-else-is_zero
 returns-else-is_zero c =
     let count-is : let a = c.args in c.boundary_count-count.result ≡ boundary_count_offset (axes_of a.scene.now) a.keeps = c.boundary_count-count.ensures.0 ∙ ap (λ (d : ℕ). boundary_count_offset d c.args.keeps) c.axes.ensures.0 in
-    volume_inverse _ _ _ (count-is) c.byte-n.ensures.0 c.weight_sum-denominator.ensures
+    volume_inverse _ _ _ count-is c.byte-n.ensures.0 c.weight_sum-denominator.ensures
     (sym c.if-is_zero.false ∙ c.is_zero.ensures)

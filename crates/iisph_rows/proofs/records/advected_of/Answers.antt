@@ -16,17 +16,17 @@ pub overflow_add-at : goal.overflow_add-at
 overflow_add-at c =
     let here : let a = c.args in FluidParticleOk a.scene.now (record { head = (location_of Fluid a.scene.now a.i).head; at = c.record_of-at.result }) a.i = record_here c.requires.0.timed.over c.requires.1 c.record_of-at.ensures in
     let p = c.requires.0.timed.over in
-    omega (arith, velocity_within p.axes (here) c.vector_width.ensures.0)
+    omega (arith, velocity_within p.axes here c.vector_width.ensures.0)
 
 pub vector-requires : goal.vector-requires
 vector-requires c =
     let here : let a = c.args in FluidParticleOk a.scene.now (record { head = (location_of Fluid a.scene.now a.i).head; at = c.record_of-at.result }) a.i = record_here c.requires.0.timed.over c.requires.1 c.record_of-at.ensures in
     let p = c.requires.0.timed.over in
-    velocity_read p.axes (here) c.vector_width.ensures.0
+    velocity_read p.axes here c.vector_width.ensures.0
 
 pub returns : goal.returns
 returns c =
     let here : let a = c.args in FluidParticleOk a.scene.now (record { head = (location_of Fluid a.scene.now a.i).head; at = c.record_of-at.result }) a.i = record_here c.requires.0.timed.over c.requires.1 c.record_of-at.ensures in
     c.add.ensures c.args.dim
-    ∙ advected_made c.requires.0.timed.over.axes (here) c.vector_width.ensures.0 c.vector.ensures
+    ∙ advected_made c.requires.0.timed.over.axes here c.vector_width.ensures.0 c.vector.ensures
     c.velocity_change_of-change.ensures

@@ -17,13 +17,13 @@ head_of-head-requires c = let p = c.requires in head_asked p.0 p.1
 pub overflow_add-at : goal.overflow_add-at
 overflow_add-at c =
     let here : let a = c.args in FluidParticleOk a.scene.now (record { head = c.head_of-head.result; at = c.record_of-at.result }) a.i = over_here c.requires.0 c.requires.1 c.record_of-at.ensures c.head_of-head.ensures in
-    let offset : FiniteAt c.args.scene.now (c.record_of-at.result + c.volume.result) = volume_read c.requires.0.axes (here) c.volume.ensures.0 in
+    let offset : FiniteAt c.args.scene.now (c.record_of-at.result + c.volume.result) = volume_read c.requires.0.axes here c.volume.ensures.0 in
     omega (arith, offset.present)
 
 pub double-requires : goal.double-requires
 double-requires c =
     let here : let a = c.args in FluidParticleOk a.scene.now (record { head = c.head_of-head.result; at = c.record_of-at.result }) a.i = over_here c.requires.0 c.requires.1 c.record_of-at.ensures c.head_of-head.ensures in
-    let offset : FiniteAt c.args.scene.now (c.record_of-at.result + c.volume.result) = volume_read c.requires.0.axes (here) c.volume.ensures.0 in
+    let offset : FiniteAt c.args.scene.now (c.record_of-at.result + c.volume.result) = volume_read c.requires.0.axes here c.volume.ensures.0 in
     offset
 
 pub overflow_add-head : goal.overflow_add-head
@@ -39,5 +39,5 @@ double-requires-2 c =
 pub returns : goal.returns
 returns c =
     let here : let a = c.args in FluidParticleOk a.scene.now (record { head = c.head_of-head.result; at = c.record_of-at.result }) a.i = over_here c.requires.0 c.requires.1 c.record_of-at.ensures c.head_of-head.ensures in
-    mass_made c.requires.0.axes (here) c.volume.ensures.0 c.double.ensures
+    mass_made c.requires.0.axes here c.volume.ensures.0 c.double.ensures
     c.double-2.ensures

@@ -18,13 +18,13 @@ pub overflow_add-at : goal.overflow_add-at
 overflow_add-at c =
     let here : let a = c.args in FluidParticleOk a.scene.now (record { head = (location_of Fluid a.scene.now a.i).head; at = c.record_of-at.result }) a.i = record_here c.requires.0.timed.over c.requires.1 c.record_of-at.ensures in
     let p = c.requires.0.timed.over in
-    omega (arith, acceleration_within p.axes (here) c.acceleration.ensures.0)
+    omega (arith, acceleration_within p.axes here c.acceleration.ensures.0)
 
 pub vector-requires : goal.vector-requires
 vector-requires c =
     let here : let a = c.args in FluidParticleOk a.scene.now (record { head = (location_of Fluid a.scene.now a.i).head; at = c.record_of-at.result }) a.i = record_here c.requires.0.timed.over c.requires.1 c.record_of-at.ensures in
     let p = c.requires.0.timed.over in
-    acceleration_read p.axes (here) c.acceleration.ensures.0
+    acceleration_read p.axes here c.acceleration.ensures.0
 
 pub returns : goal.returns
 returns c =
@@ -34,6 +34,6 @@ returns c =
     c.add.ensures d
     ∙ ap (λ (x : Vector). coordinates d c.zero-none.result ⊞ x)
     (c.scale.ensures d ∙ ap (λ (x : Vector). x ⊡ c.args.dt) (c.add-acceleration.ensures d))
-    ∙ change_made p.timed.over.axes (here) c.acceleration.ensures.0 c.vector.ensures
+    ∙ change_made p.timed.over.axes here c.acceleration.ensures.0 c.vector.ensures
     p.gravity_is
     p.timed.dt_is (c.zero-none.ensures d (few_axes _ p.timed.over.axes))

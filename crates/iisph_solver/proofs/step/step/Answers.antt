@@ -10,7 +10,7 @@ pub step_sized-requires : goal.step_sized-requires
 step_sized-requires c =
     let bytes : Bytes c.args.scene.now = λ i. omega (arith, c.shared_slice_known-1.given i) in
     let h = c.check-found.ensures in
-    verdict_accepted _ h (bytes) c.in-Accepted.is
+    verdict_accepted _ h bytes c.in-Accepted.is
 
 pub returns-in-Refused : goal.returns-in-Refused
 returns-in-Refused c =

@@ -40,7 +40,7 @@ names-w-requires c =
     let counts-are : c.contact_counts-counts.result ≡ contact_count_offset Fluid (axes_of c.args.s.now) = c.contact_counts-counts.ensures.0 ∙ ap (contact_count_offset Fluid) c.axes-dim.ensures.0 in
     let width_is : c.contact_width-width.result ≡ contact_width (axes_of c.args.s.now) = c.contact_width-width.ensures.0 ∙ ap contact_width c.axes-dim.ensures.0 in
     let ends = rw c.in-Fluid.is at c.requires.record_within.ends in
-    (omega arith, first-within _ _ _ (counts-are) (width_is) (rw (counts-are) at c.byte-n.ensures.0) ends)
+    (omega arith, first-within _ _ _ counts-are width_is (rw counts-are at c.byte-n.ensures.0) ends)
 
 pub returns-in_default : goal.returns-in_default
 unfolding record_names_of ◌▹◌
@@ -71,8 +71,8 @@ names-requires c =
     let width_is : c.contact_width-width.result ≡ contact_width (axes_of c.args.s.now) = c.contact_width-width.ensures.0 ∙ ap contact_width c.axes-dim.ensures.0 in
     let ends = rw c.in-Fluid.is at c.requires.record_within.ends in (
       omega arith,
-      second-within _ _ (counts-are) (width_is) (rw (counts-are) at c.byte-n.ensures.0)
-          (rw (counts-are) at c.byte-n-in-Fluid.ensures.0) (middle) ends,
+      second-within _ _ counts-are width_is (rw counts-are at c.byte-n.ensures.0)
+          (rw counts-are at c.byte-n-in-Fluid.ensures.0) middle ends,
     )
 
 pub byte-n-requires-in-Boundary : goal.byte-n-requires-in-Boundary

@@ -83,13 +83,13 @@ returns-in-Fluid c =
     let counts-are : c.contact_counts-counts.result ≡ contact_count_offset Fluid (axes_of c.args.scene.now) = c.contact_counts-counts.ensures.0 ∙ ap (contact_count_offset Fluid) c.requires.indexed.1 in
     let p = c.requires in
     fluid_contacts_lem p.indexed.0 _ p.i_bound c.record_of-at.ensures c.head_of-head.ensures
-    c.double-density0.ensures (counts-are) c.byte-fluids.ensures.0 c.in-Fluid.is
+    c.double-density0.ensures counts-are c.byte-fluids.ensures.0 c.in-Fluid.is
 
 pub returns-in-Boundary : goal.returns-in-Boundary
 returns-in-Boundary c =
     let counts-are : c.contact_counts-counts.result ≡ contact_count_offset Fluid (axes_of c.args.scene.now) = c.contact_counts-counts.ensures.0 ∙ ap (contact_count_offset Fluid) c.requires.indexed.1 in
     let p = c.requires in
     boundary_contacts_lem p.indexed.0 _ p.i_bound c.record_of-at.ensures c.head_of-head.ensures
-    c.double-density0.ensures (counts-are) c.byte-fluids.ensures.0
+    c.double-density0.ensures counts-are c.byte-fluids.ensures.0
     (c.contact_width.ensures.0 ∙ ap contact_width p.indexed.1) c.byte-count.ensures.0
     c.in-Boundary.is

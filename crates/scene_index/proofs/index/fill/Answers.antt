@@ -71,6 +71,6 @@ fill_models-requires-3 c =
 pub returns : goal.returns
 returns c =
     let are : SectionsAre c.args.scene.now c.sections_of-sections.result = sections_are c.sections_of-sections.ensures in
-    all_filled c.requires.0 _ (are) c.put_starts.ensures c.fill_bases.ensures
+    all_filled c.requires.0 _ are c.put_starts.ensures c.fill_bases.ensures
     c.fill_bases-2.ensures c.fill_models.ensures c.fill_models-2.ensures
     c.fill_models-3.ensures

@@ -57,7 +57,7 @@ pub loop-m-preserved : goal.loop-m-preserved
 loop-m-preserved c =
     let turn : let a = c.args in Turn a.kind a.scene.now a.models.heads c.loop-m.m = this_turn c.requires.models_within.0 c.requires.models_within.1 _ c.loop-m-test.true in
     let count : let a = c.args in c.particles-start.result ≡ get_or (counts_of a.kind a.scene.now) c.loop-m.m 0 = c.particles-start.ensures.0 ∙ turn.count in
-    one_more_based _ _ _ _ c.loop-m.invariant turn.below (count)
+    one_more_based _ _ _ _ c.loop-m.invariant turn.below count
     c.fill_blocks.ensures
 
 pub shape_of-index : goal.shape_of-index
