@@ -55,16 +55,16 @@ pub returns-then-first-gt0 : goal.returns-then-first-gt0
 returns-then-first-gt0 c =
     let p = c.requires in
     let d = c.args.dim in
-    let taken = c.if1.true in
+    let taken = c.if-first-gt0.true in
     gather_kept d c.args.scene.now c.args.at c.args.state c.args.answers.now
     (force_kept p.pass_over.0.indexed p.force_contact.0 p.force_contact.1 c.contact_name-name.ensures taken)
     c.put_vector.ensures
     (force_offset_lem p.pass_over.0.indexed p.force_contact.0 p.force_contact.1 c.contact_name-name.ensures taken
-    c.kept-answer-width.ensures.0)
+    c.kept_answer_width.ensures.0)
     (c.add-force.ensures d)
     c.vector_at.ensures
     (c.scale.ensures d)
-    c.boundary-acceleration.ensures
+    c.boundary_acceleration-a.ensures
 
 pub returns-else-first-gt0 : goal.returns-else-first-gt0
 returns-else-first-gt0 c =

@@ -14,8 +14,8 @@ use Rattle.iisph_passes.specs.Traverse.{row_next}
 use Rattle.iisph_passes.proofs.traverse.exchange.Goals as goal
 
 -- the place in the row is within the list
-place-within : (d row : ℕ) {m slot : ℕ} → row + row_width d ≤ m → slot ≡ pressure_slot d → row + slot < m
-place-within d row h e = omega (arith, h, e)
+place_within : (d row : ℕ) {m slot : ℕ} → row + row_width d ≤ m → slot ≡ pressure_slot d → row + slot < m
+place_within d row h e = omega (arith, h, e)
 
 exchanged : (d n i : ℕ) (l : List Float) {row slot column next : ℕ} → row ≡ row_at d i → slot ≡ pressure_slot d
     → column ≡ next_pressure_slot d → next ≡ column * n + i
@@ -24,29 +24,27 @@ exchanged d n i l e q r t = rw (t, r, e, q)
 
 pub row_at-row-requires : goal.row_at-row-requires
 row_at-row-requires c =
-    let b = c.before.before in
-    omega (arith, row_within b.args.dim b.requires.1, b.requires.2)
+    omega (arith, row_within c.args.dim c.requires.1, c.requires.2)
 
 pub overflow_add-slot : goal.overflow_add-slot
 overflow_add-slot c = omega (arith, c.row_at-row.ensures.1, c.pressure_slot.ensures)
 
 pub column_at-next-requires : goal.column_at-next-requires
 column_at-next-requires c =
-    let b = c.before.before.before.before.before.before in
-    (omega (arith, c.next_pressure_column.ensures), b.requires.1, b.requires.2)
+    (omega (arith, c.next_pressure_column.ensures), c.requires.1, c.requires.2)
 
 pub bounds-work-next : goal.bounds-work-next
 bounds-work-next c = c.column_at-next.ensures.1
 
 pub bounds-work-slot : goal.bounds-work-slot
 bounds-work-slot c =
-    place-within c.before.before.before.before.before.before.before.before.args.dim _
-    c.row_at.ensures.1
-    c.pressure-slot.ensures
+    place_within c.args.dim _
+    c.row_at-row.ensures.1
+    c.pressure_slot.ensures
 
 pub returns : goal.returns
 returns c =
-    let a = c.before.before.before.before.before.before.before.before.args in
-    exchanged a.dim a.n a.i a.work.now c.row_at.ensures.0
-    c.pressure-slot.ensures
+    let a = c.args in
+    exchanged a.dim a.n a.i a.work.now c.row_at-row.ensures.0
+    c.pressure_slot.ensures
     c.next_pressure_column.ensures c.column_at-next.ensures.0

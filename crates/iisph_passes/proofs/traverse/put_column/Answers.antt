@@ -11,4 +11,4 @@ bounds-work-at c = c.column_at-at.ensures.1
 
 pub returns : goal.returns
 returns c =
-    let a = c.before.before.before.args in ap (λ (k : ℕ). set a.work.now k a.x) c.column_at-at.ensures.0
+    let a = c.args in ap (λ (k : ℕ). set a.work.now k a.x) c.column_at-at.ensures.0

@@ -26,7 +26,7 @@ put_in_row-requires c =
 
 pub coefficients_of-c-requires : goal.coefficients_of-c-requires
 coefficients_of-c-requires c =
-    record { timed_pass = (c.requires.driven_pass.0.timed, c.requires.driven_pass.1); coefficients_ready = coefficients_ready _ _ _ _ c.requires.room.1 c.enum-told2.given.1 }
+    record { timed_pass = (c.requires.driven_pass.0.timed, c.requires.driven_pass.1); coefficients_ready = coefficients_ready _ _ _ _ c.requires.room.1 c.in-Coefficients.is }
 
 pub put_coefficients-requires : goal.put_coefficients-requires
 put_coefficients-requires c =
@@ -47,7 +47,7 @@ put_column-requires c =
 
 pub dij_pjl_of-d-requires : goal.dij_pjl_of-d-requires
 dij_pjl_of-d-requires c =
-    record { timed_pass = (c.requires.driven_pass.0.timed, c.requires.driven_pass.1); dij_ready = dij_ready _ _ _ _ c.requires.room.1 c.enum-told4.given.1 }
+    record { timed_pass = (c.requires.driven_pass.0.timed, c.requires.driven_pass.1); dij_ready = dij_ready _ _ _ _ c.requires.room.1 c.in-DijPjl.is }
 
 pub row_at-row-requires : goal.row_at-row-requires
 row_at-row-requires c =
@@ -68,7 +68,7 @@ put_vector-requires c =
 
 pub next_pressure_of-next-requires : goal.next_pressure_of-next-requires
 next_pressure_of-next-requires c =
-    record { timed_pass = (c.requires.driven_pass.0.timed, c.requires.driven_pass.1); iterating = next_ready _ _ _ _ c.requires.room.1 c.enum-told5.given.1 }
+    record { timed_pass = (c.requires.driven_pass.0.timed, c.requires.driven_pass.1); iterating = next_ready _ _ _ _ c.requires.room.1 c.in-NextPressures.is }
 
 pub put_column-requires-in-NextPressures : goal.put_column-requires-in-NextPressures
 put_column-requires-in-NextPressures c =
@@ -141,7 +141,7 @@ pub returns-in-Coefficients : goal.returns-in-Coefficients
 returns-in-Coefficients c =
     let a = c.args in
     coefficients-stored (scene_of a.scene.now) a.dim a.n a.i a.work.now
-    c.enum-told2.given.1
+    c.in-Coefficients.is
     c.coefficients_of-c.ensures
     c.first_pressure-pressure.ensures c.put_coefficients.ensures
 
@@ -149,7 +149,7 @@ pub returns-in-Quotients : goal.returns-in-Quotients
 returns-in-Quotients c =
     let a = c.args in
     quotient-stored (scene_of a.scene.now) a.dim a.n a.i a.work.now
-    c.requires.driven_pass.0.timed.over.size c.enum-told3.given.1
+    c.requires.driven_pass.0.timed.over.size c.in-Quotients.is
     c.quotient_of-q.ensures
     c.quotient_column.ensures c.put_column.ensures
 
@@ -159,8 +159,8 @@ returns-in-DijPjl c =
     let a = c.args in
     dij-stored (scene_of a.scene.now) a.dim a.n a.i a.work.now
     c.requires.driven_pass.0.timed.over.size
-    c.enum-told4.given.1
-    c.dij-pjl-of.ensures
+    c.in-DijPjl.is
+    c.dij_pjl_of-d.ensures
     (coordinates_sized a.dim _ axes.most) c.row_at-row.ensures.0
     c.put_vector.ensures
 
@@ -168,7 +168,7 @@ pub returns-in-NextPressures : goal.returns-in-NextPressures
 returns-in-NextPressures c =
     let a = c.args in
     next_stored (scene_of a.scene.now) a.dim a.n a.i a.work.now
-    c.requires.driven_pass.0.timed.over.size c.enum-told5.given.1
+    c.requires.driven_pass.0.timed.over.size c.in-NextPressures.is
     c.next_pressure_of-next.ensures
     c.quotient_column-in-NextPressures.ensures c.next_pressure_column.ensures c.put_column-in-NextPressures.ensures
     c.put_column-in-NextPressures-2.ensures
@@ -184,6 +184,6 @@ pub returns-in-Shares : goal.returns-in-Shares
 returns-in-Shares c =
     let a = c.args in
     share_stored (scene_of a.scene.now) a.dim a.n a.i a.work.now
-    c.requires.driven_pass.0.timed.over.size c.enum-told7.given.1
+    c.requires.driven_pass.0.timed.over.size c.in-Shares.is
     c.share_of-share.ensures
     c.quotient_column-in-Shares.ensures c.put_column-in-Shares.ensures
