@@ -22,11 +22,11 @@ use borrow.Author.Rules.{rules}
 use Rattle.iisph_preparation.proofs.zero_refusal.Goals as goal
 
 -- what the searches found, in terms of the arguments
-abbrev First : tie.Start → ℕ → ℕ → Type 0
-First b slot i = At i ≡ found_below b.args.n (first_zero (column b.args.n slot b.args.work.now))
+abbrev First : ℕ → List Float → ℕ → ℕ → Type 0
+First n work slot i = At i ≡ found_below n (first_zero (column n slot work))
 
-abbrev None : tie.Start → ℕ → Type 0
-None b slot = Nothing ≡ found_below b.args.n (first_zero (column b.args.n slot b.args.work.now))
+abbrev None : ℕ → List Float → ℕ → Type 0
+None n work slot = Nothing ≡ found_below n (first_zero (column n slot work))
 
 in-slot : (n : ℕ) (l : List Float) {k slot : ℕ} → k ≡ slot
     → found_below n (first_zero (column n k l)) ≡ found_below n (first_zero (column n slot l))
@@ -51,13 +51,13 @@ first_zero-predicted-requires c = (
 pub record_of-requires : goal.record_of-requires
 record_of-requires c =
     let density-found : let a = c.args in c.first_zero-density.result ≡ found_below a.n (first_zero (column a.n (density_slot a.dim) a.work.now)) = let a = c.args in c.first_zero-density.ensures ∙ in-slot a.n a.work.now c.density_column.ensures in
-    let found : First c (density_slot c.args.dim) c.in-At.i = sym c.in-At.is ∙ density-found in
+    let found : First c.args.n c.args.work.now (density_slot c.args.dim) c.in-At.i = sym c.in-At.is ∙ density-found in
     record_asked c.requires.0 (found_lt _ _ found)
 
 pub record_of-requires-in-At-predicted : goal.record_of-requires-in-At-predicted
 record_of-requires-in-At-predicted c =
     let predicted-found : let a = c.args in c.first_zero-predicted.result ≡ found_below a.n (first_zero (column a.n (predicted_slot a.dim) a.work.now)) = let a = c.args in c.first_zero-predicted.ensures ∙ in-slot a.n a.work.now c.predicted_column.ensures in
-    let found-2 : First c (predicted_slot c.args.dim) c.in-At-predicted.j = sym c.in-At-predicted.is ∙ predicted-found in
+    let found-2 : First c.args.n c.args.work.now (predicted_slot c.args.dim) c.in-At-predicted.j = sym c.in-At-predicted.is ∙ predicted-found in
     record_asked c.requires.0
     (found_lt _ _ found-2)
 
@@ -65,7 +65,7 @@ pub returns-in-At : goal.returns-in-At
 unfolding readiness
 returns-in-At c =
     let density-found : let a = c.args in c.first_zero-density.result ≡ found_below a.n (first_zero (column a.n (density_slot a.dim) a.work.now)) = let a = c.args in c.first_zero-density.ensures ∙ in-slot a.n a.work.now c.density_column.ensures in
-    let found : First c (density_slot c.args.dim) c.in-At.i = sym c.in-At.is ∙ density-found in
+    let found : First c.args.n c.args.work.now (density_slot c.args.dim) c.in-At.i = sym c.in-At.is ∙ density-found in
     let a = c.args in
     λ report.
     sym (ap readiness
@@ -77,9 +77,9 @@ pub returns-in-At-predicted : goal.returns-in-At-predicted
 unfolding readiness
 returns-in-At-predicted c =
     let predicted-found : let a = c.args in c.first_zero-predicted.result ≡ found_below a.n (first_zero (column a.n (predicted_slot a.dim) a.work.now)) = let a = c.args in c.first_zero-predicted.ensures ∙ in-slot a.n a.work.now c.predicted_column.ensures in
-    let found-2 : First c (predicted_slot c.args.dim) c.in-At-predicted.j = sym c.in-At-predicted.is ∙ predicted-found in
+    let found-2 : First c.args.n c.args.work.now (predicted_slot c.args.dim) c.in-At-predicted.j = sym c.in-At-predicted.is ∙ predicted-found in
     let density-found : let a = c.args in c.first_zero-density.result ≡ found_below a.n (first_zero (column a.n (density_slot a.dim) a.work.now)) = let a = c.args in c.first_zero-density.ensures ∙ in-slot a.n a.work.now c.density_column.ensures in
-    let nothing : None c (density_slot c.args.dim) = sym c.in-Nothing.is ∙ density-found in
+    let nothing : None c.args.n c.args.work.now (density_slot c.args.dim) = sym c.in-Nothing.is ∙ density-found in
     let a = c.args in
     λ report.
     sym (ap readiness
@@ -94,9 +94,9 @@ pub returns-in-Nothing-predicted : goal.returns-in-Nothing-predicted
 unfolding readiness
 returns-in-Nothing-predicted c =
     let density-found : let a = c.args in c.first_zero-density.result ≡ found_below a.n (first_zero (column a.n (density_slot a.dim) a.work.now)) = let a = c.args in c.first_zero-density.ensures ∙ in-slot a.n a.work.now c.density_column.ensures in
-    let nothing : None c (density_slot c.args.dim) = sym c.in-Nothing.is ∙ density-found in
+    let nothing : None c.args.n c.args.work.now (density_slot c.args.dim) = sym c.in-Nothing.is ∙ density-found in
     let predicted-found : let a = c.args in c.first_zero-predicted.result ≡ found_below a.n (first_zero (column a.n (predicted_slot a.dim) a.work.now)) = let a = c.args in c.first_zero-predicted.ensures ∙ in-slot a.n a.work.now c.predicted_column.ensures in
-    let nothing-2 : None c (predicted_slot c.args.dim) = sym c.in-Nothing-predicted.is ∙ predicted-found in
+    let nothing-2 : None c.args.n c.args.work.now (predicted_slot c.args.dim) = sym c.in-Nothing-predicted.is ∙ predicted-found in
     let a = c.args in
     λ report.
     sym (ap readiness

@@ -43,12 +43,12 @@ max_error-requires c =
     let p = c.requires in
     let q = iterated_ready c.args.scene.now p.driven_pass.timed.over.axes p.driven_pass.timed.over.size _ p.passed.1
     c.traverse.ensures c.traverse-2.ensures
-    c.traverse-3.ensures c.traverse4.ensures in record { passed = p.passed.0; axes = (axes-are c.args.scene.now p.driven_pass.timed.over.axes, p.driven_pass.timed.over.size, omega (arith, q.room)) }
+    c.traverse-3.ensures c.traverse-4.ensures in record { passed = p.passed.0; axes = (axes-are c.args.scene.now p.driven_pass.timed.over.axes, p.driven_pass.timed.over.size, omega (arith, q.room)) }
 
 pub returns : goal.returns
 returns c =
     let p = c.requires in
     iterates_made c.args.scene.now p.driven_pass.timed.over.axes p.driven_pass.timed.over.size _ p.passed.1
     c.traverse.ensures c.traverse-2.ensures
-    c.traverse-3.ensures c.traverse4.ensures
+    c.traverse-3.ensures c.traverse-4.ensures
     c.max_error.ensures

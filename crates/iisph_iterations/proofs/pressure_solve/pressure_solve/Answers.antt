@@ -10,13 +10,13 @@ use Rattle.iisph_iterations.proofs.pressure_solve.pressure_solve.Goals as goal
 pub loop-i-init : goal.loop-i-init
 loop-i-init c =
     let p = c.requires in
-    none_solved c.args.scene.now p.driven_pass.0.timed.over.axes p.driven_pass.0.timed.over.size _ p.passed.1
-    p.passed.0.1 _
+    none_solved c.args.scene.now p.driven_pass.0.timed.over.axes p.driven_pass.0.timed.over.size _ p.work_value
+    p.passed.1 _
 
 pub iterate-error-requires : goal.iterate-error-requires
 iterate-error-requires c =
     let p = c.requires in
-    record { driven_pass = p.driven_pass.0; passed = (p.passed.0.0, c.loop-i.invariant.ready) }
+    record { driven_pass = p.driven_pass.0; passed = (p.passed.0, c.loop-i.invariant.ready) }
 
 pub overflow_add-i : goal.overflow_add-i
 overflow_add-i c =
