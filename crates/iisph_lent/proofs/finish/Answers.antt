@@ -17,19 +17,18 @@ use Rattle.iisph_lent.proofs.finish.Goals as goal
 pub pressure_solve-solved-requires : goal.pressure_solve-solved-requires
 pressure_solve-solved-requires c =
     let p = c.requires in
-    let first = p.pass_over.0 in (
-      (driven p.pass_over.0 p.pass_over.1, p.pass_over.1.stopping_is),
-      (
-        (p.passed.0.0, first_ready p.passed.0.0 first.axes (axes-are _ first.axes) first.size _ p.passed.1),
-        first_pressures_lem p.passed.0.0 first.axes (axes-are _ first.axes) first.size _ p.passed.1,
-      ),
-    )
+    let first = p.pass_over.0 in
+    record {
+      driven_pass = (driven p.pass_over.0 p.pass_over.1, p.pass_over.1.stopping_is);
+      passed = (p.passed.0, first_ready p.passed.0 first.axes (axes-are _ first.axes) first.size _ p.iteration_ready);
+      work_value = first_pressures_lem p.passed.0 first.axes (axes-are _ first.axes) first.size _ p.iteration_ready;
+    }
 
 pub traverse-requires : goal.traverse-requires
 unfolding Ready
 traverse-requires c =
     let p = c.requires in record { driven_pass = driven p.pass_over.0 p.pass_over.1; room = (
-        (solved_ready p.passed.0.0 p.pass_over.0.axes (axes-are _ p.pass_over.0.axes) p.pass_over.0.size _ p.passed.1
+        (solved_ready p.passed.0 p.pass_over.0.axes (axes-are _ p.pass_over.0.axes) p.pass_over.0.size _ p.iteration_ready
             c.pressure_solve-solved.ensures).room,
         tt,
       ) }
@@ -38,19 +37,19 @@ pub update_velocities_and_positions-requires : goal.update_velocities_and_positi
 update_velocities_and_positions-requires c =
     let p = c.requires in record { driven_pass = (
         driven p.pass_over.0 p.pass_over.1,
-        shared p.passed.0.0 p.pass_over.0.axes (axes-are _ p.pass_over.0.axes) p.pass_over.0.size _ p.passed.1
+        shared p.passed.0 p.pass_over.0.axes (axes-are _ p.pass_over.0.axes) p.pass_over.0.size _ p.iteration_ready
             c.pressure_solve-solved.ensures
             c.traverse.ensures,
-      ); n_in_bounds = answers_room _ p.pass_over.0.indexed.bytes p.pass_over.0.axes p.pass_over.0.size p.passed.0.1.enough_answers }
+      ); n_in_bounds = answers_room _ p.pass_over.0.indexed.bytes p.pass_over.0.axes p.pass_over.0.size p.passed.1.enough_answers }
 
 pub boundary_answers-requires : goal.boundary_answers-requires
 boundary_answers-requires c =
     let p = c.requires in
-    let q = shared p.passed.0.0 p.pass_over.0.axes (axes-are _ p.pass_over.0.axes) p.pass_over.0.size _ p.passed.1
-    c.pressure_solve-solved.ensures c.traverse.ensures in record { pass_over = (p.pass_over.0, q.iteration); passed = (p.passed.0.0, rw (c.update-velocities-and-positions.ensures, length-stored nan) p.passed.0.1.enough_answers) }
+    let q = shared p.passed.0 p.pass_over.0.axes (axes-are _ p.pass_over.0.axes) p.pass_over.0.size _ p.iteration_ready
+    c.pressure_solve-solved.ensures c.traverse.ensures in record { pass_over = (p.pass_over.0, q.iteration); passed = (p.passed.0, rw (c.update_velocities_and_positions.ensures, length-stored nan) p.passed.1.enough_answers) }
 
 pub lengths_of-needed-requires : goal.lengths_of-needed-requires
-lengths_of-needed-requires c = c.requires.passed.0.0
+lengths_of-needed-requires c = c.requires.passed.0
 
 pub clear-requires : goal.clear-requires
 clear-requires c =
@@ -59,8 +58,8 @@ clear-requires c =
     omega (
       arith,
       needed,
-      p.passed.0.1.enough_work,
-      length_shared p.passed.0.0 p.pass_over.0.axes (axes-are _ p.pass_over.0.axes) p.pass_over.0.size _ p.passed.1
+      p.passed.1.enough_work,
+      length_shared p.passed.0 p.pass_over.0.axes (axes-are _ p.pass_over.0.axes) p.pass_over.0.size _ p.iteration_ready
           c.pressure_solve-solved.ensures c.traverse.ensures,
     )
 
@@ -68,9 +67,9 @@ pub returns : goal.returns
 returns c =
     let needed : c.lengths_of-needed.result.work ≡ work_needed (scene_of c.args.scene.now) = ap (λ n. n.work) c.lengths_of-needed.ensures in
     let p = c.requires in
-    finished p.passed.0.0 p.pass_over.0.axes (axes-are _ p.pass_over.0.axes) p.pass_over.0.size _ p.passed.1
+    finished p.passed.0 p.pass_over.0.axes (axes-are _ p.pass_over.0.axes) p.pass_over.0.size _ p.iteration_ready
     c.pressure_solve-solved.ensures c.traverse.ensures
-    p.passed.0.1.enough_answers
+    p.passed.1.enough_answers
     c.update_velocities_and_positions.ensures
     c.boundary_answers.ensures
     needed

@@ -21,21 +21,25 @@ unfolding clears_work
 returns-then-lists_short c =
     let scene = c.args.scene.now in
     let answers = c.args.answers.now in
-    let work = c.args.work.now in (
-      early_lent scene answers work _ refl
-          (short_steps scene answers work c.requires.walk (sym c.lists_short.ensures ∙ c.if-lists_short.true)),
-      λ _. refl,
-    )
+    let work = c.args.work.now in
+    record {
+      steps_lent =
+        early_lent scene answers work _ refl
+        (short_steps scene answers work c.requires.walk (sym c.lists_short.ensures ∙ c.if-lists_short.true));
+      index_after = λ _. refl;
+    }
 
 pub returns-then-index-needed : goal.returns-then-index-needed
 returns-then-index-needed c =
     let long : let a = c.args in LongEnough a.scene.now (length a.answers.now) (length a.work.now) = long_lists _ _ _ (sym c.lists_short.ensures ∙ c.if-lists_short.false) in
-    let e = c.index_needed-needed.ensures in (
-      rw e
-          (short_lent c.args.scene.now c.args.answers.now c.args.work.now _ c.requires.walk
-          long (omega (arith, c.if-index-needed.true, e))),
-      λ _. refl,
-    )
+    let e = c.index_needed-needed.ensures in
+    record {
+      steps_lent =
+        rw e
+        (short_lent c.args.scene.now c.args.answers.now c.args.work.now _ c.requires.walk
+        long (omega (arith, c.if-index-needed.true, e)));
+      index_after = λ _. refl;
+    }
 
 pub step_long-requires : goal.step_long-requires
 step_long-requires c =
@@ -49,7 +53,8 @@ returns c =
     let room : let a = c.args in index_needed a.scene.now ≤ length a.index.now = omega (arith, c.if-index-needed.false, c.index_needed-needed.ensures) in
     let scene = c.args.scene.now in
     let answers = c.args.answers.now in
-    let work = c.args.work.now in (
-      steps_lent scene answers work _ room c.step_long.ensures,
-      λ q. absurd (unequal (sym (used scene (length answers) (length work) c.requires.walk long _ room) ∙ q)),
-    )
+    let work = c.args.work.now in
+    record {
+      steps_lent = steps_lent scene answers work _ room c.step_long.ensures;
+      index_after = λ q. absurd (unequal (sym (used scene (length answers) (length work) c.requires.walk long _ room) ∙ q));
+    }

@@ -10,7 +10,7 @@ use Rattle.iisph_lent.proofs.step_lent.Goals as goal
 
 pub step_accepted-requires : goal.step_accepted-requires
 step_accepted-requires c =
-    let bytes : Bytes c.args.scene.now = λ i. omega (arith, c.shared_slice_known-1.given i) in
+    let bytes : Bytes c.args.scene.now = λ i. omega (arith, c.type_inv.scene i) in
     verdict_accepted _ c.check-found.ensures bytes c.in-Accepted.is
 
 pub returns-in-Refused : goal.returns-in-Refused
@@ -20,4 +20,7 @@ returns-in-Refused c =
     let scene = a.scene.now in
     let answers = a.answers.now in
     let work = a.work.now in
-    (early_lent scene answers work _ (refused_clears scene q) (refused_steps_lem scene answers work q), λ _. refl)
+    record {
+      steps_lent = early_lent scene answers work _ (refused_clears scene q) (refused_steps_lem scene answers work q);
+      index_after = λ _. refl;
+    }

@@ -22,22 +22,22 @@ pub finish-requires : goal.finish-requires
 finish-requires c =
     let passed = c.requires.passed.0 in
     let size = fluid-total passed in
-    let is = c.axes.ensures.0 in
-    let ready = c.enum_told.given.1 in
-    let list = c.prepare.ensures.list in
-    let long = prepared_long c.args.scene.now c.args.work.now ready list in (
-      (record { indexed = c.prepare.ensures.indexed; axes = is; size = size }, c.step_header-header.ensures),
-      (
-        (
-          passed,
-          record {
-            enough_answers = c.requires.passed.1.enough_answers;
-            enough_work = omega (arith, long, c.requires.passed.1.enough_work);
-          },
-        ),
-        prepared_ready c.args.scene.now is size c.args.work.now c.requires.passed.1.enough_work ready list,
-      ),
-    )
+    let is = c.axes-dim.ensures.0 in
+    let ready = c.in-Ready.is in
+    let list = c.prepare-readiness.ensures.list in
+    let long = prepared_long c.args.scene.now c.args.work.now ready list in
+    record {
+      pass_over =
+        (record { indexed = c.prepare-readiness.ensures.indexed; axes = is; size = size }, c.step_header-header.ensures);
+      passed = (
+        passed,
+        record {
+          enough_answers = c.requires.passed.1.enough_answers;
+          enough_work = omega (arith, long, c.requires.passed.1.enough_work);
+        },
+      );
+      iteration_ready = prepared_ready c.args.scene.now is size c.args.work.now c.requires.passed.1.enough_work ready list;
+    }
 
 pub returns-in-Refused : goal.returns-in-Refused
 returns-in-Refused c =
@@ -52,6 +52,6 @@ returns-in-Ready c =
     let b = c.args.scene.now in
     let w = c.args.work.now in
     done_steps b c.args.answers.now w c.requires.passed.0.walk c.requires.passed.1
-    (sym c.enum_told.given.1 ∙ c.prepare.ensures.answer)
-    (c.prepare.ensures.list ∙ ap (λ (x : Readiness). work_prepared b x w) c.enum_told.given.1)
+    (sym c.in-Ready.is ∙ c.prepare-readiness.ensures.answer)
+    (c.prepare-readiness.ensures.list ∙ ap (λ (x : Readiness). work_prepared b x w) c.in-Ready.is)
     c.finish.ensures
