@@ -1,0 +1,12 @@
+-- `iisph_kept::step_keeping` meets its contract: the lists are what the step leaves, and the clock is moved on where
+-- the answer is done and else as it was. Assumes nothing.
+use Rattle.std.proofs.Common.{sym, ◌∙◌}
+use Rattle.iisph_kept.proofs.Clocks.{moved, kept}
+use Rattle.iisph_kept.proofs.step_keeping.Goals as goal
+
+pub returns-then-is_done : goal.returns-then-is_done
+returns-then-is_done c =
+    (c.step-answer.ensures, c.advance_in_place.ensures ∙ moved _ _ (sym c.if-is_done.true ∙ c.is_done.ensures))
+
+pub returns-else-is_done : goal.returns-else-is_done
+returns-else-is_done c = (c.step-answer.ensures, kept _ _ (sym c.if-is_done.false ∙ c.is_done.ensures))
