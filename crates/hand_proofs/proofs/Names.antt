@@ -6,7 +6,7 @@ pub use lib.Dec.{T as Holds}
 pub use lib.Ieee.{Float, binary64}
 pub use lib.ListN.{length}
 pub use seplogic.Ra.Ura.{Ura}
-pub use seplogic.Ra.TreeShare.{full_share}
+pub use base.Fraction.{full_share}
 pub use mir.Syntax.{named, erased, w64, ty_int, ty_float}
 pub use mir.Val.{Val, WT, has_ty, vunit, vint, vptr}
 pub use base.Logic.{SProp, ent, sep, emp, id⊢}
@@ -14,13 +14,13 @@ pub use base.Fml.{GName, Lft, Share, Fml, ftrue, flft, fat, fobs, fres, fbor}
 pub use prog.Memory.{Memory}
 pub use prog.Routine.{Routine}
 pub use prog.Wp.{Heap, Env, Calls, Loops, WpFn, Tables}
-pub use ghost.Atoms.{Atoms, sem}
+pub use ghost.Atoms.{Atoms}
+pub use types.Logic.{Logic, sem}
 pub use contract.Monad.{Fun, fact_i}
 pub use contract.Lifetimes.{Lfts}
-pub use contract.Running.{given_of, tables}
+pub use contract.Running.{tables}
 unfoldable pub use contract.Running.{tables_of}
 pub use types.Kit.{
-  Given,
   Item,
   ‵,
   raw,
@@ -98,8 +98,8 @@ pub use denote.Floats.{passes, float_Makes, float_Lawful}
 pub use denote.Builtin.{u8, usize, f64}
 pub use denote.Ref.{Bor, MutBor, NamedLft, MutRef, shr_vals, mut_vals, mut_Tells}
 pub use denote.Signature.{plain, shr_slice_of, named_lft}
-pub use denote.Slice.{slice_val, ShrSlice, shr_slice_vals, mut_slice_vals, shr_slice_Tells, shr_slice_Lawful, shr_slice_copy}
-pub use denote.Slice.{MutSlice, mut_slice_Tells}
+pub use denote.Slice.{slice_val, ShrSlice, shr_slice_vals, mut_slice_vals, shr_slice_Tells, shr_slice_Lawful}
+pub use denote.Slice.{shr_slice_copy, MutSlice, mut_slice_Tells}
 pub use denote.Steps.{only, opens, closes, owned, peeks, nothing}
 pub use denote.Struct.Steps.{spelt}
 pub use denote.Triple.Statement.{Contract, Triple}

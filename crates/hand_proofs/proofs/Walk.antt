@@ -13,8 +13,8 @@ use mathlib.Core.Path.{◌≡◌, subst}
 use Prim.Native.Nat.{ℕ}
 use mathlib.Core.List.{List, [], ◌∷◌}
 use seplogic.Ra.Ura.{Ura}
-use seplogic.Ra.TreeShare.{full_share}
-use mir.Syntax.{Name, Ty, Place, Opd as Operand, Body, Local, local, Fn, seq, call}
+use base.Fraction.{full_share}
+use mir.Syntax.{Callee, Ty, Place, Opd as Operand, Body, Local, local, Fn, seq, call}
 use mir.Val.{Val}
 use base.Logic.{SProp, ent, sep, emp, via, id⊢, comm∗, assoc', emp∗, mono_l, mono_r}
 use base.Fml.{fat, fdies}
@@ -63,7 +63,7 @@ module _ {M : Type 1} {𝓤 : Ura M} {𝓛 : Logic 𝓤} {K : Type 0} {Γ : List
       let result = type_at T.signature.result y.0.0 in
       use1 𝓛 (later
       (some (λ (r : Res T.signature y.0.0).
-      (raw (alive 𝓛 T.signature y.0.0 y.0.1) ⊛ ‵ (result.own r (v ∷ []))) ⊛ raw
+      (raw (alive 𝓛 T.signature y.0.0 y.0.1) ⊛ ‵ (result.own_val r (v ∷ []))) ⊛ raw
       (ensured 𝓛 T c y.0.0 y.0.3 y.1 r))))
       (id⊢ 𝓤 _) $ await t soaks $ pick t (λ r.
       split t $ move t (1 ∷ []) $
@@ -74,7 +74,7 @@ module _ {M : Type 1} {𝓤 : Ura M} {𝓛 : Logic 𝓤} {K : Type 0} {Γ : List
       split t $ move t (1 ∷ []) $ peeks t result (Is result) (shows 𝓛 result) r (v ∷ []) (λ is. k r ws e is))))
 
 module _ {M : Type 1} {𝓤 : Ura M} {𝓛 : Logic 𝓤} {K : Type 0} {Γ : List (Item 𝓤)}
-    {E : Env 𝓤 𝓛.H} {C : Calls 𝓤 𝓛.H} {f : Name}
+    {E : Env 𝓤 𝓛.H} {C : Calls 𝓤 𝓛.H} {f : Callee}
     {xs : List Operand}
     {Λ : Loops 𝓤 𝓛.H} {q : Post 𝓤 𝓛.H} {d : Place} where
   open 𝓛 use {H}
