@@ -1,7 +1,6 @@
 -- `iisph_validation::validate_long` meets its contract: the rows are prepared, and the list is cleared, by the
 -- preparation where it refuses. Assumes nothing.
 use mathlib.Core.Path.{sym, ap, ◌∙◌}
-use native.Mathlib.Omega.{arith}
 use Rattle.iisph_preparation.specs.Prepare.{work_prepared}
 use Rattle.iisph_preparation.specs.declared.Readiness.{Readiness}
 use Rattle.iisph_validation.proofs.Validated.{zero_validates, ready_validates}

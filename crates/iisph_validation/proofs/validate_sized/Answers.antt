@@ -1,6 +1,6 @@
 -- `iisph_validation::validate_sized` meets its contract: a list that is too short is 8; else the index of the size that
 -- is chosen is long enough. Assumes nothing.
-use mathlib.Core.Path.{◌≡◌, ap}
+use mathlib.Core.Path.{ap}
 use native.Mathlib.Omega.{arith}
 use Rattle.iisph_validation.proofs.Validated.{short_validates}
 use Rattle.iisph_validation.proofs.validate_sized.Goals as goal
