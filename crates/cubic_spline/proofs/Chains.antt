@@ -56,7 +56,8 @@ module _ {u w : ℕ} (S : Scale binary64 u w) where
         under : (a b : ℕ) → a ≤ 2 ^ 55 * w → a - b ≤ 2 ^ 55 * w
         under a b h = omega arith
 
-    pub near_weight_lem : n * 2 ≤ u → Within u w false (near_weight q) (u * u * u - 6 * (n * n * u - n * n * n)) (u * u) 52 1
+    pub near_weight_lem : n * 2 ≤ u
+        → Within u w false (near_weight q) (u * u * u - 6 * (n * n * u - n * n * n)) (u * u) 52 1
     near_weight_lem N = go (drop N)
       where
         less : (p : ℕ) → u ≡ 2 ^ 57 * w → u - p ≤ 2 ^ 57 * w
