@@ -8,17 +8,24 @@ use borrow.Author.Rules.{rules}
 use Rattle.iisph_c.proofs.iisph_step_lent.Goals as goal
 
 pub returns-then-numbers-lt-NUMBERS : goal.returns-then-numbers-lt-NUMBERS
-returns-then-numbers-lt-NUMBERS c = (numbers_short_lent _ _ _ _ _ _ (omega (arith, c.if-numbers-lt-NUMBERS.true)), λ _. refl)
+returns-then-numbers-lt-NUMBERS c =
+    record {
+      lent_to = numbers_short_lent _ _ _ _ _ _ (omega (arith, c.if-numbers-lt-NUMBERS.true));
+      lent_index = λ _. refl;
+    }
 
 pub returns-then-counts-lt-COUNTS : goal.returns-then-counts-lt-COUNTS
-returns-then-counts-lt-COUNTS c = (
-  counts_short_lent _ _ _ _ _ _ (omega (arith, c.if-numbers-lt-NUMBERS.false)) (omega (arith, c.if-counts-lt-COUNTS.true)),
-  λ _. refl,
-)
+returns-then-counts-lt-COUNTS c =
+    record {
+      lent_to =
+        counts_short_lent _ _ _ _ _ _ (omega (arith, c.if-numbers-lt-NUMBERS.false))
+        (omega (arith, c.if-counts-lt-COUNTS.true));
+      lent_index = λ _. refl;
+    }
 
 pub write_answer-requires : goal.write_answer-requires
 write_answer-requires c =
-    (omega (arith, c.if-numbers-lt-NUMBERS.left), omega (arith, c.if-counts-lt-COUNTS.left))
+    (omega (arith, c.if-numbers-lt-NUMBERS.false), omega (arith, c.if-counts-lt-COUNTS.false))
 
 pub write_index-requires : goal.write_index-requires
 write_index-requires c =
@@ -26,18 +33,24 @@ write_index-requires c =
 
 pub returns-in-Answered : goal.returns-in-Answered
 returns-in-Answered c =
-    let told = c.write_answer.ensures in (
-      answered_to _ _ _ _ _ _ (omega (arith, c.if-numbers-lt-NUMBERS.left)) (omega (arith, c.if-counts-lt-COUNTS.left))
-          c.step_lent.ensures.steps_lent c.in-Answered.is told.0 told.1 told.2,
-      index_after _ c.args.answers.now c.args.work.now _ _ _
-          (omega (arith, c.if-numbers-lt-NUMBERS.left)) (omega (arith, c.if-counts-lt-COUNTS.left)) c.step_lent.ensures.index_after,
-    )
+    let told = c.write_answer.ensures in
+    record {
+      lent_to =
+        answered_to _ _ _ _ _ _ (omega (arith, c.if-numbers-lt-NUMBERS.false)) (omega (arith, c.if-counts-lt-COUNTS.false))
+        c.step_lent.ensures.steps_lent c.in-Answered.is told.0 told.1 told.2;
+      lent_index =
+        index_after _ c.args.answers.now c.args.work.now _ _ _
+        (omega (arith, c.if-numbers-lt-NUMBERS.false)) (omega (arith, c.if-counts-lt-COUNTS.false)) c.step_lent.ensures.index_after;
+    }
 
 pub returns-in-ShortIndex : goal.returns-in-ShortIndex
 returns-in-ShortIndex c =
-    let told = c.write_index.ensures in (
-      short_to _ _ _ _ _ _ (omega (arith, c.if-numbers-lt-NUMBERS.left)) (omega (arith, c.if-counts-lt-COUNTS.left))
-          c.step_lent.ensures.steps_lent c.in-ShortIndex.is told.0 told.1,
-      index_after _ c.args.answers.now c.args.work.now _ _ _
-          (omega (arith, c.if-numbers-lt-NUMBERS.left)) (omega (arith, c.if-counts-lt-COUNTS.left)) c.step_lent.ensures.index_after,
-    )
+    let told = c.write_index.ensures in
+    record {
+      lent_to =
+        short_to _ _ _ _ _ _ (omega (arith, c.if-numbers-lt-NUMBERS.false)) (omega (arith, c.if-counts-lt-COUNTS.false))
+        c.step_lent.ensures.steps_lent c.in-ShortIndex.is told.0 told.1;
+      lent_index =
+        index_after _ c.args.answers.now c.args.work.now _ _ _
+        (omega (arith, c.if-numbers-lt-NUMBERS.false)) (omega (arith, c.if-counts-lt-COUNTS.false)) c.step_lent.ensures.index_after;
+    }

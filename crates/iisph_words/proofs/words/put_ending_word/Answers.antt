@@ -18,7 +18,7 @@ put_word-requires-in-1 c =
 pub put_word-requires-in_default : goal.put_word-requires-in_default
 unfolding ending_word choose
 put_word-requires-in_default c =
-    rw (ne_eqb _ _ c.in_default.rest.0.1, ne_eqb _ _ c.in_default.rest.1) at c.requires
+    rw (ne_eqb _ _ c.in_default.in_default-own.rest.0.1, ne_eqb _ _ c.in_default.in_default-own.rest.1) at c.requires
 
 pub returns-in-0 : goal.returns-in-0
 unfolding ending_word choose
@@ -33,4 +33,4 @@ returns-in-1 c =
 pub returns-in_default : goal.returns-in_default
 unfolding ending_word choose
 returns-in_default c =
-    rw (ne_eqb _ _ c.in_default.rest.0.1, ne_eqb _ _ c.in_default.rest.1) c.put_word-in_default.ensures
+    rw (ne_eqb _ _ c.in_default.in_default-own.rest.0.1, ne_eqb _ _ c.in_default.in_default-own.rest.1) c.put_word-in_default.ensures
