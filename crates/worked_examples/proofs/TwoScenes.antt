@@ -52,6 +52,7 @@ module _ {A : Type 0} (p : A → Bool) where
 
   every_in : (xs : List A) → every xs ≡ true → (x : A) → Memᴰ x xs → p x ≡ true
   unfolding every
+  every_in [] q x m = elim m [ ]
   every_in (y ∷ xs) q x (Memᴰ.head e) = ap p e ∙ (both (p y) (every xs) q).0
   every_in (y ∷ xs) q x (Memᴰ.tail m) = every_in xs (both (p y) (every xs) q).1 x m
 

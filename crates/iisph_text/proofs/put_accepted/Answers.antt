@@ -8,17 +8,17 @@ pub put_done-requires : goal.put_done-requires
 put_done-requires c =
     (
       c.requires.passed,
-      done_ready c.requires.passed.bytes c.step-short.ensures c.answer.given.1
+      done_ready c.requires.passed.bytes c.step_short-answer.ensures c.in-Done.is
           c.requires.scene_len_bound.0
           c.requires.scene_len_bound.1,
     )
 
 pub returns-in-Done : goal.returns-in-Done
 returns-in-Done c =
-    done_run c.requires.passed.bytes c.step-short.ensures c.answer.given.1 c.requires.scene_len_bound.0 c.requires.scene_len_bound.1
+    done_run c.requires.passed.bytes c.step_short-answer.ensures c.in-Done.is c.requires.scene_len_bound.0 c.requires.scene_len_bound.1
     c.put_done.ensures
 
 pub returns-in-Refused : goal.returns-in-Refused
 returns-in-Refused c =
     refused_run c.requires.scene_len_bound.1 c.requires.scene_len_bound.0 c.step_short-answer.ensures c.in-Refused.is
-    c.Put-refused.ensures
+    c.put_refused.ensures

@@ -18,4 +18,4 @@ returns-in-Refused c =
     refused_run c.requires.1 c.requires.0
     (refused_steps_lem c.args.scene.now c.args.answers.now c.args.work.now q)
     refl
-    c.Put-refused.ensures
+    c.put_refused.ensures

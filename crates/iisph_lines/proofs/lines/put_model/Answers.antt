@@ -27,10 +27,9 @@ overflow_add-from c =
 
 pub loop-i-preserved : goal.loop-i-preserved
 loop-i-preserved c =
-    let at-loop = c in
-    let l = at-loop.loop in (
+    let l = c.loop-i in (
       omega arith,
-      rw add-one (omega (arith, mul-suc at-loop.before.before.before.args.w l.i, l.invariant.1)),
+      rw add-one (omega (arith, mul-suc c.args.w l.i, l.invariant.1)),
       line_written _ _ _ _ _ l.i l.invariant.1 l.invariant.2 c.put_particle-next.ensures,
     )
 

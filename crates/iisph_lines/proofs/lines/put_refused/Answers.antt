@@ -10,12 +10,12 @@ use Rattle.iisph_lines.proofs.lines.put_refused.Goals as goal
 pub put_pair-next-requires : goal.put_pair-next-requires
 put_pair-next-requires c =
     let n = c.number in
-    omega (arith, pair_most n.result c.place.result n.type-inv c.place.type-inv)
+    omega (arith, pair_most n.result c.place.result n.type_inv c.place.type_inv)
 
 pub put_byte-requires : goal.put_byte-requires
 put_byte-requires c =
     let n = c.number in
-    omega (arith, pair_most n.result c.place.result n.type-inv c.place.type-inv)
+    omega (arith, pair_most n.result c.place.result n.type_inv c.place.type_inv)
 
 pub returns : goal.returns
 unfolding refused_line
