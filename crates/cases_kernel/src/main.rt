@@ -86,7 +86,8 @@ fn print_both(dimension: Dimension, weight: &[u8], slope: &[u8], r: f64, h: f64)
 
 // Prints a line for an advance of the clock, and hands back the clock after it.
 fn print_clock(step: f64, remaining: f64) -> Clock
-    ensures { result ≡ advanced (record { total_step_size = step; dt = bits 0; inv_dt = bits 0; remaining_time = remaining }) }
+    ensures { result ≡ advanced
+        (record { total_step_size = step; dt = bits 0; inv_dt = bits 0; remaining_time = remaining }) }
 {
     let after = timestep_manager::advance(Clock {
         total_step_size: step,

@@ -49,7 +49,8 @@ module _ (old : List Float) {n : ℕ} where
   moved true (Refused r) e l = absurd (omega (arith, e, l))
   moved false a e l = absurd (omega (arith, e, l))
 
-  stayed : (h : Bool) (a : StepAnswer) → n ≡ choose h (step_code a) too_short → too_short ≤ n → clock_needed ≤ length old
+  stayed : (h : Bool) (a : StepAnswer) → n ≡ choose h (step_code a) too_short → too_short ≤ n →
+      clock_needed ≤ length old
       → old ≡ choose h (clock_list_after a old) old
   unfolding choose step_code clock_list_after clock_after
   stayed true (Done r) e l room = absurd (omega (arith, e, l, ending_few r.ending))
@@ -63,7 +64,14 @@ module _ (b : List ℕ) (clock answers work numbers : List Float) (counts : List
   clock_short h =
       let f = lt-leb clock_needed (length clock) h in
       record {
-        steps = record { result = rw f; answers_then = rw f; work_then = rw f; numbers_then = rw f; counts_then = rw f };
+        steps = record {
+          result = rw f;
+          answers_then = rw f;
+          work_then = rw f;
+          numbers_then = rw f;
+          counts_then =
+              rw f;
+        };
         clock_then = rw f;
       }
 

@@ -21,8 +21,10 @@ validate_counts (Refused r) old = refused_counts r old
 pub record ValidatesTo (b : List ℕ) (work : List Float) (counts : List ℕ) (r : ℕ) (work' : List Float)
     (counts' : List ℕ) : Type 0 where
   pub result : r
-      ≡ choose (counts_room counts) (validate_code (step_answer b (answers_needed (scene_of b)) (length work))) too_short
-  pub work_then : work' ≡ choose (counts_room counts) (work_after b (answers_needed (scene_of b)) (length work) work) work
+      ≡ choose (counts_room counts) (validate_code (step_answer b (answers_needed (scene_of b)) (length work)))
+      too_short
+  pub work_then : work' ≡ choose (counts_room counts) (work_after b (answers_needed (scene_of b)) (length work) work)
+      work
   pub counts_then : counts'
       ≡ choose (counts_room counts) (validate_counts (step_answer b (answers_needed (scene_of b)) (length work)) counts)
       counts

@@ -25,7 +25,8 @@ pub fn mass(
     at: usize,
 ) -> f64
     requires pass_over { PassOver scene.now index.now dim n }
-    requires contact_ready { ContactReady kind dim scene.now at × CoefficientsReady (scene_of scene.now) dim n work.now }
+    requires contact_ready { ContactReady kind dim scene.now at
+        × CoefficientsReady (scene_of scene.now) dim n work.now }
     ensures { let b = scene.now in
         result ≡ mass_of kind (scene_of b) density0 (contact_at dim (starts_of kind b) b at) }
 {
@@ -48,7 +49,8 @@ pub fn velocity(
     at: usize,
 ) -> Vec3
     requires pass_over { PassOver scene.now index.now dim n }
-    requires contact_ready { ContactReady kind dim scene.now at × CoefficientsReady (scene_of scene.now) dim n work.now }
+    requires contact_ready { ContactReady kind dim scene.now at
+        × CoefficientsReady (scene_of scene.now) dim n work.now }
     ensures { let b = scene.now in
         coordinates dim result ≡ velocity_of kind (scene_of b) (contact_at dim (starts_of kind b) b at) }
 {

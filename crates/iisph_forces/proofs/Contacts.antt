@@ -22,7 +22,8 @@ use Rattle.lists.proofs.Lists.{length-table, table_at, fold_same, fold_keeps, fo
 use Rattle.lists.proofs.Numbering.{length_starts}
 use Rattle.math.specs.Vector.{Vector, ◌⊞◌, ◌⊡◌}
 use Rattle.scene_check.proofs.Accepted.{RecordNamed, accepted}
-use Rattle.scene_format.specs.Format.{axes_of, contact_width, model_number, model_at, number_at, counts_of, keeps_of, starts_of}
+use Rattle.scene_format.specs.Format.{axes_of, contact_width, model_number, model_at, number_at, counts_of, keeps_of}
+use Rattle.scene_format.specs.Format.{starts_of}
 use Rattle.scene_format.specs.Format.{location_of}
 use Rattle.scene_format.specs.Scene.{Scene, Contact, fluid_size, boundary_size, size_of, particle, boundary}
 use Rattle.scene_format.specs.SceneOf.{target_at, contact_at, scene_of}
@@ -92,7 +93,8 @@ module _ {b index : List ℕ} (ix : Indexed b index) {d at : ℕ} (c : ForceCont
         kept = λ h. absurd (omega arith);
         offset = λ h. absurd (omega arith);
         none =
-            λ _. ap (λ (j : ℕ). (boundary (scene_of b) j).keeps_forces) target_is ∙ same (number_at b at) (omega arith) ∙ e;
+            λ _. ap (λ (j : ℕ). (boundary (scene_of b) j).keeps_forces) target_is
+            ∙ same (number_at b at) (omega arith) ∙ e;
       }
 
   first_is : ForceAt d b at (force_start d b (model_at b at))
@@ -168,7 +170,8 @@ length-gathered d s gain l c =
     (λ _. length-sets l k (vector_from d l k ⊞ gain c))
     (λ _. refl)
 
-pub length-gathered_from : (d : ℕ) (s : Scene) (ps l : List Float) (i : ℕ) → length (gathered_from d s ps l i) ≡ length l
+pub length-gathered_from : (d : ℕ) (s : Scene) (ps l : List Float) (i : ℕ) → length (gathered_from d s ps l i)
+    ≡ length l
 unfolding gathered_from
 length-gathered_from d s ps l i =
     fold_keeps (λ (x : List Float). length x ≡ length l) (gathered d s (force_gain s ps i)) l

@@ -26,7 +26,8 @@ use Rattle.scene_check.proofs.Records.{fluid-particle_ok}
 use Rattle.scene_format.specs.Bytes.{vector_at}
 use Rattle.scene_format.specs.Format.{axes_of}
 use Rattle.scene_format.specs.Scene.{Scene, Contact, fluid_size, boundary_size, size_of, particle, boundary}
-use Rattle.scene_format.specs.SceneOf.{contact_at, contact_list, fluid_particle_at, force_at, boundary_particle_at, scene_of}
+use Rattle.scene_format.specs.SceneOf.{contact_at, contact_list, fluid_particle_at, force_at, boundary_particle_at}
+use Rattle.scene_format.specs.SceneOf.{scene_of}
 use Rattle.scene_format.specs.declared.Kind.TheVariants.{Boundary}
 use Rattle.scene_format.specs.declared.Walk.TheVariants.{At}
 use Rattle.scene_layout.proofs.Locations.{boundary_at}

@@ -28,7 +28,8 @@ use Rattle.scene_check.specs.Walk.{checked}
 use Rattle.scene_check.proofs.Accepted.{accepted_within}
 use Rattle.scene_check.proofs.Records.{boundary-particle_ok}
 use Rattle.scene_format.specs.Bytes.{AllFinite, vector_at}
-use Rattle.scene_format.specs.Format.{axes_of, nameable_models, model_number, particles_at, keeps_at, force_offset, counts_of}
+use Rattle.scene_format.specs.Format.{axes_of, nameable_models, model_number, particles_at, keeps_at, force_offset}
+use Rattle.scene_format.specs.Format.{counts_of}
 use Rattle.scene_format.specs.Format.{location_of}
 use Rattle.scene_format.specs.Scene.{Scene, fluid_size, boundary_size, boundary}
 use Rattle.scene_format.specs.SceneOf.{force_at, boundary_particle_at, scene_of}
@@ -89,7 +90,8 @@ module _ {b index : List ℕ} (ix : Indexed b index) (j : ℕ) (h : j < boundary
         ∙ sym (ap (λ p. p.force) (boundary_at b j h)))
 
 -- the volume stands behind rows and columns
-pub volume_read : (s : Scene) (d n : ℕ) {work : List Float} → Behind d n (volumes s) work → (j : ℕ) → j < boundary_size s
+pub volume_read : (s : Scene) (d n : ℕ) {work : List Float} → Behind d n (volumes s) work → (j : ℕ) →
+    j < boundary_size s
     → {k : ℕ} → k ≡ volumes_at d n + j → element_at work k ≡ boundary_volume (boundary s j)
 volume_read s d n {work} q j h e = ap (element_at work) e ∙ volume_behind s d n q j h
 
@@ -219,7 +221,7 @@ module _ (d : ℕ) (b fs : List ℕ) (l : List Float) where
           with_length d s (λ j. (boundary s j).force) (initial_fits b q axes) j (omega (arith, run.within))) in
           let rows = flatten (table first initial) in
           let at : to ≡ fluid_answer_width d * fluid_size s + length rows = omega (arith, here.next, long) in
-          let done-stored : x ≡ sets l (fluid_answer_width d * fluid_size s) rows = rw here.start here.stored in
+          let done_stored : x ≡ sets l (fluid_answer_width d * fluid_size s) rows = rw here.start here.stored in
           record {
             start = rw (add-one w) (omega (arith, here.start, more));
             long = ap length ye ∙ length-sets x to (flatten (table count (λ p. initial (first + p)))) ∙ here.long;
@@ -228,7 +230,7 @@ module _ (d : ℕ) (b fs : List ℕ) (l : List Float) where
                 one_more_in_front fs (force_start d b) (model_number Boundary b) here.starts h (force_starts_lem k fe);
             stored =
                 ye
-                ∙ rw (add-one w, more, ← here.start, rows-add first count initial, done-stored, at)
+                ∙ rw (add-one w, more, ← here.start, rows-add first count initial, done_stored, at)
                 (sym
                 (sets-append rows (flatten (table count (λ p. initial (first + p)))) l
                 (fluid_answer_width d * fluid_size s)));

@@ -56,7 +56,8 @@ module _ (d : ℕ) (s : Scene) where
   width_not_kept j e = rw e
 
   -- the widths of p particles from number j on
-  pub offset_in : (j p : ℕ) → answer_offset d s (j + p) ≡ answer_offset d s j + sum (table p (λ q. width_at d s (j + q)))
+  pub offset_in : (j p : ℕ) → answer_offset d s (j + p) ≡ answer_offset d s j + sum
+      (table p (λ q. width_at d s (j + q)))
   offset_in j zero = rw (add-zero j, none_summed (λ q. width_at d s (j + q))) (sym (add-zero _))
   offset_in j (suc p) =
       rw add-suc (omega (arith, offset_next (j + p), offset_in j p, sum_next p (λ q. width_at d s (j + q))))
@@ -94,7 +95,8 @@ module _ (b : List ℕ) {d : ℕ} (axes : d ≡ axes_of b) where
 -- ---- boundary w, by the lists of its kind
 
 pub indexed_run : {b index : List ℕ} → Indexed b index → (w : ℕ) → w < model_number Boundary b
-    → BoundaryRun b (get_or (starts_of Boundary b) w 0) (get_or (counts_of Boundary b) w 0) (get_or (keeps_of Boundary b) w 0)
+    → BoundaryRun b (get_or (starts_of Boundary b) w 0) (get_or (counts_of Boundary b) w 0)
+    (get_or (keeps_of Boundary b) w 0)
 indexed_run {b} ix w h =
     let passed : Passed b (layout_of b) = record { bytes = ix.bytes; walk = ix.accepted; layout_is = refl } in
     rw (start_before Boundary b w h) (boundary_run passed w h)

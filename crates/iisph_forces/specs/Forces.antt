@@ -32,7 +32,8 @@ answer_offset d s j = fluid_answer_width d * fluid_size s + sum (table j (width_
 -- where the force of boundary w's first particle stands, or 0 if the boundary keeps no forces
 unfoldable pub force_start : ℕ → List ℕ → ℕ → ℕ
 force_start d b w =
-    choose (eqb (get_or (keeps_of Boundary b) w 0) 1) (answer_offset d (scene_of b) (get_or (starts_of Boundary b) w 0) + 1) 0
+    choose (eqb (get_or (keeps_of Boundary b) w 0) 1)
+    (answer_offset d (scene_of b) (get_or (starts_of Boundary b) w 0) + 1) 0
 
 unfoldable pub force_starts : ℕ → List ℕ → List ℕ
 force_starts d b = table (model_number Boundary b) (force_start d b)

@@ -94,7 +94,8 @@ pub fn gather_all(
     answers: &mut [f64],
 )
     requires pass_over { PassOver scene.now index.now dim n × Iterating (scene_of scene.now) dim n work.now }
-    requires forces_known { ForcesKnown dim scene.now forces.now × (answers_needed (scene_of scene.now) ≤ length answers.old) }
+    requires forces_known { ForcesKnown dim scene.now forces.now
+        × (answers_needed (scene_of scene.now) ≤ length answers.old) }
     ensures { let s = scene_of scene.now in
         answers.new ≡ gathered_all dim s (pressures_in dim n work.now) n answers.old }
 {

@@ -9,7 +9,8 @@ use Rattle.math.specs.Real.{+0}
 use Rattle.math.specs.Vector.{Axes, coordinates}
 use Rattle.math.specs.declared.Vec3.{Vec3}
 use Rattle.scene_format.specs.Bytes.{byte_at, AllFinite, double_at, vector_at}
-use Rattle.scene_format.specs.Format.{axes_of, min_pressure_iter_offset, max_pressure_iter_offset, total_step_size_offset}
+use Rattle.scene_format.specs.Format.{axes_of, min_pressure_iter_offset, max_pressure_iter_offset}
+use Rattle.scene_format.specs.Format.{total_step_size_offset}
 use Rattle.scene_format.specs.Format.{remaining_time_offset, max_density_error_offset, gravity_offset}
 use Rattle.scene_format.specs.SceneOf.{header_of, scene_of}
 use Rattle.scene_format.proofs.Forms.{axes_of_lem}

@@ -1,7 +1,9 @@
 -- The error of an iteration, fluid by fluid: taking in one fluid more leaves the same for the fluids that remain, so a
 -- loop that ends with none has the whole. By cases on the fluid's count and on whether particles come before. Assumes
 -- nothing.
-use Rattle.std.proofs.Common.{◌≡◌, ℕ, zero, suc, ◌+◌, ◌-◌, ◌*◌, ◌<◌, ◌≤◌, Bool, true, false, eqb, List, [], ◌∷◌, length, get_or, take, drop, pos, sym, refl, ap, ◌∙◌, map-id, le_of_suc-le-suc, not-suc-le-zero, add-zero, zero-add, add-one, arith, drop-cons, drop-drop}
+use Rattle.std.proofs.Common.{◌≡◌, ℕ, zero, suc, ◌+◌, ◌-◌, ◌*◌, ◌<◌, ◌≤◌, Bool, true, false, eqb, List, [], ◌∷◌, length}
+use Rattle.std.proofs.Common.{get_or, take, drop, pos, sym, refl, ap, ◌∙◌, map-id, le_of_suc-le-suc, not-suc-le-zero}
+use Rattle.std.proofs.Common.{add-zero, zero-add, add-one, arith, drop-cons, drop-drop}
 use lib.Dec.{eqb-suc-zero}
 use lib.Ieee
 use lib.Ieee.{Float, nan, binary64}

@@ -1,7 +1,8 @@
 -- One iteration's passes yield the rules' iteration: quotients, dij_pjl, next pressures with their error terms, then
 -- the exchange. Each pass finds what it needs where an earlier one stored it, and keeps what later ones need. Assumes
 -- nothing.
-use Rattle.std.proofs.Common.{◌≡◌, ℕ, zero, suc, ◌+◌, ◌<◌, ◌≤◌, List, [], ◌∷◌, map, length, drop, sym, refl, ap, ◌∙◌, inl, inr, add-zero, arith}
+use Rattle.std.proofs.Common.{◌≡◌, ℕ, zero, suc, ◌+◌, ◌<◌, ◌≤◌, List, [], ◌∷◌, map, length, drop, sym, refl, ap, ◌∙◌}
+use Rattle.std.proofs.Common.{inl, inr, add-zero, arith}
 use lib.Ieee.{Float}
 use Rattle.math.specs.Real.{+0}
 use Rattle.math.specs.Vector.{Axes, Vector}
@@ -11,7 +12,8 @@ use Rattle.scene_format.specs.Format.{axes_of}
 use Rattle.scene_format.specs.Scene.{fluid_size, boundary_size, particle}
 use Rattle.scene_format.specs.SceneOf.{scene_of}
 use Rattle.iisph_rules.specs.Coefficients.{coefficients}
-use Rattle.iisph_rules.specs.Iteration.{pressure, dij_pjl, dij_pjls, NextPressure, next_pressure, next_pressures, averages}
+use Rattle.iisph_rules.specs.Iteration.{pressure, dij_pjl, dij_pjls, NextPressure, next_pressure, next_pressures}
+use Rattle.iisph_rules.specs.Iteration.{averages}
 use Rattle.iisph_rules.specs.Iteration.{error_of, iteration}
 use Rattle.iisph_rules.specs.declared.IterationError.{IterationError}
 use Rattle.iisph_pressures.specs.IterationRows.{pressures_in, dijs_in, row_quotient, quotient_row}
@@ -110,7 +112,8 @@ module _ (b : List ℕ) {d n : ℕ} (is : d ≡ axes_of b) (size : n ≡ fluid_s
           let q : pressures_in d (fluid_size (scene_of b)) x ≡ pressures_in d n l = rw (← size) quotients_pressures in
           dijs_are b (pressures_in d n l) is size
           (rows_same
-          (λ i h. ap (λ (ps : List Float). dij_pjl (scene_of b) (coefficients (scene_of b)) ps (particle (scene_of b) i)) q)
+          (λ i h. ap (λ (ps : List Float). dij_pjl (scene_of b) (coefficients (scene_of b)) ps
+          (particle (scene_of b) i)) q)
           (rw f (pass_rows b is axes size DijPjl x (omega (arith, quotients_iteration.room)))))
 
       -- ---- next pressures
@@ -130,7 +133,8 @@ module _ (b : List ℕ) {d n : ℕ} (is : d ≡ axes_of b) (size : n ≡ fluid_s
         next_rows =
             let s = scene_of b in
             let p : pressures_in d (fluid_size s) y ≡ pressures_in d n l = rw (← size) dij_pressures in
-            let v : dijs_in d (fluid_size s) y ≡ dij_pjls s (coefficients s) (pressures_in d n l) = rw (← size) dijs_there
+            let v : dijs_in d (fluid_size s) y ≡ dij_pjls s (coefficients s) (pressures_in d n l) =
+            rw (← size) dijs_there
             in
             rows_same
             (λ i h.
@@ -162,7 +166,8 @@ module _ (b : List ℕ) {d n : ℕ} (is : d ≡ axes_of b) (size : n ≡ fluid_s
           iterated-iteration : IterationReady (scene_of b) pressures d n w
           unfolding slot_of
           iterated-iteration =
-              rw k (iteration_kept b is axes size n (omega arith) z Exchange (pressures_in d n l) pressures (omega arith)
+              rw k (iteration_kept b is axes size n (omega arith) z Exchange (pressures_in d n l) pressures
+              (omega arith)
               (inl (omega arith)) (rw k at exchanged) next_iteration)
 
           pub iterated_pressures : pressures_in d n w ≡ pressures

@@ -1,6 +1,7 @@
 -- The loop of `pressure_solve`: what remains from iteration i on is the whole, since each turn either goes on as the
 -- rule does or stops where it stops. By one unfolding of the rule at a turn. Assumes nothing.
-use Rattle.std.proofs.Common.{◌≡◌, ℕ, zero, suc, ◌+◌, ◌-◌, ◌<◌, ◌≤◌, Bool, true, false, ◌&&◌, List, length, sym, refl, ap, ◌∙◌, add-one, arith, le-leb}
+use Rattle.std.proofs.Common.{◌≡◌, ℕ, zero, suc, ◌+◌, ◌-◌, ◌<◌, ◌≤◌, Bool, true, false, ◌&&◌, List, length, sym, refl}
+use Rattle.std.proofs.Common.{ap, ◌∙◌, add-one, arith, le-leb}
 use lib.Ieee
 use lib.Ieee.{Float}
 use borrow.Author.Tests.{lt-leb}
@@ -10,7 +11,8 @@ use Rattle.scene_format.specs.Scene.{Scene, fluid_size}
 use Rattle.scene_format.specs.SceneOf.{scene_of}
 use Rattle.iisph_rules.specs.Coefficients.{coefficients}
 use Rattle.iisph_rules.specs.Iteration.{iteration}
-use Rattle.iisph_rules.specs.Step.{first_pressures, is_last, settled_with, ran_out_with, Solution, iterate_from, solution}
+use Rattle.iisph_rules.specs.Step.{first_pressures, is_last, settled_with, ran_out_with, Solution, iterate_from}
+use Rattle.iisph_rules.specs.Step.{solution}
 use Rattle.iisph_rules.specs.declared.Ending.{Ending}
 use Rattle.iisph_rules.specs.declared.Ending.TheVariants.{Unswept}
 use Rattle.iisph_rules.specs.declared.IterationError.{IterationError}
@@ -107,7 +109,8 @@ module _ (b : List ℕ) {d n : ℕ} (is : d ≡ axes_of b) (size : n ≡ fluid_s
     unfolding ending_after
     next_solved q =
         let on =
-        goes_on (scene_of b) ((scene_of b).header.max_pressure_iter - suc i) i (pressures_in d n work) (ending_after i error)
+        goes_on (scene_of b) ((scene_of b).header.max_pressure_iter - suc i) i (pressures_in d n work)
+        (ending_after i error)
         (rw error_is at q) in
         let p : pressures_in d n after ≡ (iteration (scene_of b) (coefficients (scene_of b))
         (pressures_in d n work)).pressures =
@@ -132,7 +135,8 @@ module _ (b : List ℕ) {d n : ℕ} (is : d ≡ axes_of b) (size : n ≡ fluid_s
         } =
         sym here.rest
         ∙ rw left
-        (stops (scene_of b) ((scene_of b).header.max_pressure_iter - suc i) i (pressures_in d n work) (ending_after i error)
+        (stops (scene_of b) ((scene_of b).header.max_pressure_iter - suc i) i (pressures_in d n work)
+        (ending_after i error)
         (rw error_is at q)) in
         record {
           iterations = ie ∙ add-one i ∙ sym (ap (λ (w : Solution). w.iterations) at_once);

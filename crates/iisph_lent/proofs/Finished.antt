@@ -200,7 +200,8 @@ module _ {b : List ℕ} {layout : Layout} (passed : Passed b layout) {d n : ℕ}
       length_shared = ap length e ∙ length-kept b is axes size Shares n (omega arith) x
           ∙ ap length solves.list ∙ length-times b is (solution (scene_of b)).iterations work
 
-      pub finished : {answers a c w : List Float} {k : ℕ} {report : Report} → answers_needed (scene_of b) ≤ length answers
+      pub finished : {answers a c w : List Float} {k : ℕ} {report : Report} → answers_needed (scene_of b) ≤ length
+          answers
           → a ≡ stored (fluid_answer_width d) n 0
           (fluid_answer (scene_of b) (coefficients (scene_of b)) (pressures_in d n z)) answers
           → c ≡ sets a (fluid_answer_width d * n)

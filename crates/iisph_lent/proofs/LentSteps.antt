@@ -96,7 +96,8 @@ module _ (b : List ℕ) (answers work : List Float) (index : ℕ) where
       not_lacking (refused_first b (length answers) (length work) index (rw (sym s.answer) q)) s
 
   -- with one that is too short
-  pub short_lent : {e : ℕ} → checked b ≡ walk.At e → LongEnough b (length answers) (length work) → index < index_needed b
+  pub short_lent : {e : ℕ} → checked b ≡ walk.At e → LongEnough b (length answers) (length work) →
+      index < index_needed b
       → StepsLent b answers work index (ShortIndex (index_needed b)) answers work
   unfolding lent_answer choose
   short_lent w long h =

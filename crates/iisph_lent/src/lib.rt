@@ -52,7 +52,8 @@ fn finish(
 ) -> Report
     requires pass_over { PassOver scene.now index.now dim n × StepHeaderIs (scene_of scene.now) header }
     requires passed { Passed scene.now layout × LongEnough scene.now (length answers.old) (length work.old) }
-    requires iteration_ready { IterationReady (scene_of scene.now) (first_pressures (scene_of scene.now)) dim n work.old }
+    requires iteration_ready { IterationReady (scene_of scene.now)
+        (first_pressures (scene_of scene.now)) dim n work.old }
     ensures { Finishes scene.now answers.old work.old result answers.new
         work.new }
 {

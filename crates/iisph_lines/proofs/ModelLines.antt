@@ -39,7 +39,8 @@ module _ (κ : Kind) (m w k : ℕ) (xs : List Float) where
       unfolding model_text line
       line_fits {n} h r = rw e (omega (arith, room_upto line n i h, here.ends, here.long))
 
-      pub line_written : {next' : ℕ} {o' : List ℕ} → Writes o next (particle_line κ m i (doubles_text xs from w)) o' next'
+      pub line_written : {next' : ℕ} {o' : List ℕ} → Writes o next (particle_line κ m i (doubles_text xs from w)) o'
+          next'
           → Writes out at (model_text κ m (i + 1) w k xs) o' next'
       unfolding model_text line
       line_written q = next_written line here (rw e at q)

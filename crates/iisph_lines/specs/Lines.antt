@@ -65,7 +65,8 @@ model_text κ m n w k xs = flatten (table n (λ i. particle_line κ m i (doubles
 unfoldable pub models_upto : ℕ → ℕ → Kind → List ℕ → List ℕ → ℕ → List Float → List ℕ
 models_upto n d κ keeps counts k xs =
     flatten
-    (table n (λ m. model_text κ m (get_or counts m 0) (width_in d κ keeps m) (k + answers_before d κ keeps counts m) xs))
+    (table n (λ m.
+    model_text κ m (get_or counts m 0) (width_in d κ keeps m) (k + answers_before d κ keeps counts m) xs))
 
 -- all models of a kind of the packed scene b
 abbrev pub models_text : Kind → List ℕ → ℕ → List Float → List ℕ

@@ -63,7 +63,8 @@ fn put_answer(
     answers: &mut [f64],
     i: usize,
 )
-    requires driven_pass { DrivenPass scene.now index.now dim n dt gravity × ChangesReady (scene_of scene.now) dim n work.now }
+    requires driven_pass { DrivenPass scene.now index.now dim n dt gravity
+        × ChangesReady (scene_of scene.now) dim n work.now }
     requires i_lt_n { (i < n) × (fluid_answer_width dim * i + fluid_answer_width dim ≤ length answers.old) }
     ensures { let s = scene_of scene.now in
         let ps = pressures_in dim n work.now in
@@ -92,7 +93,8 @@ pub fn update_velocities_and_positions(
     gravity: Vec3,
     answers: &mut [f64],
 )
-    requires driven_pass { DrivenPass scene.now index.now dim n dt gravity × ChangesReady (scene_of scene.now) dim n work.now }
+    requires driven_pass { DrivenPass scene.now index.now dim n dt gravity
+        × ChangesReady (scene_of scene.now) dim n work.now }
     requires n_in_bounds { fluid_answer_width dim * n ≤ length answers.old }
     ensures { let s = scene_of scene.now in
         let ps = pressures_in dim n work.now in

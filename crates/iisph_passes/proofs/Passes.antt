@@ -48,10 +48,12 @@ module _ (b : List ℕ) {d n : ℕ} (is : d ≡ axes_of b) (axes : Axes d) (size
       → Behind d n xs (stored d n (slot_of d pass) (row_of d (scene_of b) l pass) l)
   pass_part q = volumes_kept b is axes size pass n (omega arith) l q
 
-  pub pass_beyond : (j : ℕ) → volumes_at d n ≤ j → get_or (stored d n (slot_of d pass) (row_of d (scene_of b) l pass) l) j nan
+  pub pass_beyond : (j : ℕ) → volumes_at d n ≤ j →
+      get_or (stored d n (slot_of d pass) (row_of d (scene_of b) l pass) l) j nan
       ≡ get_or l j nan
   pass_beyond j h =
-      stored_beyond nan (slot_at d n) (slot_of d pass) (row_of d (scene_of b) l pass) l n (work_width d) (slots_apart d n)
+      stored_beyond nan (slot_at d n) (slot_of d pass) (row_of d (scene_of b) l pass) l n (work_width d)
+      (slots_apart d n)
       (row_length d pass) (row_length_lem b is axes size l pass) (row_fits axes pass) n (omega arith) j h
 
   pub pass_drop : (k : ℕ) → volumes_at d n ≤ k → drop k (stored d n (slot_of d pass) (row_of d (scene_of b) l pass) l)

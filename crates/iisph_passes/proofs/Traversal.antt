@@ -86,7 +86,8 @@ module _ (b : List ℕ) {d n : ℕ} (is : d ≡ axes_of b) (axes : Axes d) (size
     slot_kept : (j e : ℕ) → j < n → e < work_width d → Beside d pass e 1
         → element_at during (slot_at d n j e) ≡ element_at l (slot_at d n j e)
     slot_kept j e u m apart =
-        stored_other nan (slot_at d n) (slot_of d pass) (row_of d (scene_of b) l pass) l n (work_width d) (slots_apart d n)
+        stored_other nan (slot_at d n) (slot_of d pass) (row_of d (scene_of b) l pass) l n (work_width d)
+        (slots_apart d n)
         (row_length d pass) (row_length_lem l pass) (row_fits axes pass) i h j e u m
         (⊎_elim (λ u. inl (omega arith)) (λ u. inr (omega arith)) apart)
 
@@ -194,7 +195,8 @@ module _ (b : List ℕ) {d n : ℕ} (is : d ≡ axes_of b) (axes : Axes d) (size
     -- what the iterations find, but for the pressures: dii and the columns before that of the quotients, and the masses
     pub iteration_kept : (pass : Pass) (ps ps' : List Float) → dij_slot ≤ slot_of d pass
         → (slot_of d pass + row_length d pass ≤ dii_slot d) ⊎ (quotient_slot d ≤ slot_of d pass)
-        → Rows d n (pressure_slot d) (λ j. pressure ps' j ∷ []) (during pass i h l) → IterationReady (scene_of b) ps d n l
+        → Rows d n (pressure_slot d) (λ j. pressure ps' j ∷ []) (during pass i h l) → IterationReady (scene_of b) ps d
+        n l
         → IterationReady (scene_of b) ps' d n (during pass i h l)
     unfolding coefficients_of
     iteration_kept pass ps ps' first apart pressures q =

@@ -74,19 +74,22 @@ module _ (b : List ℕ) (l : List Float)
     (room : volumes_at (axes_of b) (fluid_size (scene_of b)) + boundary_size (scene_of b) ≤ length l) where
   coefficients_find : CoefficientsReady (scene_of b) (axes_of b) (fluid_size (scene_of b)) (after_advection b l)
   coefficients_find =
-      let v : length (volumes (scene_of b)) ≡ boundary_size (scene_of b) = length-table (boundary_size (scene_of b)) _ in
+      let v : length (volumes (scene_of b)) ≡ boundary_size (scene_of b) =
+      length-table (boundary_size (scene_of b)) _ in
       let m = length-sets l (volumes_at (axes_of b) (fluid_size (scene_of b))) (volumes (scene_of b)) in
       advected_ready b refl (axes_of_lem b) refl (start b l) (omega arith)
       (part_stored (volumes_at (axes_of b) (fluid_size (scene_of b))) (volumes (scene_of b)) l (omega arith)) refl
 
-  mass_kept : Rows (axes_of b) (fluid_size (scene_of b)) mass_slot (mass_row (scene_of b)) (prepared (axes_of b) (scene_of b) l)
+  mass_kept : Rows (axes_of b) (fluid_size (scene_of b)) mass_slot (mass_row (scene_of b))
+      (prepared (axes_of b) (scene_of b) l)
   unfolding prepared rows_filled slot_of
   mass_kept =
       pass_keeps b refl (axes_of_lem b) refl Coefficients (after_advection b l) mass_slot 1 (λ j h. refl) (omega arith)
       (inl (omega arith))
       coefficients_find.mass
 
-  volume_kept : Behind (axes_of b) (fluid_size (scene_of b)) (volumes (scene_of b)) (prepared (axes_of b) (scene_of b) l)
+  volume_kept : Behind (axes_of b) (fluid_size (scene_of b)) (volumes (scene_of b))
+      (prepared (axes_of b) (scene_of b) l)
   unfolding prepared rows_filled
   volume_kept = pass_part b refl (axes_of_lem b) refl Coefficients (after_advection b l) coefficients_find.volume
 

@@ -36,7 +36,8 @@ module _ (b : List ℕ) {d n : ℕ} (is : d ≡ axes_of b) (axes : Axes d) (size
 
   pub advected_ready : (l : List Float) → volumes_at d n + boundary_size (scene_of b) ≤ length l
       → Behind d n (volumes (scene_of b)) l → {x : List Float}
-      → x ≡ stored d n (slot_of d Advection) (row_of d (scene_of b) l Advection) l → CoefficientsReady (scene_of b) d n x
+      → x ≡ stored d n (slot_of d Advection) (row_of d (scene_of b) l Advection) l → CoefficientsReady (scene_of b) d
+      n x
   unfolding slot_of row_of
   advected_ready l room v e =
       let s = scene_of b in

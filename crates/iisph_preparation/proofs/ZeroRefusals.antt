@@ -52,7 +52,8 @@ module _ (b : List ℕ) {d n : ℕ} (is : d ≡ axes_of b) (size : n ≡ fluid_s
       → x ≡ sets l (volumes_at d n) (volumes (scene_of b))
       → (volumes_at d n + boundary_size (scene_of b) ≤ length x) × Behind d n (volumes (scene_of b)) x
   volumes_there room e =
-      let v : length (volumes (scene_of b)) ≡ boundary_size (scene_of b) = length-table (boundary_size (scene_of b)) _ in
+      let v : length (volumes (scene_of b)) ≡ boundary_size (scene_of b) =
+      length-table (boundary_size (scene_of b)) _ in
       rw e (
         omega (arith, length-sets l (volumes_at d n) (volumes (scene_of b))),
         part_stored (volumes_at d n) (volumes (scene_of b)) l
@@ -72,7 +73,8 @@ module _ (b : List ℕ) {d n : ℕ} (is : d ≡ axes_of b) (size : n ≡ fluid_s
 module _ (b : List ℕ) (l : List Float)
     (room : volumes_at (axes_of b) (fluid_size (scene_of b)) + boundary_size (scene_of b) ≤ length l) where
   coefficient-column : (e : ℕ) (x : Coefficients → Float) → row_width (axes_of b) ≤ e
-      → Rows (axes_of b) (fluid_size (scene_of b)) e (λ i. x (coefficients_of (scene_of b) (particle (scene_of b) i)) ∷ [])
+      → Rows (axes_of b) (fluid_size (scene_of b)) e
+      (λ i. x (coefficients_of (scene_of b) (particle (scene_of b) i)) ∷ [])
       (prepared (axes_of b) (scene_of b) l)
       → column (fluid_size (scene_of b)) e (prepared (axes_of b) (scene_of b) l) ≡ map x (coefficients (scene_of b))
   unfolding coefficients

@@ -126,7 +126,8 @@ pub fn prepare(
     work: &mut [f64],
 ) -> Readiness
     requires passed { Passed scene.now layout × StepHeaderIs (scene_of scene.now) header }
-    requires scene_in_bounds { (index_needed scene.now ≤ length index.old) × (work_needed (scene_of scene.now) ≤ length work.old) }
+    requires scene_in_bounds { (index_needed scene.now ≤ length index.old)
+        × (work_needed (scene_of scene.now) ≤ length work.old) }
     ensures { Prepares scene.now work.old result index.new work.new }
 {
     let clock = header.clock;

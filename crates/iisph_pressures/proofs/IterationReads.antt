@@ -16,7 +16,8 @@ use Rattle.scene_format.specs.SceneOf.{scene_of}
 use Rattle.iisph_rules.specs.Coefficients.{particle_mass, coefficients_of, coefficients, no_coefficients, coefficient}
 use Rattle.iisph_rules.specs.Iteration.{pressure, dij_pjl, dij_pjls, dij}
 use Rattle.iisph_pressures.specs.IterationRows.{IterationReady, pressures_in, dijs_in, row_quotient, quotient}
-use Rattle.iisph_rows.specs.Rows.{row_at, element_at, vector_from, Rows, mass_slot, pressure_slot, dij_slot, density_slot}
+use Rattle.iisph_rows.specs.Rows.{row_at, element_at, vector_from, Rows, mass_slot, pressure_slot, dij_slot}
+use Rattle.iisph_rows.specs.Rows.{density_slot}
 use Rattle.iisph_rows.specs.Rows.{predicted_slot, aii_slot}
 use Rattle.scene_format.specs.Format.{axes_of}
 use Rattle.iisph_rules.proofs.Sizes.{length-dij}
@@ -83,7 +84,8 @@ pressures_are {s} {ps} {d} {n} {work} q l =
     let h : i < n = omega (arith, size) in
     sym (pressure_in d work i h) ∙ row_value d (pressure ps) q.pressure (omega arith) i h)
 
-pub dijs_are : (b : List ℕ) (ps : List Float) {d n : ℕ} {work : List Float} → d ≡ axes_of b → n ≡ fluid_size (scene_of b)
+pub dijs_are : (b : List ℕ) (ps : List Float) {d n : ℕ} {work : List Float} → d ≡ axes_of b →
+    n ≡ fluid_size (scene_of b)
     → Rows d n dij_slot (λ i. dij_pjl (scene_of b) (coefficients (scene_of b)) ps (particle (scene_of b) i)) work
     → dijs_in d n work ≡ dij_pjls (scene_of b) (coefficients (scene_of b)) ps
 unfolding dijs_in dij_pjls

@@ -18,7 +18,8 @@ use Rattle.scene_format.specs.SceneOf.{target_at, contact_at, scene_of}
 use Rattle.scene_format.specs.declared.Criterion.{Criterion}
 use Rattle.scene_format.specs.declared.Kind.{Kind}
 use Rattle.scene_format.specs.declared.Kind.TheVariants.{Fluid, Boundary}
-use Rattle.iisph_rules.specs.Coefficients.{dt, over_contacts, particle_mass, fluid_mass, boundary_mass, density, dji_factor}
+use Rattle.iisph_rules.specs.Coefficients.{dt, over_contacts, particle_mass, fluid_mass, boundary_mass, density}
+use Rattle.iisph_rules.specs.Coefficients.{dji_factor}
 use Rattle.iisph_rules.specs.Coefficients.{coefficients_of, coefficients, coefficient}
 use Rattle.iisph_rules.specs.Iteration.{pressure, dij_sum, dij_pjl, dij, pressure_sum, relaxed, error_term, no_pressure}
 use Rattle.iisph_rules.specs.Iteration.{clamped, aii_limit, next_pressure}
@@ -63,7 +64,8 @@ pub quotient_there : (s : Scene) (ps : List Float) (d : ℕ) {n j column place :
     → element_at work place ≡ quotient s ps j
 quotient_there s ps d {j = j} q ce h pe = rw (pe, ce) (column_value d (quotient s ps) q (omega arith) j h)
 
-pub dij_made : {b : List ℕ} {d : ℕ} {p : FluidParticle} {list : ContactList} → d ≡ axes_of b → ContactsAre b Fluid p list
+pub dij_made : {b : List ℕ} {d : ℕ} {p : FluidParticle} {list : ContactList} → d ≡ axes_of b →
+    ContactsAre b Fluid p list
     → (ps : List Float) {t : Float} {x y : Vector}
     → t ≡ dt (scene_of b) → x ≡ over_list Fluid d b list (with_dij (scene_of b) ps) (origin d) → y ≡ x ⊡ (t ⊗ t)
     → y ≡ dij_pjl (scene_of b) (coefficients (scene_of b)) ps p
@@ -94,7 +96,8 @@ term_same own g e p me qe de xe = rw (me, qe, de, xe)
 
 module _ (b : List ℕ) {d n : ℕ} {work : List Float} (axes : d ≡ axes_of b) (size : n ≡ fluid_size (scene_of b))
     (q : IterationReady (scene_of b) (pressures_in d n work) d n work) where
-  length_row : (j : ℕ) → j < fluid_size (scene_of b) → length (coefficients_of (scene_of b) (particle (scene_of b) j)).dii
+  length_row : (j : ℕ) → j < fluid_size (scene_of b) →
+      length (coefficients_of (scene_of b) (particle (scene_of b) j)).dii
       ≡ d
   unfolding coefficients_of
   length_row j h = length-dii b j h (density (scene_of b) (particle (scene_of b) j)) ∙ sym axes
@@ -119,7 +122,8 @@ module _ (b : List ℕ) {d n : ℕ} {work : List Float} (axes : d ≡ axes_of b)
   module _ {at j : ℕ} {g : Vector} (ge : g ≡ vector_at d b (at + gradient_offset)) where
     pub fluid_term_lem : TargetReady Fluid b at → j ≡ target_at (starts_of Fluid b) b at → (owner : Owner)
         → row_term d work j owner g
-        ≡ fluid_term d (scene_of b) (pressures_in d n work) (dijs_in d n work) owner (contact_at d (starts_of Fluid b) b at)
+        ≡ fluid_term d (scene_of b) (pressures_in d n work) (dijs_in d n work) owner
+        (contact_at d (starts_of Fluid b) b at)
     unfolding fluid_term fluid_mass contact_at
     fluid_term_lem ready named owner =
         let h = fluid_named ready.0 named refl in

@@ -9,7 +9,8 @@ use Rattle.iisph_rows.specs.Rows.{quotient_slot}
 use Rattle.iisph_rows.specs.Rows.{row_at, element_at, vector_from, Rows, Behind}
 use Rattle.iisph_rules.specs.Coefficients.{particle_mass, fluid_mass, boundary_mass, coefficients_of, coefficients}
 use Rattle.iisph_rules.specs.Coefficients.{coefficient}
-use Rattle.iisph_rules.specs.Iteration.{pressure, dij, relaxed, error_term, NextPressure, no_pressure, clamped, aii_limit}
+use Rattle.iisph_rules.specs.Iteration.{pressure, dij, relaxed, error_term, NextPressure, no_pressure, clamped}
+use Rattle.iisph_rules.specs.Iteration.{aii_limit}
 use Rattle.lists.specs.Lists.{choose, table}
 use Rattle.math.specs.Real.{◌⊕◌, ◌⊖◌, ◌⊗◌, ◌⊘◌, ⊝, magnitude}
 use Rattle.math.specs.Vector.{Vector, coordinates, ◌⊞◌, ◌⊟◌, ◌⊡◌, ◌·◌}
@@ -32,7 +33,8 @@ dijs_in d n work = table n (λ i. vector_from d work (row_at d i + dij_slot))
 pub record IterationReady (s : Scene) (ps : List Float) (d n : ℕ) (work : List Float) : Type 0 where
   pub room : Room s d n work
   pub density : Rows d n (density_slot d) (λ i. (coefficients_of s (particle s i)).density ∷ []) work
-  pub predicted_density : Rows d n (predicted_slot d) (λ i. (coefficients_of s (particle s i)).predicted_density ∷ []) work
+  pub predicted_density : Rows d n (predicted_slot d) (λ i. (coefficients_of s (particle s i)).predicted_density ∷ [])
+      work
   pub aii : Rows d n (aii_slot d) (λ i. (coefficients_of s (particle s i)).aii ∷ []) work
   pub dii : Rows d n (dii_slot d) (λ i. (coefficients_of s (particle s i)).dii) work
   pub pressure : Rows d n (pressure_slot d) (λ i. pressure ps i ∷ []) work

@@ -35,7 +35,8 @@ pub column_values : (d : ℕ) {n k : ℕ} {l : List Float} (x : ℕ → Float) �
 column_values d {n} x q h = table_same n _ x (column_value d x q h)
 
 -- one vector of each particle, in its row
-pub row_vector : (d : ℕ) {n k : ℕ} {l : List Float} (f : ℕ → List Float) → Rows d n k f l → k + d ≤ row_width d → (j : ℕ)
+pub row_vector : (d : ℕ) {n k : ℕ} {l : List Float} (f : ℕ → List Float) → Rows d n k f l → k + d ≤ row_width d →
+    (j : ℕ)
     → j < n → length (f j) ≡ d → vector_from d l (row_at d j + k) ≡ f j
 row_vector d {n} {k} {l} f q h j m sized =
     let size = length-table d (λ e. element_at l (row_at d j + k + e)) in
@@ -55,7 +56,8 @@ module _ {s : Scene} {d n : ℕ} {work : List Float} (p : CoefficientsReady s d 
   pub mass_at : (j : ℕ) → j < n → element_at work (row_at d j + mass_slot) ≡ particle_mass (particle s j)
   mass_at = row_value d (λ i. particle_mass (particle s i)) p.mass (omega arith)
 
-  pub volume_at_lem : (j : ℕ) → j < boundary_size s → element_at work (volumes_at d n + j) ≡ boundary_volume (boundary s j)
+  pub volume_at_lem : (j : ℕ) → j < boundary_size s → element_at work (volumes_at d n + j) ≡ boundary_volume
+      (boundary s j)
   volume_at_lem = volume_behind s d n p.volume
 
   pub advected_at : (j : ℕ) → j < n → length (advected_velocity s (particle s j)) ≡ d

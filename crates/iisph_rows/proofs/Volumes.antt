@@ -17,7 +17,8 @@ use Rattle.lists.proofs.Lists.{fold-table, length-table, table-add}
 use Rattle.math.specs.Real.{◌⊕◌, ◌⊘◌, +0, one, is_zero, total}
 use Rattle.scene_check.proofs.Records.{boundary-particle_ok}
 use Rattle.scene_format.specs.Bytes.{byte_at, FiniteAt}
-use Rattle.scene_format.specs.Format.{axes_of, model_number, boundary_contact_width, weight_offset, boundary_count_offset}
+use Rattle.scene_format.specs.Format.{axes_of, model_number, boundary_contact_width, weight_offset}
+use Rattle.scene_format.specs.Format.{boundary_count_offset}
 use Rattle.scene_format.specs.Format.{counts_of}
 use Rattle.scene_format.specs.Format.{location_of}
 use Rattle.scene_format.specs.Scene.{Scene, size_of, boundary}

@@ -53,7 +53,8 @@ volumes s = table (boundary_size s) (λ j. boundary_volume (boundary s j))
 
 -- the volume of a boundary particle whose record is at an offset; k is 1 where forces are kept
 unfoldable pub volume_at : List ℕ → ℕ → ℕ → Float
-volume_at b k at = volume_from (boundary_weights b (boundary_contact_count b k at) (at + boundary_record_width (axes_of b) k))
+volume_at b k at =
+    volume_from (boundary_weights b (boundary_contact_count b k at) (at + boundary_record_width (axes_of b) k))
 
 -- ---- what the coefficients find: masses, advected velocities and volumes
 

@@ -6,7 +6,8 @@ ghost use Rattle.std.proofs.lemmas.List.Edits.{sets};
 ghost use Rattle.math.specs.Vector.{Axes, coordinates};
 ghost use Rattle.scene_lengths.specs.Lengths.{work_width};
 ghost use Rattle.iisph_rows.specs.Rows.{mass_slot, dij_slot, pressure_slot, dii_slot, row_width, density_slot};
-ghost use Rattle.iisph_rows.specs.Rows.{predicted_slot, aii_slot, quotient_slot, next_pressure_slot, row_at, volumes_at};
+ghost use Rattle.iisph_rows.specs.Rows.{predicted_slot, aii_slot, quotient_slot, next_pressure_slot, row_at};
+ghost use Rattle.iisph_rows.specs.Rows.{volumes_at};
 ghost use Rattle.iisph_rows.specs.Rows.{element_at, vector_from};
 
 use math::Vec3;

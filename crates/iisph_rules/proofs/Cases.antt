@@ -49,7 +49,11 @@ module _ (b : List ℕ) (answers work : ℕ) where
     pub scene_answer_lem : answers_needed (scene_of b) ≤ answers → work_needed (scene_of b) ≤ work
         → step_answer b answers work ≡ scene_answer (λ i. (location_of Fluid b i).at) (scene_of b)
     unfolding step_answer after_check choose
-    scene_answer_lem l h = rw (q, le-ltb answers (answers_needed (scene_of b)) l, le-ltb work (work_needed (scene_of b)) h)
+    scene_answer_lem l h = rw (
+      q,
+      le-ltb answers (answers_needed (scene_of b)) l,
+      le-ltb work (work_needed (scene_of b)) h,
+    )
 
   -- ---- the work list
 

@@ -43,7 +43,8 @@ iterate_from_pressures s (suc n) i ending =
     chosen (λ (w : Solution). w.pressures ≡ pressures_after s w.iterations) _ _ _ (λ _. refl)
     (λ _. iterate_from_pressures s n (suc i) _)
 
-pub solution_pressures : (s : Scene) {k : ℕ} → (solution s).iterations ≡ k → (solution s).pressures ≡ pressures_after s k
+pub solution_pressures : (s : Scene) {k : ℕ} → (solution s).iterations ≡ k → (solution s).pressures ≡ pressures_after
+    s k
 unfolding solution
 solution_pressures s q = iterate_from_pressures s s.header.max_pressure_iter 0 Ending.Unswept ∙ ap (pressures_after s) q
 

@@ -61,7 +61,8 @@ module _ (b : List ℕ) where
       let at = (location_of Fluid b i).at in
       let e = ap (contacts_with κ) (particle_at b i w.there) ∙ recorded_contacts κ i in
       record {
-        contact = contact_at (axes_of b) (starts_of κ b) b (contacts_start κ b at + contact_width (axes_of b) * w.contact);
+        contact = contact_at (axes_of b) (starts_of κ b) b
+            (contacts_start κ b at + contact_width (axes_of b) * w.contact);
         listed = subst (Memᴰ _) (sym e) (table_in _ _ w.contact w.listed);
         target = w.target;
       }

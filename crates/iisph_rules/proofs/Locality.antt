@@ -67,7 +67,8 @@ same_number_locality b b' m e = fluid_locality _ b b' (record { matched = m; ite
 -- ---- and in their answer lists
 
 -- what the rules yield for fluid particle i stands in its part of the answer list
-answers_for_lem : (b : List ℕ) (a : Accepted b) (answers work : ℕ) → LongEnough b answers work → (old : List Float) (i : ℕ)
+answers_for_lem : (b : List ℕ) (a : Accepted b) (answers work : ℕ) → LongEnough b answers work →
+    (old : List Float) (i : ℕ)
     → i < fluid_size (scene_of b)
     → answers_for b i (answers_after b answers work old)
     ≡ fluid_answer (scene_of b) (coefficients (scene_of b)) (solution (scene_of b)).pressures i

@@ -32,7 +32,8 @@ use Rattle.iisph_rules.proofs.Locality.{accepted_report}
 
 -- ---- the value is a number
 
-either_number : (t : Bool) (x y : Float) → Ieee.is_nan x ≡ false → Ieee.is_nan y ≡ false → Ieee.is_nan (cond t y x) ≡ false
+either_number : (t : Bool) (x y : Float) → Ieee.is_nan x ≡ false → Ieee.is_nan y ≡ false →
+    Ieee.is_nan (cond t y x) ≡ false
 either_number true x y h k = k
 either_number false x y h k = h
 

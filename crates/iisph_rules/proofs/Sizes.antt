@@ -20,9 +20,11 @@ use Rattle.scene_format.specs.Format.{axes_of}
 use Rattle.scene_format.specs.declared.Kind.TheVariants.{Boundary}
 use Rattle.scene_format.specs.Scene.{Scene, FluidParticle, no_boundary_particle, Contact, fluid_size, boundary_size}
 use Rattle.scene_format.specs.Scene.{particle, boundary}
-use Rattle.scene_format.specs.SceneOf.{contact_at, contact_list, fluid_particle_at, force_at, boundary_particle_at, header_of}
+use Rattle.scene_format.specs.SceneOf.{contact_at, contact_list, fluid_particle_at, force_at, boundary_particle_at}
+use Rattle.scene_format.specs.SceneOf.{header_of}
 use Rattle.scene_format.specs.SceneOf.{scene_of}
-use Rattle.scene_lengths.specs.Lengths.{fluid_answer_width, answer_width, boundary_answer_width, answers_needed, work_needed}
+use Rattle.scene_lengths.specs.Lengths.{fluid_answer_width, answer_width, boundary_answer_width, answers_needed}
+use Rattle.scene_lengths.specs.Lengths.{work_needed}
 use Rattle.scene_layout.proofs.Locations.{particle_at, boundary_at}
 use Rattle.iisph_rules.specs.Coefficients.{over_contacts, velocity_change, advected_velocity, over_neighbours, dii}
 use Rattle.iisph_rules.specs.Coefficients.{Coefficients}
@@ -228,7 +230,8 @@ module _ (b : List ℕ) (answers work : ℕ) (old : List Float) where
   unfolding answers_after
   beyond_answers = behind _ (answers_of (scene_of b)) old (answers_needed (scene_of b)) (length_answers b)
 
-  pub beyond_work : drop (work_needed (scene_of b)) (work_after b answers work old) ≡ drop (work_needed (scene_of b)) old
+  pub beyond_work : drop (work_needed (scene_of b)) (work_after b answers work old) ≡ drop (work_needed (scene_of b))
+      old
   unfolding work_after
   beyond_work = behind _ (replicate (work_needed (scene_of b)) +0) old (work_needed (scene_of b))
       (length-replicate (work_needed (scene_of b)) +0)

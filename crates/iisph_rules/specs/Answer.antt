@@ -30,7 +30,8 @@ lists_short b answers work = ltb answers (answers_needed (scene_of b)) || ltb wo
 unfoldable pub step_answer : List ℕ → ℕ → ℕ → StepAnswer
 step_answer b answers work =
     after_check (checked b)
-    (choose (lists_short b answers work) (Refused ShortList) (scene_answer (λ i. (location_of Fluid b i).at) (scene_of b)))
+    (choose (lists_short b answers work) (Refused ShortList)
+    (scene_answer (λ i. (location_of Fluid b i).at) (scene_of b)))
 
 -- lists of these lengths are as long as a step needs them
 pub record LongEnough (b : List ℕ) (answers work : ℕ) : Type 0 where
@@ -50,7 +51,8 @@ is_done (Refused r) = false
 -- the needed front part is the rules' values; the old elements stay behind
 unfoldable pub answers_after : List ℕ → ℕ → ℕ → List Float → List Float
 answers_after b answers work old =
-    choose (is_done (step_answer b answers work)) (answers_of (scene_of b) ++ drop (answers_needed (scene_of b)) old) old
+    choose (is_done (step_answer b answers work)) (answers_of (scene_of b) ++ drop (answers_needed (scene_of b)) old)
+    old
 
 -- whether the passes have used the work list, so that it is cleared: unless 1 to 8 refused
 unfoldable pub clears_work : StepAnswer → Bool

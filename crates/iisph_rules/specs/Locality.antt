@@ -6,7 +6,8 @@ use Rattle.std.specs.Prelude.{ℕ, suc, ◌+◌, ◌*◌, ◌<◌, ◌≤◌, �
 use mathlib.Core.List.{List, ◌++◌, Memᴰ}
 use Rattle.math.specs.Vector.{Vector}
 use Rattle.scene_format.specs.Bytes.{Bytes, byte_at}
-use Rattle.scene_format.specs.Format.{axes_of, min_pressure_iter_offset, max_pressure_iter_offset, location_of, starts_of}
+use Rattle.scene_format.specs.Format.{axes_of, min_pressure_iter_offset, max_pressure_iter_offset, location_of}
+use Rattle.scene_format.specs.Format.{starts_of}
 use Rattle.scene_format.specs.Format.{contact_width, contact_count, contacts_start}
 use Rattle.scene_format.specs.Scene.{Scene, Contact, FluidParticle, fluid_size, particle}
 use Rattle.scene_format.specs.SceneOf.{scene_of, target_at}

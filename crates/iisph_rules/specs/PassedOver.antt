@@ -31,7 +31,8 @@ YesExactly = (xs : List Float) → (error_of Salva xs).passed_over ≡ true ↔ 
 pub record NanFluid (summation : Summation) (counts : List ℕ) (terms : List Float) (m : ℕ) : Type 0 where
   pub there : m < length counts
   pub some : 0 < get_or counts m 0
-  pub no_number : average summation (get_or counts m 0) (take (get_or counts m 0) (drop (sum (take m counts)) terms)) ≡ nan
+  pub no_number : average summation (get_or counts m 0) (take (get_or counts m 0) (drop (sum (take m counts)) terms))
+      ≡ nan
 
 -- some average is not a number exactly if that of some fluid with particles is not
 abbrev pub AveragesOfFluids : Type 0

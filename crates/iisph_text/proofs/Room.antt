@@ -12,8 +12,10 @@ use Rattle.lists.specs.Lists.{table, iter, sum}
 use Rattle.lists.proofs.Numbering.{sum_same}
 use Rattle.lists.proofs.Rows.{length-rows}
 use Rattle.scene_format.specs.Bytes.{Bytes}
-use Rattle.scene_format.specs.Format.{axes_of, most_models, most_particles, model_number, header_width, particles_at, keeps_at}
-use Rattle.scene_format.specs.Format.{own_width, first_record, next_record, model_end, first_head, head_at, counts_of, keeps_of}
+use Rattle.scene_format.specs.Format.{axes_of, most_models, most_particles, model_number, header_width, particles_at}
+use Rattle.scene_format.specs.Format.{keeps_at}
+use Rattle.scene_format.specs.Format.{own_width, first_record, next_record, model_end, first_head, head_at, counts_of}
+use Rattle.scene_format.specs.Format.{keeps_of}
 use Rattle.scene_format.specs.SceneOf.{scene_of}
 use Rattle.scene_format.specs.declared.Kind.{Kind}
 use Rattle.scene_format.specs.declared.Kind.TheVariants.{Fluid, Boundary}
@@ -122,7 +124,8 @@ module _ (κ : Kind) (b : List ℕ) (head : ℕ) {k : ℕ} (e : k ≡ keeps_at b
 
 module _ (b : List ℕ) {e : ℕ} (q : checked b ≡ At e) where
   kind_room : (κ : Kind) (k : ℕ) (xs : List Float)
-      → line_bytes * length (models_text κ b k xs) + line_text * first_head κ b ≤ line_text * head_at κ b (model_number κ b)
+      → line_bytes * length (models_text κ b k xs) + line_text * first_head κ b ≤ line_text * head_at κ b
+      (model_number κ b)
   unfolding models_upto
   kind_room κ k xs =
       let ok = (accepted b q).fields in
@@ -137,7 +140,8 @@ module _ (b : List ℕ) {e : ℕ} (q : checked b ≡ At e) where
       let count = counts_at κ b m h in
       let small : get_or counts m 0 ≤ most_particles = rw count (ok.models κ m h).few in
       let few : m < most_models = omega (arith, ok.header.few κ) in
-      model_room κ b (head_at κ b m) (keeps_of_lem κ b m h) count m few small (k + answers_before d κ keeps counts m) xs) in
+      model_room κ b (head_at κ b m) (keeps_of_lem κ b m h) count m few small (k + answers_before d κ keeps counts m)
+      xs) in
       omega (arith, length-rows (model_number κ b) f (λ m. length (f m)) (λ m h. refl), room)
 
   kind_answers : (κ : Kind)

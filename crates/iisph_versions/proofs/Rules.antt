@@ -19,13 +19,16 @@ use Rattle.scene_format.specs.declared.Kind.TheVariants.{Fluid}
 use Rattle.scene_format.specs.declared.Refusal.{Refusal}
 use Rattle.scene_format.specs.declared.Summation.{Summation}
 use Rattle.iisph_rules.specs.Coefficients.{Coefficients, clock_of, fluid_mass, boundary_mass, velocity_change}
-use Rattle.iisph_rules.specs.Coefficients.{advected_velocity, fluid_neighbour, boundary_neighbour, over_neighbours, density}
+use Rattle.iisph_rules.specs.Coefficients.{advected_velocity, fluid_neighbour, boundary_neighbour, over_neighbours}
+use Rattle.iisph_rules.specs.Coefficients.{density}
 use Rattle.iisph_rules.specs.Coefficients.{delta, predicted_density, dii_factor, dii, dji_factor, aii, coefficients_of}
 use Rattle.iisph_rules.specs.Coefficients.{coefficients}
 use Rattle.iisph_rules.specs.Iteration.{dij_sum, dij_pjl, dij_pjls, pressure_sum, clamped, no_pressure, next_pressure}
 use Rattle.iisph_rules.specs.Iteration.{NextPressure, next_pressures, iteration}
-use Rattle.iisph_rules.specs.Step.{first_pressures, solution, boundary_acceleration, final_velocity_change, new_velocity}
-use Rattle.iisph_rules.specs.Step.{new_position, fluid_answer, force_from, boundary_force, boundary_answer, answers_from}
+use Rattle.iisph_rules.specs.Step.{first_pressures, solution, boundary_acceleration, final_velocity_change}
+use Rattle.iisph_rules.specs.Step.{new_velocity}
+use Rattle.iisph_rules.specs.Step.{new_position, fluid_answer, force_from, boundary_force, boundary_answer}
+use Rattle.iisph_rules.specs.Step.{answers_from}
 use Rattle.iisph_rules.specs.Step.{answers_of, report_of, unless_zero, scene_answer}
 use Rattle.iisph_rules.specs.PassedOver.{iteration_at}
 use Rattle.iisph_rules.specs.declared.Report.{Report}
@@ -58,7 +61,8 @@ module _ (criterion : Criterion) (summation : Summation) (s : Scene) where
   other = scene_by criterion summation s
 
   coefficients_same : coefficients other ≡ coefficients s
-  unfolding scene_by header_by fluid_size particle boundary clock_of fluid_mass boundary_mass velocity_change advected_velocity
+  unfolding scene_by header_by fluid_size particle boundary clock_of fluid_mass boundary_mass velocity_change
+      advected_velocity
       fluid_neighbour boundary_neighbour over_neighbours density delta predicted_density dii_factor dii dji_factor aii
       coefficients_of coefficients
   coefficients_same = refl
@@ -89,8 +93,10 @@ module _ (criterion : Criterion) (summation : Summation) (s : Scene) where
       ∙ iteration_same (coefficients s) (pressures_after s k)
 
   answers_same : (ps : List Float) → answers_from other ps ≡ answers_from s ps
-  unfolding scene_by header_by fluid_size boundary_size particle boundary clock_of fluid_mass boundary_mass velocity_change
-      advected_velocity fluid_neighbour boundary_neighbour over_neighbours density delta predicted_density dii_factor dii
+  unfolding scene_by header_by fluid_size boundary_size particle boundary clock_of fluid_mass boundary_mass
+      velocity_change
+      advected_velocity fluid_neighbour boundary_neighbour over_neighbours density delta predicted_density dii_factor
+      dii
       dji_factor aii coefficients_of coefficients boundary_acceleration final_velocity_change new_velocity new_position
       fluid_answer force_from boundary_force boundary_answer answers_from
   answers_same ps = refl
@@ -132,7 +138,8 @@ pub rule_refuses_none : RuleRefusesNone
 rule_refuses_none b b' s f f' a =
     let d = step_done b _ _ (a.done _ _ needed) in
     let e = same_scenes b b' s in
-    let k = done_too (criterion_of (rule_of b')) (summation_of (rule_of b')) (scene_of b) _ (λ i. (location_of Fluid b' i).at)
+    let k = done_too (criterion_of (rule_of b')) (summation_of (rule_of b')) (scene_of b) _
+    (λ i. (location_of Fluid b' i).at)
     d.scene in
     record {
       report = report_of (scene_of b');

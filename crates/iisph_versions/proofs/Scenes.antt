@@ -14,7 +14,8 @@ use Rattle.scene_format.specs.Format.{axes_of, rule_of, criterion_of, summation_
 use Rattle.scene_format.specs.Format.{max_pressure_iter_offset, total_step_size_offset, remaining_time_offset}
 use Rattle.scene_format.specs.Format.{max_density_error_offset, gravity_offset}
 use Rattle.scene_format.specs.Format.{vector_width, header_width, density0_offset, particles_at}
-use Rattle.scene_format.specs.Format.{keeps_at, contact_count, boundary_contact_count, own_width, contacts_width, first_record}
+use Rattle.scene_format.specs.Format.{keeps_at, contact_count, boundary_contact_count, own_width, contacts_width}
+use Rattle.scene_format.specs.Format.{first_record}
 use Rattle.scene_format.specs.Format.{next_record, model_end, first_head, head_at, heads_of, counts_of, Location}
 use Rattle.scene_format.specs.Format.{model_locations, locations_of, nowhere, location_of}
 use Rattle.scene_format.specs.SceneOf.{fluid_particle_at, boundary_particle_at, header_of, scene_of}
@@ -153,7 +154,8 @@ module _ {b b' : List ℕ} (s : SameButForm b b') where
       ∙ ap (map f') (locations_same κ)
 
   fluid_particles_same : (fs bs : List ℕ)
-      → map (fluid_particle_at fs bs b) (locations_of Fluid b) ≡ map (fluid_particle_at fs bs b') (locations_of Fluid b')
+      → map (fluid_particle_at fs bs b) (locations_of Fluid b) ≡ map (fluid_particle_at fs bs b')
+      (locations_of Fluid b')
   fluid_particles_same fs bs =
       locations_read Fluid _ _
       (λ p l h.

@@ -11,7 +11,8 @@ use borrow.Author.Tests.{le-ltb}
 use Rattle.lists.specs.Lists.{choose}
 use Rattle.scene_format.specs.Bytes.{double_width}
 use Rattle.scene_format.specs.Format.{version_of, version_known, most_rule, header_doubles, header_width}
-use Rattle.scene_format.specs.Format.{contact_doubles, contact_width, record_doubles, record_width, boundary_record_doubles}
+use Rattle.scene_format.specs.Format.{contact_doubles, contact_width, record_doubles, record_width}
+use Rattle.scene_format.specs.Format.{boundary_record_doubles}
 use Rattle.scene_format.specs.Format.{boundary_record_width, keeps_at, first_record}
 use Rattle.scene_format.specs.declared.Kind.{Kind}
 use Rattle.scene_format.specs.declared.Kind.TheVariants.{Fluid, Boundary}
@@ -20,7 +21,8 @@ use Rattle.scene_format.specs.declared.Walk.{Walk}
 use Rattle.scene_format.specs.declared.Walk.TheVariants.{At, Refused}
 use Rattle.scene_fields.specs.Fields.{◌▹◌, times, refused_if, field, plain, double, count, half_byte, halves, ended}
 use Rattle.scene_fields.specs.declared.fields.Half.TheVariants.{Version, Rule, ModelCount}
-use Rattle.scene_walk.specs.Walk.{header, contact, fluid_record, boundary_record, record_of, head_of, model_of, models_of}
+use Rattle.scene_walk.specs.Walk.{header, contact, fluid_record, boundary_record, record_of, head_of, model_of}
+use Rattle.scene_walk.specs.Walk.{models_of}
 use Rattle.scene_walk.specs.Walk.{fields}
 use Rattle.scene_check.specs.Walk.{name, names, record_names_of, model_names_of, models_names_of, all_names, checked}
 use Rattle.scene_check.proofs.OwnBytes.{same_be64}

@@ -70,7 +70,8 @@ starts_from_lem a (n ∷ ns) zero h = omega arith
 starts_from_lem a (n ∷ ns) (suc m) h =
     omega (arith, starts_from_lem (a + n) ns m (le_of_suc-le-suc h), starts_from_lem (0 + n) ns m (le_of_suc-le-suc h))
 
-pub start_below : (ns : List ℕ) (m j : ℕ) → m < length ns → j < get_or ns m 0 → get_or (starts_from 0 ns) m 0 + j < sum ns
+pub start_below : (ns : List ℕ) (m j : ℕ) → m < length ns → j < get_or ns m 0 → get_or (starts_from 0 ns) m 0 + j
+    < sum ns
 unfolding starts_from sum
 start_below [] m j h k = absurd (not-suc-le-zero h)
 start_below (n ∷ ns) zero j h k = omega arith
@@ -99,7 +100,11 @@ unfolding starts_from sum
 starts_last [] m h = absurd (omega arith)
 starts_last (n ∷ []) zero h = omega arith
 starts_last (n ∷ x ∷ ns) zero h = absurd (omega arith)
-starts_last (n ∷ ns) (suc m) h = omega (arith, starts_from_lem (0 + n) ns m (omega arith), starts_last ns m (omega arith))
+starts_last (n ∷ ns) (suc m) h = omega (
+  arith,
+  starts_from_lem (0 + n) ns m (omega arith),
+  starts_last ns m (omega arith),
+)
 
 -- ---- sums
 
@@ -144,7 +149,14 @@ numbered [] i h = absurd (not-suc-le-zero h)
 numbered (n ∷ ns) i h = go (ltb i n) refl (numbered ns (i - n))
   where
     go : (t : Bool) → ltb i n ≡ t → (i - n < sum ns → Numbered ns (i - n)) → Numbered (n ∷ ns) i
-    go true q r = record { model = 0; number = i; is_model = omega arith; is_number = ltb-true i n q; flat = zero-add i }
+    go true q r = record {
+      model = 0;
+      number = i;
+      is_model = omega arith;
+      is_number = ltb-true i n q;
+      flat =
+          zero-add i;
+    }
     go false q r =
         let le = ltb-false i n q in
         let s = r (omega arith) in

@@ -120,7 +120,8 @@ is_nan_lem (fin s m e) h = absurd (true≢false (sym h))
 
 -- a pattern is a not-a-number's exactly where it lies above infinity's, its sign left away
 pub nan_pattern : (b : ℕ) → 0x7FF0000000000000 < b % 0x8000000000000000 → of_bits binary64 b ≡ nan
-nan_pattern b h = is_nan_lem (of_bits binary64 b) (sym (nan_bits_is binary64 b) ∙ nan_bits_above binary64 b ∙ lt-ltb _ _ h)
+nan_pattern b h = is_nan_lem (of_bits binary64 b) (sym (nan_bits_is binary64 b) ∙ nan_bits_above binary64 b
+    ∙ lt-ltb _ _ h)
 
 pub number_pattern : (b : ℕ) → b % 0x8000000000000000 ≤ 0x7FF0000000000000 → T (not (nan_bits binary64 b))
 number_pattern b h = fails (nan_bits binary64 b) (nan_bits_above binary64 b ∙ le-ltb _ _ h)

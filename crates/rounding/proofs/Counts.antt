@@ -105,7 +105,8 @@ number a c l =
 abbrev pub minus_zero_lem : Float
 minus_zero_lem = fin true 0 (pos 0)
 
-pub minus_zero_or_fraction : (P : Float → Type 0) → P minus_zero_lem → ((x : Float) → Fraction false x (count x) unit → P x)
+pub minus_zero_or_fraction : (P : Float → Type 0) → P minus_zero_lem →
+    ((x : Float) → Fraction false x (count x) unit → P x)
     → (x : Float) → T (fits binary64 x) → T (finite x) → T (le +0 x) → P x
 unfolding le of_bits
 minus_zero_or_fraction P z p nan t i h = absurd i

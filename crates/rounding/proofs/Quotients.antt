@@ -74,7 +74,8 @@ div_units {f} {u} {a = a} {b} S j B X Y k l =
 
 -- ---- -0 divided is -0
 
-pub minus_zero_over : {y : Float} {b : ℕ} → 0 < b → Fraction false y b unit → div binary64 minus_zero_lem y ≡ minus_zero_lem
+pub minus_zero_over : {y : Float} {b : ℕ} → 0 < b → Fraction false y b unit → div binary64 minus_zero_lem y
+    ≡ minus_zero_lem
 unfolding of_bits fits
 minus_zero_over {y} {b} B Y =
     whole_unique binary64 (div binary64 minus_zero_lem y) minus_zero_lem true 0 (div-fits binary64 minus_zero_lem y) tt

@@ -12,7 +12,8 @@ use borrow.Author.Tests.{leb-false, ltb-true, ltb-false}
 use Rattle.lists.specs.Lists.{iter}
 use Rattle.scene_format.specs.Format.{axes_of, model_number, header_width, particles_at, keeps_at, model_at, number_at}
 use Rattle.scene_format.specs.Format.{contact_width, boundary_contact_width, contact_count, contacts_start}
-use Rattle.scene_format.specs.Format.{boundary_record_width, boundary_contact_count, own_width, contacts_width, first_record}
+use Rattle.scene_format.specs.Format.{boundary_record_width, boundary_contact_count, own_width, contacts_width}
+use Rattle.scene_format.specs.Format.{first_record}
 use Rattle.scene_format.specs.Format.{next_record, model_end, first_head, head_at, counts_of, Location}
 use Rattle.scene_format.specs.Within.{ModelsWithin}
 use Rattle.scene_format.specs.declared.Kind.{Kind}
@@ -64,7 +65,8 @@ module _ (b : List ℕ) where
   names-steps κ w n = parts-steps w (name-steps κ w) n
 
   pub record_names-steps : (κ : Kind) (head : ℕ)
-      → Steps (record_names_of κ b head) (next_record κ b head) (λ at. RecordNamed κ b (record { head = head; at = at }))
+      → Steps (record_names_of κ b head) (next_record κ b head)
+      (λ at. RecordNamed κ b (record { head = head; at = at }))
   unfolding record_names_of next_record own_width contacts_width RecordNamed
   record_names-steps Fluid head at =
       restated

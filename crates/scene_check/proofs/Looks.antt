@@ -54,7 +54,8 @@ module _ (b counts : List ℕ) (w n from : ℕ) where
   looked_up_to wide q k p e = rw (sym q, e, stopped_at w n from wide k (ap DanglingContact p))
 
 -- the looks in plain words, from the answer alone
-pub looks_told : (b counts : List ℕ) (w n from : ℕ) → name_width ≤ w → LooksTold w n from (names_looked b counts w n from)
+pub looks_told : (b counts : List ℕ) (w n from : ℕ) → name_width ≤ w →
+    LooksTold w n from (names_looked b counts w n from)
 unfolding names_looked looks_of
 looks_told b counts w n from wide =
     record {

@@ -18,16 +18,19 @@ use Rattle.math.specs.Vector.{Axes}
 use Rattle.math.proofs.Vectors.{plane_or_space}
 use Rattle.scene_format.specs.Bytes.{Bytes, byte_at, be16_at, be32_at, be64_at, double_width, double_at, vector_at}
 use Rattle.scene_format.specs.Format.{axes_of, vector_width, min_pressure_iter_offset, max_pressure_iter_offset}
-use Rattle.scene_format.specs.Format.{total_step_size_offset, remaining_time_offset, max_density_error_offset, gravity_offset}
+use Rattle.scene_format.specs.Format.{total_step_size_offset, remaining_time_offset, max_density_error_offset}
+use Rattle.scene_format.specs.Format.{gravity_offset}
 use Rattle.scene_format.specs.Format.{header_width, keeps_at, weight_offset, gradient_offset, contact_width}
 use Rattle.scene_format.specs.Format.{boundary_contact_width, velocity_offset, acceleration_offset, volume_offset}
-use Rattle.scene_format.specs.Format.{warm_pressure_offset, contact_count_offset, record_width, contact_count, force_offset}
+use Rattle.scene_format.specs.Format.{warm_pressure_offset, contact_count_offset, record_width, contact_count}
+use Rattle.scene_format.specs.Format.{force_offset}
 use Rattle.scene_format.specs.Format.{boundary_count_offset, boundary_record_width, boundary_contact_count, own_width}
 use Rattle.scene_format.specs.Format.{contacts_width, next_record, starts_of, Location, location_of}
 use Rattle.scene_format.proofs.Forms.{axes_of_lem}
 use Rattle.scene_format.specs.Scene as Scene
 use Rattle.scene_format.specs.Scene.{fluid_size, boundary_size}
-use Rattle.scene_format.specs.SceneOf.{target_at, contact_at, contact_list, fluid_particle_at, force_at, boundary_weights}
+use Rattle.scene_format.specs.SceneOf.{target_at, contact_at, contact_list, fluid_particle_at, force_at}
+use Rattle.scene_format.specs.SceneOf.{boundary_weights}
 use Rattle.scene_format.specs.SceneOf.{boundary_particle_at, header_of, scene_of}
 use Rattle.scene_format.specs.declared.Kind.{Kind}
 use Rattle.scene_format.specs.declared.Kind.TheVariants.{Fluid, Boundary}
@@ -90,7 +93,8 @@ module _ {b b' : List ℕ} where
   same_contacts d starts m s h =
       table_same m _ _
       (λ k l. same_contact d starts
-      (same_part s (contact_width d * k) (contact_width d) (omega (arith, rows_apart (contact_width d) l))) (omega arith))
+      (same_part s (contact_width d * k) (contact_width d) (omega (arith, rows_apart (contact_width d) l)))
+      (omega arith))
 
   -- of boundary particles: the weights
   same_weights : {at at' n : ℕ} (m : ℕ) → SameBytes b at b' at' n → boundary_contact_width * m ≤ n
@@ -98,7 +102,8 @@ module _ {b b' : List ℕ} where
   same_weights m s h =
       table_same m _ _
       (λ j l. same_double
-      (same_part (same_part s (boundary_contact_width * j) boundary_contact_width (omega arith)) weight_offset double_width
+      (same_part (same_part s (boundary_contact_width * j) boundary_contact_width (omega arith)) weight_offset
+      double_width
       (omega arith)) (omega arith))
 
 -- ---- records
@@ -135,7 +140,8 @@ same_force zero a s h = refl
 same_force {b} (suc k) a s h = rw (← a) (same_vector (axes_of b) s (omega (arith, mul-suc (axes_of b) k)))
 
 -- the bytes of a force are no whole number of contacts, so a record with a force is never as long as one without
-no_contacts : {d : ℕ} → Axes d → (c c' : ℕ) → boundary_contact_width * c ≡ vector_width d + boundary_contact_width * c' → ⊥
+no_contacts : {d : ℕ} → Axes d → (c c' : ℕ) → boundary_contact_width * c ≡ vector_width d + boundary_contact_width
+    * c' → ⊥
 no_contacts axes c c' e =
     ⊎_elim (λ f. omega (arith, rw f at e)) (λ f. omega (arith, rw f at e)) (plane_or_space axes)
 
@@ -246,7 +252,8 @@ module _ {b b' : List ℕ} (shape : SameShape b b') where
       (λ l. particle_beyond (scene_of b) i l ∙ sym (particle_beyond (scene_of b') i (rw same_fluid_size at l)))
 
   pub same_boundary : Bytes b → Bytes b' → (j : ℕ)
-      → (j < boundary_size (scene_of b) → SameRecord Boundary b (location_of Boundary b j) b' (location_of Boundary b' j))
+      → (j < boundary_size (scene_of b) → SameRecord Boundary b (location_of Boundary b j) b'
+      (location_of Boundary b' j))
       → Scene.boundary (scene_of b) j ≡ Scene.boundary (scene_of b') j
   same_boundary y y' j h =
       below_or_not j (boundary_size (scene_of b))

@@ -45,7 +45,8 @@ module _ (b : List ℕ) {e : ℕ} (q : checked b ≡ At e) where
       let r = met Fluid i h in
       record { particle = particle_at b i h; density0 = r.0; own = r.1; targets = λ κ k l. target_ok (r.2 κ k l) }
 
-  pub boundary-particle_ok : (j : ℕ) → j < boundary_size (scene_of b) → BoundaryParticleOk b (location_of Boundary b j) j
+  pub boundary-particle_ok : (j : ℕ) → j < boundary_size (scene_of b) →
+      BoundaryParticleOk b (location_of Boundary b j) j
   unfolding size_of HeadOk RecordOk
   boundary-particle_ok j h = record { boundary = boundary_at b j h; own = (met Boundary j h).1 }
 

@@ -17,7 +17,8 @@ use Rattle.scene_format.specs.declared.Walk.TheVariants.{At}
 
 -- one contact of w bytes
 unfoldable pub name : List ℕ → List ℕ → ℕ → ℕ → Walk
-name b counts w at = refused_if (leb (get_or counts (model_at b at) 0) (number_at b at)) (DanglingContact at) (At (at + w))
+name b counts w at = refused_if (leb (get_or counts (model_at b at) 0) (number_at b at)) (DanglingContact at)
+    (At (at + w))
 
 -- a list of n contacts
 unfoldable pub names : List ℕ → List ℕ → ℕ → ℕ → ℕ → Walk

@@ -26,7 +26,8 @@ module _ (b : List ℕ) where
   unfolding double refused_if choose
   double_there ok = field_there b _ _ _ ok.present ∙ rw (ne_eqb _ _ ok.finite)
 
-  pub numbers_found : FiniteAt b total_step_size_offset → FiniteAt b remaining_time_offset → FiniteAt b max_density_error_offset
+  pub numbers_found : FiniteAt b total_step_size_offset → FiniteAt b remaining_time_offset →
+      FiniteAt b max_density_error_offset
       → header_read b ≡ Numbers (header_numbers_of b)
   unfolding header_read header_numbers_of numbers_of read_as
   numbers_found x y z = rw (double_there x, double_there y, double_there z)

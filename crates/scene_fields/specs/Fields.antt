@@ -64,7 +64,8 @@ half_byte ModelCount x at onward = refused_if (ltb most_models x) (TooManyModels
 unfoldable pub halves : List ℕ → Half → Half → ℕ → Walk
 halves b upper lower =
     field b 1
-    (λ at. half_byte upper (upper_half (byte_at b at)) at (half_byte lower (lower_half (byte_at b at)) at (At (at + 1))))
+    (λ at. half_byte upper (upper_half (byte_at b at)) at
+    (half_byte lower (lower_half (byte_at b at)) at (At (at + 1))))
 
 -- nothing follows
 unfoldable pub ended : List ℕ → ℕ → Walk

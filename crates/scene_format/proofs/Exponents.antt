@@ -20,7 +20,8 @@ behind_modulus = 0x1_0000_0000_0000
 front : (x rest : ℕ) → rest < behind_modulus → (x * behind_modulus + rest) / fraction_modulus ≡ x / front_modulus
 front x rest h = omega arith
 
-pub exponent_front : (b : List ℕ) (at : ℕ) → Bytes b → be16_at b at / front_modulus % exponent_modulus ≡ exponent_at b at
+pub exponent_front : (b : List ℕ) (at : ℕ) → Bytes b → be16_at b at / front_modulus % exponent_modulus ≡ exponent_at b
+    at
 unfolding be64_at
 exponent_front b at bytes =
     let third = byte_at b (at + 2) * 256 + byte_at b (at + 3) in

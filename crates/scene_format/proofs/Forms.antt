@@ -52,7 +52,8 @@ pub vector_at_lem : {d n : ℕ} → d ≡ n → (b : List ℕ) (at : ℕ) → Ax
 vector_at_lem e b at h f = rw (← e) (h, f)
 
 -- both contact lists of a fluid record end within the bytes, where the record does
-pub first-within : (at d g : ℕ) {l counts width f n : ℕ} → counts ≡ contact_count_offset Fluid d → width ≡ contact_width d
+pub first-within : (at d g : ℕ) {l counts width f n : ℕ} → counts ≡ contact_count_offset Fluid d →
+    width ≡ contact_width d
     → n ≡ f → at + record_width d + contact_width d * (f + g) ≤ l → at + (counts + 2) + width * n ≤ l
 first-within at d g e q r h = rw (e, q, r) (omega (arith, h))
 

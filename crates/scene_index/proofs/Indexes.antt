@@ -12,7 +12,8 @@ use Rattle.scene_check.proofs.Accepted.{accepted}
 use Rattle.scene_check.proofs.Checks.{fluid-number, boundary-number, fluid-total, boundary-total}
 use Rattle.scene_check.proofs.Records.{fluid_size_few, boundary_size_few}
 use Rattle.scene_check.specs.Check.{Passed}
-use Rattle.scene_format.specs.Format.{most_models, most_of_a_kind, model_number, particles_at, model_locations, locations_of}
+use Rattle.scene_format.specs.Format.{most_models, most_of_a_kind, model_number, particles_at, model_locations}
+use Rattle.scene_format.specs.Format.{locations_of}
 use Rattle.scene_format.specs.Scene.{fluid_size, boundary_size, size_of}
 use Rattle.scene_format.specs.SceneOf.{scene_of}
 use Rattle.scene_format.specs.declared.Kind.{Kind}

@@ -74,13 +74,15 @@ module _ (κ : Kind) (b : List ℕ) where
         let q = ap (before ns) e in
         omega (arith, sum_more (λ v. get_or ns v 0) (suc w) (n - suc w), q, before_all ns, size_sum b κ)
 
-pub boundaries_before : (b : List ℕ) → before (counts_of Boundary b) (model_number Boundary b) ≡ boundary_size (scene_of b)
+pub boundaries_before : (b : List ℕ) → before (counts_of Boundary b) (model_number Boundary b) ≡ boundary_size
+    (scene_of b)
 unfolding size_of
 boundaries_before b = all_before Boundary b
 
 -- boundary w of a scene that passed the check
 pub boundary_run : {b : List ℕ} {layout : Layout} → Passed b layout → (w : ℕ) → w < model_number Boundary b
-    → BoundaryRun b (before (counts_of Boundary b) w) (get_or (counts_of Boundary b) w 0) (get_or (keeps_of Boundary b) w 0)
+    → BoundaryRun b (before (counts_of Boundary b) w) (get_or (counts_of Boundary b) w 0)
+    (get_or (keeps_of Boundary b) w 0)
 unfolding size_of
 boundary_run {b} passed w h =
     record {
@@ -93,7 +95,8 @@ boundary_run {b} passed w h =
 
 -- the same, of what a loop has found and read at its head
 pub turn_run : {b : List ℕ} {layout : Layout} → Passed b layout → {heads : List ℕ} {w : ℕ} → Turn Boundary b heads w
-    → {first count keeps : ℕ} → first ≡ before (counts_of Boundary b) w → count ≡ particles_at Boundary b (get_or heads w 0)
+    → {first count keeps : ℕ} → first ≡ before (counts_of Boundary b) w → count ≡ particles_at Boundary b
+    (get_or heads w 0)
     → keeps ≡ keeps_at b (get_or heads w 0)
     → BoundaryRun b first count keeps
 turn_run passed {heads} {w} turn f c k = rw (f, c ∙ turn.count, k ∙ turn.keeps) (boundary_run passed w turn.below)

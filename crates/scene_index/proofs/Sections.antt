@@ -133,7 +133,8 @@ module _ {b index : List ℕ} (ix : Indexed b index) where
   behind_fluids = behind_meeting 0 (bases_at Fluid b) (kind_bases Fluid b) _ behind_starts (length_bases b Fluid)
 
   behind_bases : Part 0 (records_at Fluid b) (entries_of Offset Fluid b ++ heads_on b) index
-  behind_bases = behind_meeting 0 (bases_at Boundary b) (kind_bases Boundary b) _ behind_fluids (length_bases b Boundary)
+  behind_bases = behind_meeting 0 (bases_at Boundary b) (kind_bases Boundary b) _ behind_fluids
+      (length_bases b Boundary)
 
   behind_records : Part 0 (heads_at b) (entries_of Head Fluid b ++ entries_of Offset Boundary b) index
   behind_records =

@@ -12,7 +12,8 @@ use Rattle.scene_check.specs.Accepted.{TargetOk}
 use Rattle.scene_check.proofs.Accepted.{accepted}
 use Rattle.scene_check.proofs.Records.{boundary-particle_ok}
 use Rattle.scene_format.specs.Bytes.{AllFinite, vector_at}
-use Rattle.scene_format.specs.Format.{axes_of, most_of_a_kind, nameable_particles, counts_of, starts_of, Location, nowhere}
+use Rattle.scene_format.specs.Format.{axes_of, most_of_a_kind, nameable_particles, counts_of, starts_of, Location}
+use Rattle.scene_format.specs.Format.{nowhere}
 use Rattle.scene_format.specs.Format.{locations_of, location_of}
 use Rattle.scene_format.specs.Scene.{fluid_size, boundary_size, size_of, boundary}
 use Rattle.scene_format.specs.SceneOf.{target_at, boundary_particle_at, scene_of}

@@ -11,7 +11,8 @@ use lib.Seq.{sets, length-sets}
 use Rattle.lists.specs.Lists.{table, trail}
 use Rattle.lists.proofs.Fills.{sets-append}
 use Rattle.lists.proofs.Numbering.{trail-table, trail_next}
-use Rattle.scene_format.specs.Format.{model_number, particles_at, first_record, next_record, model_end, first_head, head_at}
+use Rattle.scene_format.specs.Format.{model_number, particles_at, first_record, next_record, model_end, first_head}
+use Rattle.scene_format.specs.Format.{head_at}
 use Rattle.scene_format.specs.Format.{heads_of, Location, record_at, model_locations, locations_of}
 use Rattle.scene_format.specs.declared.Kind.{Kind}
 use Rattle.scene_layout.proofs.Locations.{length_model}
@@ -36,7 +37,8 @@ module _ (κ : Kind) (b : List ℕ) where
   unfolding locations_before
   locations_next m = trail_next (model_end κ b) (model_locations κ b) m (first_head κ b)
 
-  length_next : (m : ℕ) → length (locations_before (suc m)) ≡ length (locations_before m) + particles_at κ b (head_at κ b m)
+  length_next : (m : ℕ) → length (locations_before (suc m)) ≡ length (locations_before m) + particles_at κ b
+      (head_at κ b m)
   length_next m =
       ap length (locations_next m)
       ∙ length-append (locations_before m) _

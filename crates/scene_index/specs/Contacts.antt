@@ -5,7 +5,8 @@ use Rattle.lists.specs.Lists.{fold}
 use Rattle.math.specs.Vector.{Axes}
 use Rattle.scene_check.specs.Accepted.{TargetOk}
 use Rattle.scene_format.specs.Bytes.{double_at}
-use Rattle.scene_format.specs.Format.{name_width, density0_offset, contact_width, contact_count, contacts_start, starts_of}
+use Rattle.scene_format.specs.Format.{name_width, density0_offset, contact_width, contact_count, contacts_start}
+use Rattle.scene_format.specs.Format.{starts_of}
 use Rattle.scene_format.specs.Format.{Location}
 use Rattle.scene_format.specs.Scene.{Contact}
 use Rattle.scene_format.specs.SceneOf.{contact_list}

@@ -116,7 +116,8 @@ fn fill_blocks(start: usize, k: usize, index: &mut [usize])
 // The bases of one kind, from element k on.
 fn fill_bases(scene: &[u8], kind: Kind, models: Models, k: usize, index: &mut [usize])
     requires models_within { ModelsWithin kind scene.now × (models ≡ layout_models kind scene.now) }
-    requires scene_bound { (size_of kind (scene_of scene.now) ≤ most_of_a_kind) × (k + bases_length kind scene.now ≤ length index.old) }
+    requires scene_bound { (size_of kind (scene_of scene.now) ≤ most_of_a_kind)
+        × (k + bases_length kind scene.now ≤ length index.old) }
     ensures { index.new ≡ sets index.old k (kind_bases kind scene.now) }
 {
     let heads = models.heads;

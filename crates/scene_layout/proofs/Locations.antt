@@ -10,8 +10,10 @@ use Rattle.lists.proofs.Numbering.{length-trail, trail_at, get_d_map, sum_few, N
 use Rattle.lists.proofs.Numbering.{flatten_at}
 use Rattle.scene_format.specs.Format.{most_models, most_particles, most_of_a_kind, rule_of, criterion_of, summation_of}
 use Rattle.scene_format.specs.Format.{model_number, particles_at, keeps_at}
-use Rattle.scene_format.specs.Format.{first_record, next_record, model_end, first_head, head_at, heads_of, counts_of, keeps_of}
-use Rattle.scene_format.specs.Format.{starts_of, Location, record_at, model_locations, locations_of, nowhere, location_of}
+use Rattle.scene_format.specs.Format.{first_record, next_record, model_end, first_head, head_at, heads_of, counts_of}
+use Rattle.scene_format.specs.Format.{keeps_of}
+use Rattle.scene_format.specs.Format.{starts_of, Location, record_at, model_locations, locations_of, nowhere}
+use Rattle.scene_format.specs.Format.{location_of}
 use Rattle.scene_format.specs.Scene as Scene
 use Rattle.scene_format.specs.Scene.{no_fluid_particle, no_boundary_particle, fluid_size, boundary_size, size_of}
 use Rattle.scene_format.specs.SceneOf.{fluid_particle_at, boundary_particle_at, header_of, scene_of}
@@ -26,7 +28,8 @@ module _ (κ : Kind) (b : List ℕ) where
   unfolding model_locations
   length_model head = simp (length-map, length-trail)
 
-  model_at : (head j : ℕ) → j < particles_at κ b head → get_or (model_locations κ b head) j nowhere ≡ record_at κ b head j
+  model_at : (head j : ℕ) → j < particles_at κ b head → get_or (model_locations κ b head) j nowhere ≡ record_at κ b
+      head j
   unfolding model_locations
   model_at head j h =
       let t = trail (particles_at κ b head) (next_record κ b head) (first_record κ head) in
@@ -147,7 +150,8 @@ module _ (b : List ℕ) where
 
   -- what the scene says of a number in range
   pub particle_at : (i : ℕ) → i < fluid_size (scene_of b)
-      → Scene.particle (scene_of b) i ≡ fluid_particle_at (starts_of Fluid b) (starts_of Boundary b) b (location_of Fluid b i)
+      → Scene.particle (scene_of b) i ≡ fluid_particle_at (starts_of Fluid b) (starts_of Boundary b) b
+      (location_of Fluid b i)
   unfolding Scene.particle scene_of
   particle_at i h = get_d_map _ (locations_of Fluid b) i nowhere no_fluid_particle (rw fluid_size_lem at h)
 

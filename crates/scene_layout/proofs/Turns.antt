@@ -5,7 +5,8 @@ use mathlib.Core.Path.{◌≡◌, sym, ap, ◌∙◌}
 use mathlib.Core.List.{List}
 use native.Mathlib.Omega.{arith}
 use lib.ListN.{get_or}
-use Rattle.scene_format.specs.Format.{most_models, model_number, particles_at, keeps_at, head_at, heads_of, counts_of, keeps_of}
+use Rattle.scene_format.specs.Format.{most_models, model_number, particles_at, keeps_at, head_at, heads_of, counts_of}
+use Rattle.scene_format.specs.Format.{keeps_of}
 use Rattle.scene_format.specs.Within.{ModelWithin, ModelsWithin}
 use Rattle.scene_format.specs.declared.Kind.{Kind}
 use Rattle.scene_layout.specs.Layout.{padded, layout_models}

@@ -15,7 +15,8 @@ use Rattle.math.specs.Vector.{space}
 use Rattle.scene_format.specs.Bytes.{Bytes}
 use Rattle.scene_format.specs.Format.{axes_of, most_particles, most_of_a_kind, model_number, particles_at, keeps_at}
 use Rattle.scene_format.specs.Format.{first_record}
-use Rattle.scene_format.specs.Format.{next_record, model_end, first_head, heads_of, counts_of, Location, model_locations}
+use Rattle.scene_format.specs.Format.{next_record, model_end, first_head, heads_of, counts_of, Location}
+use Rattle.scene_format.specs.Format.{model_locations}
 use Rattle.scene_format.specs.Format.{locations_of, rule_of, summation_of}
 use Rattle.scene_format.specs.Scene.{fluid_size, boundary_size}
 use Rattle.scene_format.specs.SceneOf.{boundary_particle_at, header_of, scene_of}
@@ -124,7 +125,8 @@ answers_few d {w} {n} e h l = rw e (omega (arith, mul-le-mul_right n h))
 module _ (b : List ℕ) where
   -- by whether its boundary keeps forces
   pub boundary_width : Bytes b → (p : Location)
-      → boundary_answer_width (axes_of b) (boundary_particle_at b p) ≡ answer_width (axes_of b) Boundary (keeps_at b p.head)
+      → boundary_answer_width (axes_of b) (boundary_particle_at b p) ≡ answer_width (axes_of b) Boundary
+      (keeps_at b p.head)
   unfolding boundary_answer_width boundary_particle_at
   boundary_width y p =
       ap (answer_width (axes_of b) Boundary) (kept_or_not (keeps_at b p.head) (keeps_below b y p.head))
@@ -153,17 +155,20 @@ module _ (b : List ℕ) where
   answers_needed_lem y = rw (boundary_answers y)
 
   work_needed_lem : work_needed (scene_of b)
-      ≡ (work_width (axes_of b) + added_width (summation_of (rule_of b))) * fluid_size (scene_of b) + boundary_size (scene_of b)
+      ≡ (work_width (axes_of b) + added_width (summation_of (rule_of b))) * fluid_size (scene_of b) + boundary_size
+      (scene_of b)
   unfolding work_needed header_of scene_of
   work_needed_lem = refl
 
   -- whatever the summation is
-  pub work_least : work_width (axes_of b) * fluid_size (scene_of b) + boundary_size (scene_of b) ≤ work_needed (scene_of b)
+  pub work_least : work_width (axes_of b) * fluid_size (scene_of b) + boundary_size (scene_of b) ≤ work_needed
+      (scene_of b)
   work_least =
       rw work_needed_lem
       (by_width (axes_of b) (summation_of (rule_of b)) (fluid_size (scene_of b)) (boundary_size (scene_of b))).0
 
-  pub work_most : work_needed (scene_of b) ≤ (work_width (axes_of b) + 1) * fluid_size (scene_of b) + boundary_size (scene_of b)
+  pub work_most : work_needed (scene_of b) ≤ (work_width (axes_of b) + 1) * fluid_size (scene_of b) + boundary_size
+      (scene_of b)
   work_most =
       rw work_needed_lem
       (by_width (axes_of b) (summation_of (rule_of b)) (fluid_size (scene_of b)) (boundary_size (scene_of b))).1
@@ -181,7 +186,8 @@ module _ {b : List ℕ} {layout : Layout} (passed : Passed b layout) where
   pub boundary_few : (m : ℕ) → m < model_number Boundary b → get_or (counts_of Boundary b) m 0 ≤ most_particles
   boundary_few m h = rw (counts_at Boundary b m h) ((accepted b passed.walk).fields.models Boundary m h).few
 
-  pub lengths_are : {answer work behind width : ℕ} → answer ≡ fluid_answer_width (axes_of b) → work ≡ work_width (axes_of b)
+  pub lengths_are : {answer work behind width : ℕ} → answer ≡ fluid_answer_width (axes_of b) →
+      work ≡ work_width (axes_of b)
       → behind ≡ answers_in Boundary b → width ≡ added_width (summation_of (rule_of b))
       → ◌≡◌ {A = Lengths}
       (record {
@@ -190,7 +196,16 @@ module _ {b : List ℕ} {layout : Layout} (passed : Passed b layout) where
       })
       (lengths_needed (scene_of b))
   lengths_are a w e q =
-      rw (a, w, e, q, fluid-total passed, boundary-total passed, ← work_needed_lem b, ← answers_needed_lem b passed.bytes)
+      rw (
+        a,
+        w,
+        e,
+        q,
+        fluid-total passed,
+        boundary-total passed,
+        ← work_needed_lem b,
+        ← answers_needed_lem b passed.bytes,
+      )
 
   pub accepted_needs : {l : Lengths} → l ≡ lengths_needed (scene_of b) → Lists l ≡ needs_of b
   unfolding needs_of needs_after

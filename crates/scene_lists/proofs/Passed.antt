@@ -91,7 +91,8 @@ list_named FluidBoundary b p h = h Boundary
 list_named BoundaryBoundary b p h = h
 
 module _ (b : List ℕ) (c : Contacts) (m j : ℕ) where
-  pub list_passed_lem : {end : ℕ} → fields b ≡ walk.At end → list_there b c m j ≡ true → ListNamed c b (owner_at b c m j)
+  pub list_passed_lem : {end : ℕ} → fields b ≡ walk.At end → list_there b c m j ≡ true →
+      ListNamed c b (owner_at b c m j)
       → list_answer b c m j ≡ Checked (list_passed c b (owner_at b c m j))
   unfolding list_looked
   list_passed_lem q t h =

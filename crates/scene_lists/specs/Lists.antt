@@ -2,8 +2,10 @@
 use Rattle.std.specs.Prelude.{ℕ, ◌+◌, Bool, ◌&&◌, List, ltb}
 use Rattle.lists.specs.Lists.{choose}
 use Rattle.scene_walk.specs.Walk.{fields}
-use Rattle.scene_format.specs.Format.{axes_of, model_number, particles_at, keeps_at, contact_width, boundary_contact_width}
-use Rattle.scene_format.specs.Format.{contact_count, contacts_start, boundary_record_width, boundary_contact_count, head_at}
+use Rattle.scene_format.specs.Format.{axes_of, model_number, particles_at, keeps_at, contact_width}
+use Rattle.scene_format.specs.Format.{boundary_contact_width}
+use Rattle.scene_format.specs.Format.{contact_count, contacts_start, boundary_record_width, boundary_contact_count}
+use Rattle.scene_format.specs.Format.{head_at}
 use Rattle.scene_format.specs.Format.{counts_of, Location, record_at}
 use Rattle.scene_format.specs.declared.Kind.{Kind}
 use Rattle.scene_format.specs.declared.Kind.TheVariants.{Fluid, Boundary}
@@ -53,7 +55,8 @@ list_looked c b p = names_looked b (counts_of (named_of c) b) (list_width c b) (
 
 -- there is such a list of particle j of model m, in this record
 unfoldable pub list_there : List ℕ → Contacts → ℕ → ℕ → Bool
-list_there b c m j = ltb m (model_number (owner_of c) b) && ltb j (particles_at (owner_of c) b (head_at (owner_of c) b m))
+list_there b c m j = ltb m (model_number (owner_of c) b)
+    && ltb j (particles_at (owner_of c) b (head_at (owner_of c) b m))
 
 abbrev pub owner_at : List ℕ → Contacts → ℕ → ℕ → Location
 owner_at b c m j = record_at (owner_of c) b (head_at (owner_of c) b m) j

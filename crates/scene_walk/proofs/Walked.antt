@@ -13,7 +13,8 @@ use Rattle.scene_fields.specs.Fields.{◌▹◌, times, plain, double}
 use Rattle.scene_format.specs.Format.{axes_of, most_models, most_particles, model_number, header_width, density0_offset}
 use Rattle.scene_format.specs.Format.{particles_at, keeps_at, weight_offset, contact_width, boundary_contact_width}
 use Rattle.scene_format.specs.Format.{record_width, contact_count, contacts_start, boundary_record_width}
-use Rattle.scene_format.specs.Format.{boundary_contact_count, own_width, contacts_width, first_record, next_record, model_end}
+use Rattle.scene_format.specs.Format.{boundary_contact_count, own_width, contacts_width, first_record, next_record}
+use Rattle.scene_format.specs.Format.{model_end}
 use Rattle.scene_format.specs.Format.{first_head, head_at, Location, record_at, header_doubles, contact_doubles}
 use Rattle.scene_format.specs.Format.{boundary_contact_doubles, record_doubles, boundary_record_doubles}
 use Rattle.scene_format.proofs.Forms.{axes_of_lem}
@@ -73,7 +74,8 @@ module _ (b : List ℕ) where
       (ContactsOk (axes_of b) b n)
   contacts_steps n = parts-steps (contact_width (axes_of b)) contact-steps n
 
-  contacts_end : (n at : ℕ) → at ≤ length b → ContactsOk (axes_of b) b n at → at + contact_width (axes_of b) * n ≤ length b
+  contacts_end : (n at : ℕ) → at ≤ length b → ContactsOk (axes_of b) b n at → at + contact_width (axes_of b) * n
+      ≤ length b
   contacts_end n at h c =
       parts_end (contact_width (axes_of b)) n at (length b) h
       (λ k l. omega (arith, last_present (c k l).gradient))
@@ -104,7 +106,8 @@ module _ (b : List ℕ) where
 
   fluid_record_leads : (at : ℕ)
       → Leads (fluid_record b at)
-      (at + record_width (axes_of b) + contact_width (axes_of b) * (contact_count Fluid b at + contact_count Boundary b at))
+      (at + record_width (axes_of b) + contact_width (axes_of b)
+      * (contact_count Fluid b at + contact_count Boundary b at))
       (FluidRecordOk b at)
   unfolding fluid_record
   fluid_record_leads at =
@@ -139,7 +142,8 @@ module _ (b : List ℕ) where
       (λ h. (omega arith, (h.0, omega (arith, h.1))))
 
   boundary-contact-steps :
-      Steps (contact boundary_contact_doubles b) (λ at. at + boundary_contact_width) (λ at. FiniteAt b (at + weight_offset))
+      Steps (contact boundary_contact_doubles b) (λ at. at + boundary_contact_width)
+      (λ at. FiniteAt b (at + weight_offset))
   unfolding contact
   boundary-contact-steps at =
       restated (plain-steps b _ at then doubles-steps b 1)

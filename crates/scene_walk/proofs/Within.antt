@@ -5,7 +5,8 @@ use mathlib.Core.Path.{◌≡◌}
 use mathlib.Core.List.{List}
 use native.Mathlib.Omega.{arith}
 use lib.ListN.{length}
-use Rattle.scene_format.specs.Format.{axes_of, header_width, count_width, own_width, contacts_width, first_record, next_record}
+use Rattle.scene_format.specs.Format.{axes_of, header_width, count_width, own_width, contacts_width, first_record}
+use Rattle.scene_format.specs.Format.{next_record}
 use Rattle.scene_format.specs.Format.{Location}
 use Rattle.scene_format.specs.Within.{RecordWithin, ModelWithin, ModelsWithin}
 use Rattle.scene_format.specs.declared.Kind.{Kind}

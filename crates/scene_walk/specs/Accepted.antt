@@ -4,9 +4,12 @@ use Rattle.std.specs.Prelude.{ℕ, ◌+◌, ◌*◌, ◌<◌, ◌≤◌, ◌≡�
 use Rattle.scene_format.specs.Bytes.{FiniteAt, AllFinite}
 use Rattle.scene_format.specs.Format.{axes_of, most_models, version_of, version_known, rule_of, most_rule}
 use Rattle.scene_format.specs.Format.{model_number}
-use Rattle.scene_format.specs.Format.{total_step_size_offset, remaining_time_offset, max_density_error_offset, gravity_offset}
-use Rattle.scene_format.specs.Format.{header_width, weight_offset, gradient_offset, contact_width, boundary_contact_width}
-use Rattle.scene_format.specs.Format.{velocity_offset, acceleration_offset, volume_offset, warm_pressure_offset, record_width}
+use Rattle.scene_format.specs.Format.{total_step_size_offset, remaining_time_offset, max_density_error_offset}
+use Rattle.scene_format.specs.Format.{gravity_offset}
+use Rattle.scene_format.specs.Format.{header_width, weight_offset, gradient_offset, contact_width}
+use Rattle.scene_format.specs.Format.{boundary_contact_width}
+use Rattle.scene_format.specs.Format.{velocity_offset, acceleration_offset, volume_offset, warm_pressure_offset}
+use Rattle.scene_format.specs.Format.{record_width}
 use Rattle.scene_format.specs.Format.{contact_count, contacts_start, force_offset, boundary_record_width}
 use Rattle.scene_format.specs.Format.{boundary_contact_count}
 use Rattle.scene_format.specs.declared.Kind.{Kind}
@@ -51,4 +54,5 @@ pub record BoundaryRecordOk (b : List ℕ) (k at : ℕ) : Type 0 where
   pub count : at + boundary_record_width (axes_of b) k ≤ length b
   pub weights : (j : ℕ) → j < boundary_contact_count b k at
       → FiniteAt b (at + boundary_record_width (axes_of b) k + boundary_contact_width * j + weight_offset)
-  pub ends : at + boundary_record_width (axes_of b) k + boundary_contact_width * boundary_contact_count b k at ≤ length b
+  pub ends : at + boundary_record_width (axes_of b) k + boundary_contact_width * boundary_contact_count b k at
+      ≤ length b

@@ -42,9 +42,11 @@ unfolding Lists.choose Lists.iter Lists.trail
     Format.first_head Format.heads_of Format.counts_of
     Fields.◌▹◌ Fields.times Fields.refused_if Fields.field Fields.plain Fields.double Fields.count Fields.half_byte
     Fields.halves Fields.ended
-    walk.header walk.contact walk.fluid_record walk.boundary_record walk.record_of walk.head_of walk.model_of walk.models_of
+    walk.header walk.contact walk.fluid_record walk.boundary_record walk.record_of walk.head_of walk.model_of
+    walk.models_of
     walk.fields
-    check.name check.names check.record_names_of check.model_names_of check.models_names_of check.all_names check.checked
+    check.name check.names check.record_names_of check.model_names_of check.models_names_of check.all_names
+    check.checked
 walking = 0
 
 -- the check of one contact list, behind that walk
@@ -57,7 +59,8 @@ looking = 0
 -- a step's values, behind the check
 unfoldable pub stepping : ℕ
 unfolding zip_with
-    Ieee.add Ieee.sub Ieee.mul Ieee.div Ieee.neg Ieee.lt Ieee.le Ieee.eq Ieee.is_nan Ieee.of_int Ieee.of_bits Ieee.to_bits
+    Ieee.add Ieee.sub Ieee.mul Ieee.div Ieee.neg Ieee.lt Ieee.le Ieee.eq Ieee.is_nan Ieee.of_int Ieee.of_bits
+    Ieee.to_bits
     Lists.fold Lists.sum Lists.table Lists.starts_from
     Real.magnitude
     Vector.◌⊞◌ Vector.◌⊟◌ Vector.◌⊡◌ Vector.added Vector.◌·◌
@@ -80,7 +83,8 @@ unfolding zip_with
     Iteration.averages Iteration.first_error Iteration.with_average Iteration.error_of Iteration.iteration
     Step.first_pressures Step.iterate_from Step.solution Step.pressure_share Step.boundary_acceleration
     Step.final_velocity_change Step.new_velocity Step.new_position Step.fluid_answer Step.force_from Step.boundary_force
-    Step.boundary_answer Step.answers_from Step.answers_of Step.report_of Step.first_zero Step.unless_zero Step.scene_answer
+    Step.boundary_answer Step.answers_from Step.answers_of Step.report_of Step.first_zero Step.unless_zero
+    Step.scene_answer
     Answer.after_check Answer.step_answer Answer.is_done Answer.answers_after Answer.clears_work Answer.work_after
     Row.report Row.coefficients Row.after Row.called Row.iterations
 stepping = 0

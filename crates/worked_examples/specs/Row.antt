@@ -1,6 +1,7 @@
 -- What a worked example is, and what it says of the definitions. A double is given by its 64 bits, every not-a-number
 -- by 7FF8000000000000. Definitions only.
-use Rattle.std.specs.Prelude.{ℕ, zero, suc, ◌+◌, ◌-◌, ◌≡◌, Bool, false, List, [], ◌∷◌, ◌++◌, map, length, replicate, Float}
+use Rattle.std.specs.Prelude.{ℕ, zero, suc, ◌+◌, ◌-◌, ◌≡◌, Bool, false, List, [], ◌∷◌, ◌++◌, map, length, replicate}
+use Rattle.std.specs.Prelude.{Float}
 use Rattle.math.specs.Real.{bits}
 use Rattle.math.specs.Rows as math
 use Rattle.scene_format.specs.Scene.{Scene}

@@ -17,4 +17,5 @@ rows =
     map value math.rows
     ++ (map value sums.rows
     ++ (map value kernel.rows
-    ++ (map value board.rows ++ (refusal_rows ++ (look_rows ++ (starred ++ (refused_steps ++ (passed_over ++ further))))))))
+    ++ (map value board.rows ++ (refusal_rows ++ (look_rows
+    ++ (starred ++ (refused_steps ++ (passed_over ++ further))))))))

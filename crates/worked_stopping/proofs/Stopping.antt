@@ -7,7 +7,8 @@ use Rattle.worked_stopping.specs.Stopping.{ruled, scene_b2, limited, below_zero,
 use Rattle.worked_stopping.specs.Stopping.{nan_behind, nan_before, stopping}
 
 pub stopping_hold : All Holds stopping
-unfolding evaluation overflowing ruled scene_b2 limited below_zero thin quarter three_eighths alone nan_behind nan_before
+unfolding evaluation overflowing ruled scene_b2 limited below_zero thin quarter three_eighths alone nan_behind
+    nan_before
     stopping
 stopping_hold =
     refl and refl and refl and refl and refl and refl and refl and refl and refl and refl and refl and refl

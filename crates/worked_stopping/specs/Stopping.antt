@@ -104,7 +104,8 @@ stopping =
     (quarter_moves [])
     14
     -- no particles: +0
-    ∷ done (ruled 1 (header_b 0 1) (fluid bits·1 [] ∷ [])) (report (Settled (bits 0) false) 1 bits·1 bits·1 bits·-1) [] 0
+    ∷ done (ruled 1 (header_b 0 1) (fluid bits·1 [] ∷ [])) (report (Settled (bits 0) false) 1 bits·1 bits·1 bits·-1)
+    [] 0
     -- an average that is not a number: so is the error, the iteration does not settle, and nothing is passed over
     ∷ done nan_behind (report (RanOut (bits bits·nan) false) 1 bits·1 bits·1 bits·-1) (still 0 (still 0 lost)) 42
     ∷ iterated nan_before

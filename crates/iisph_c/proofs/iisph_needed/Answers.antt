@@ -1,7 +1,6 @@
 -- `iisph_c::iisph_needed` meets its contract: by the list's length, then by what is said of the scene. Assumes nothing.
 use native.Mathlib.Omega.{arith}
 use Rattle.iisph_c.proofs.Calls.{needs_short, needs_refused, needs_lists}
-use borrow.Author.Rules.{rules}
 use Rattle.iisph_c.proofs.iisph_needed.Goals as goal
 
 pub returns-then-counts-lt-COUNTS : goal.returns-then-counts-lt-COUNTS

@@ -2,7 +2,6 @@
 -- returned. Assumes nothing.
 use native.Mathlib.Omega.{arith}
 use Rattle.iisph_c.proofs.Kept.{clock_short, done_kept, not_done_kept}
-use borrow.Author.Rules.{rules}
 use Rattle.iisph_c.proofs.iisph_step_keeping.Goals as goal
 
 pub returns-then-clock-lt-CLOCK : goal.returns-then-clock-lt-CLOCK
@@ -18,4 +17,5 @@ returns-then-told-lt-TOO_SHORT c =
 pub returns-else-told-lt-TOO_SHORT : goal.returns-else-told-lt-TOO_SHORT
 returns-else-told-lt-TOO_SHORT c =
     let room = c.if-clock-lt-CLOCK.false in
-    not_done_kept _ _ _ _ _ _ (omega (arith, room)) c.iisph_step-told.ensures (omega (arith, c.if-told-lt-TOO_SHORT.false))
+    not_done_kept _ _ _ _ _ _ (omega (arith, room)) c.iisph_step-told.ensures
+    (omega (arith, c.if-told-lt-TOO_SHORT.false))

@@ -4,7 +4,6 @@ use mathlib.Core.Path.{refl}
 use native.Mathlib.Omega.{arith}
 use Rattle.iisph_c.proofs.Calls.{numbers_short_lent, counts_short_lent, answered_to, short_to}
 use Rattle.iisph_c.proofs.Calls.{index_after}
-use borrow.Author.Rules.{rules}
 use Rattle.iisph_c.proofs.iisph_step_lent.Goals as goal
 
 pub returns-then-numbers-lt-NUMBERS : goal.returns-then-numbers-lt-NUMBERS
@@ -18,8 +17,8 @@ pub returns-then-counts-lt-COUNTS : goal.returns-then-counts-lt-COUNTS
 returns-then-counts-lt-COUNTS c =
     record {
       lent_to =
-        counts_short_lent _ _ _ _ _ _ (omega (arith, c.if-numbers-lt-NUMBERS.false))
-        (omega (arith, c.if-counts-lt-COUNTS.true));
+          counts_short_lent _ _ _ _ _ _ (omega (arith, c.if-numbers-lt-NUMBERS.false))
+          (omega (arith, c.if-counts-lt-COUNTS.true));
       lent_index = λ _. refl;
     }
 
@@ -36,11 +35,13 @@ returns-in-Answered c =
     let told = c.write_answer.ensures in
     record {
       lent_to =
-        answered_to _ _ _ _ _ _ (omega (arith, c.if-numbers-lt-NUMBERS.false)) (omega (arith, c.if-counts-lt-COUNTS.false))
-        c.step_lent.ensures.steps_lent c.in-Answered.is told.0 told.1 told.2;
+          answered_to _ _ _ _ _ _ (omega (arith, c.if-numbers-lt-NUMBERS.false))
+          (omega (arith, c.if-counts-lt-COUNTS.false))
+          c.step_lent.ensures.steps_lent c.in-Answered.is told.0 told.1 told.2;
       lent_index =
-        index_after _ c.args.answers.now c.args.work.now _ _ _
-        (omega (arith, c.if-numbers-lt-NUMBERS.false)) (omega (arith, c.if-counts-lt-COUNTS.false)) c.step_lent.ensures.index_after;
+          index_after _ c.args.answers.now c.args.work.now _ _ _
+          (omega (arith, c.if-numbers-lt-NUMBERS.false)) (omega (arith, c.if-counts-lt-COUNTS.false))
+          c.step_lent.ensures.index_after;
     }
 
 pub returns-in-ShortIndex : goal.returns-in-ShortIndex
@@ -48,9 +49,11 @@ returns-in-ShortIndex c =
     let told = c.write_index.ensures in
     record {
       lent_to =
-        short_to _ _ _ _ _ _ (omega (arith, c.if-numbers-lt-NUMBERS.false)) (omega (arith, c.if-counts-lt-COUNTS.false))
-        c.step_lent.ensures.steps_lent c.in-ShortIndex.is told.0 told.1;
+          short_to _ _ _ _ _ _ (omega (arith, c.if-numbers-lt-NUMBERS.false))
+          (omega (arith, c.if-counts-lt-COUNTS.false))
+          c.step_lent.ensures.steps_lent c.in-ShortIndex.is told.0 told.1;
       lent_index =
-        index_after _ c.args.answers.now c.args.work.now _ _ _
-        (omega (arith, c.if-numbers-lt-NUMBERS.false)) (omega (arith, c.if-counts-lt-COUNTS.false)) c.step_lent.ensures.index_after;
+          index_after _ c.args.answers.now c.args.work.now _ _ _
+          (omega (arith, c.if-numbers-lt-NUMBERS.false)) (omega (arith, c.if-counts-lt-COUNTS.false))
+          c.step_lent.ensures.index_after;
     }

@@ -2,7 +2,6 @@
 -- nothing.
 use native.Mathlib.Omega.{arith}
 use Rattle.iisph_c.proofs.Calls.{validate_short, ready_to, unready_to}
-use borrow.Author.Rules.{rules}
 use Rattle.iisph_c.proofs.iisph_validate.Goals as goal
 
 pub returns-then-counts-lt-COUNTS : goal.returns-then-counts-lt-COUNTS

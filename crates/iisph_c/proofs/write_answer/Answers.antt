@@ -1,6 +1,5 @@
 -- `iisph_c::write_answer` meets its contract: by the answer. Assumes nothing.
 use mathlib.Core.Path.{refl}
-use borrow.Author.Rules.{rules}
 use Rattle.iisph_c.specs.Step.{step_code, numbers_after, counts_after}
 use Rattle.iisph_c.proofs.write_answer.Goals as goal
 

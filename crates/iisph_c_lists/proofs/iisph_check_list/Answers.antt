@@ -1,7 +1,6 @@
 -- `iisph_c_lists::iisph_check_list` meets its contract: by the length of `counts`, then what is written of the
 -- answer. Assumes nothing.
 use native.Mathlib.Omega.{arith}
-use borrow.Author.Rules.{rules}
 use Rattle.iisph_c_lists.proofs.Told.{no_room, told}
 use Rattle.iisph_c_lists.proofs.iisph_check_list.Goals as goal
 

@@ -1,5 +1,4 @@
 -- `iisph_c_lists::write_list` meets its contract, by the answer. Assumes nothing.
-use borrow.Author.Rules.{rules}
 use Rattle.iisph_c_lists.specs.Lists.{list_code, list_counts}
 use Rattle.iisph_c_lists.proofs.write_list.Goals as goal
 

@@ -1,7 +1,6 @@
 -- `iisph_c_lists::write_looked` meets its contract: one store, and a refusal's. Assumes nothing.
 use mathlib.Core.Path.{ap, ◌∙◌}
 use lib.ListN.{length, length-set}
-use borrow.Author.Rules.{rules}
 use Rattle.iisph_codes.specs.Numbers.{walk_code, walk_counts}
 use Rattle.iisph_c_lists.proofs.write_looked.Goals as goal
 

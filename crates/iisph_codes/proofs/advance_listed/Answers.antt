@@ -4,7 +4,6 @@ use mathlib.Core.Path.{refl}
 use native.Mathlib.Omega.{arith}
 use lib.ListN.{length-set}
 use Rattle.iisph_codes.specs.ClockList.{clock_numbers, clock_of}
-use borrow.Author.Rules.{rules}
 use Rattle.iisph_codes.proofs.advance_listed.Goals as goal
 
 pub returns : goal.returns

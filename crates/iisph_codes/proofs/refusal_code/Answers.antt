@@ -1,5 +1,4 @@
 -- `iisph_codes::refusal_code` meets its contract: by the two refusals. Assumes nothing.
-use borrow.Author.Rules.{rules}
 use Rattle.iisph_codes.specs.Kernel.{refusal_code}
 use Rattle.iisph_codes.proofs.refusal_code.Goals as goal
 

@@ -1,7 +1,6 @@
 -- `iisph_codes::write_kernel` meets its contract: by the list's length and the kernel's answer. Assumes nothing.
 use mathlib.Core.Path.{refl}
 use native.Mathlib.Omega.{arith}
-use borrow.Author.Rules.{rules}
 use Rattle.iisph_codes.proofs.Kernel.{out_empty, value_given, refusal_given}
 use Rattle.iisph_codes.proofs.write_kernel.Goals as goal
 

@@ -1,6 +1,5 @@
 -- `iisph_codes::write_lengths` meets its contract: two stores, in the order of the definition. Assumes nothing.
 use mathlib.Core.Path.{refl}
-use borrow.Author.Rules.{rules}
 use Rattle.iisph_codes.proofs.write_lengths.Goals as goal
 
 pub returns : goal.returns

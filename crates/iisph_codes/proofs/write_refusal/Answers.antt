@@ -2,7 +2,6 @@
 use Prim.Native.Nat.{ℕ, ◌+◌, ◌≤◌}
 use mathlib.Core.Path.{ap}
 use native.Mathlib.Omega.{arith}
-use borrow.Author.Rules.{rules}
 use Rattle.iisph_codes.proofs.Refusals.{number_few}
 use Rattle.iisph_codes.proofs.write_refusal.Goals as goal
 

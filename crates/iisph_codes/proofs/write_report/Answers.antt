@@ -3,7 +3,6 @@ use native.Mathlib.Omega.{arith}
 use lib.ListN.{length-set}
 use Rattle.iisph_rules.specs.Endings.{told_of}
 use Rattle.iisph_codes.specs.Report.{report_numbers, report_counts}
-use borrow.Author.Rules.{rules}
 use Rattle.iisph_codes.proofs.write_report.Goals as goal
 
 pub returns : goal.returns

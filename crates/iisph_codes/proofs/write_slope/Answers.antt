@@ -1,5 +1,4 @@
 -- `iisph_codes::write_slope` meets its contract: what is written of the kernel's answer. Assumes nothing.
-use borrow.Author.Rules.{rules}
 use Rattle.iisph_codes.proofs.Kernel.{answered}
 use Rattle.iisph_codes.proofs.write_slope.Goals as goal
 

@@ -1,5 +1,4 @@
 -- `iisph_codes::write_weight` meets its contract: what is written of the kernel's answer. Assumes nothing.
-use borrow.Author.Rules.{rules}
 use Rattle.iisph_codes.proofs.Kernel.{answered}
 use Rattle.iisph_codes.proofs.write_weight.Goals as goal
 

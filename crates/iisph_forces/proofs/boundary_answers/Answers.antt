@@ -6,7 +6,6 @@ use mathlib.Core.List.{List}
 use native.Mathlib.Omega.{arith}
 use lib.Ieee.{Float}
 use lib.ListN.{length, replicate, length-replicate}
-use borrow.Author.Rules.{rules}
 use Rattle.scene_format.specs.SceneOf.{scene_of}
 use Rattle.scene_format.specs.Format.{nameable_models}
 use Rattle.scene_lengths.specs.Lengths.{fluid_answer_width}
@@ -27,10 +26,13 @@ put_initial-requires c =
 pub gather_all-requires : goal.gather_all-requires
 gather_all-requires c =
     let p = c.requires in
-    let k = fluid_answer_width c.args.dim * c.args.n in record { pass_over = p.pass_over; forces_known = (
+    let k = fluid_answer_width c.args.dim * c.args.n in record {
+      pass_over = p.pass_over;
+      forces_known = (
         starts_held _ _ p.passed.0.walk (replicate nameable_models 0) room c.put_initial.ensures.0,
         still-room _ c.args.answers.now k c.put_initial.ensures.1 p.passed.1,
-      ) }
+      );
+    }
 
 pub returns : goal.returns
 returns c =

@@ -2,7 +2,6 @@
 -- is advanced once. They are never refused, so the loop's invariant is that nothing holds. Assumes nothing.
 use mathlib.Core.Path.{◌≡◌, sym, ap, ◌∙◌}
 use native.Mathlib.Omega.{arith}
-use borrow.Author.Rules.{rules}
 use Rattle.scene_check.proofs.Accepted.{accepted}
 use Rattle.scene_fields.proofs.Found.{numbers_found, found_numbers, not_refused}
 use Rattle.scene_fields.specs.Reading.{header_numbers_of}
@@ -14,7 +13,8 @@ use Rattle.iisph_header.proofs.step_header.Goals as goal
 pub loop-init : goal.loop-init
 loop-init c =
     let header : HeaderOk c.args.scene.now = (accepted _ c.requires).fields.header in
-    let numbers : c.header_numbers.result ≡ Numbers (header_numbers_of c.args.scene.now) = let h = header in c.header_numbers.ensures ∙ numbers_found _ h.total_step_size h.remaining_time h.max_density_error in
+    let numbers : c.header_numbers.result ≡ Numbers (header_numbers_of c.args.scene.now) = let h =
+    header in c.header_numbers.ensures ∙ numbers_found _ h.total_step_size h.remaining_time h.max_density_error in
     not_refused (sym numbers ∙ c.in_default.is)
 
 pub loop-smaller : goal.loop-smaller
@@ -39,7 +39,8 @@ pub returns : goal.returns
 unfolding header_numbers_of
 returns c =
     let header : HeaderOk c.args.scene.now = (accepted _ c.requires).fields.header in
-    let numbers : c.header_numbers.result ≡ Numbers (header_numbers_of c.args.scene.now) = let h = header in c.header_numbers.ensures ∙ numbers_found _ h.total_step_size h.remaining_time h.max_density_error in
+    let numbers : c.header_numbers.result ≡ Numbers (header_numbers_of c.args.scene.now) = let h =
+    header in c.header_numbers.ensures ∙ numbers_found _ h.total_step_size h.remaining_time h.max_density_error in
     let n = found_numbers (sym c.in-Numbers.is ∙ numbers) in
     step_header_made _
     (ap (λ h. h.total_step_size) n)

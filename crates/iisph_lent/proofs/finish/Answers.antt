@@ -2,7 +2,6 @@
 -- together is the rules'. Assumes nothing.
 use native.Mathlib.Omega.{arith}
 use lib.Ieee.{nan}
-use borrow.Author.Rules.{rules}
 use Rattle.iisph_passes.specs.Traverse.{Ready}
 use Rattle.lists.proofs.Stores.{length-stored}
 use Rattle.scene_lengths.specs.Lengths.{work_needed}
@@ -27,33 +26,47 @@ pressure_solve-solved-requires c =
 pub traverse-requires : goal.traverse-requires
 unfolding Ready
 traverse-requires c =
-    let p = c.requires in record { driven_pass = driven p.pass_over.0 p.pass_over.1; room = (
-        (solved_ready p.passed.0 p.pass_over.0.axes (axes-are _ p.pass_over.0.axes) p.pass_over.0.size _ p.iteration_ready
+    let p = c.requires in record {
+      driven_pass = driven p.pass_over.0 p.pass_over.1;
+      room = (
+        (solved_ready p.passed.0 p.pass_over.0.axes (axes-are _ p.pass_over.0.axes) p.pass_over.0.size _
+            p.iteration_ready
             c.pressure_solve-solved.ensures).room,
         tt,
-      ) }
+      );
+    }
 
 pub update_velocities_and_positions-requires : goal.update_velocities_and_positions-requires
 update_velocities_and_positions-requires c =
-    let p = c.requires in record { driven_pass = (
+    let p = c.requires in record {
+      driven_pass = (
         driven p.pass_over.0 p.pass_over.1,
         shared p.passed.0 p.pass_over.0.axes (axes-are _ p.pass_over.0.axes) p.pass_over.0.size _ p.iteration_ready
             c.pressure_solve-solved.ensures
             c.traverse.ensures,
-      ); n_in_bounds = answers_room _ p.pass_over.0.indexed.bytes p.pass_over.0.axes p.pass_over.0.size p.passed.1.enough_answers }
+      );
+      n_in_bounds = answers_room _ p.pass_over.0.indexed.bytes p.pass_over.0.axes p.pass_over.0.size
+          p.passed.1.enough_answers;
+    }
 
 pub boundary_answers-requires : goal.boundary_answers-requires
 boundary_answers-requires c =
     let p = c.requires in
     let q = shared p.passed.0 p.pass_over.0.axes (axes-are _ p.pass_over.0.axes) p.pass_over.0.size _ p.iteration_ready
-    c.pressure_solve-solved.ensures c.traverse.ensures in record { pass_over = (p.pass_over.0, q.iteration); passed = (p.passed.0, rw (c.update_velocities_and_positions.ensures, length-stored nan) p.passed.1.enough_answers) }
+    c.pressure_solve-solved.ensures c.traverse.ensures in
+    record {
+      pass_over = (p.pass_over.0, q.iteration);
+      passed =
+          (p.passed.0, rw (c.update_velocities_and_positions.ensures, length-stored nan) p.passed.1.enough_answers);
+    }
 
 pub lengths_of-needed-requires : goal.lengths_of-needed-requires
 lengths_of-needed-requires c = c.requires.passed.0
 
 pub clear-requires : goal.clear-requires
 clear-requires c =
-    let needed : c.lengths_of-needed.result.work ≡ work_needed (scene_of c.args.scene.now) = ap (λ n. n.work) c.lengths_of-needed.ensures in
+    let needed : c.lengths_of-needed.result.work ≡ work_needed (scene_of c.args.scene.now) =
+    ap (λ n. n.work) c.lengths_of-needed.ensures in
     let p = c.requires in
     omega (
       arith,
@@ -65,7 +78,8 @@ clear-requires c =
 
 pub returns : goal.returns
 returns c =
-    let needed : c.lengths_of-needed.result.work ≡ work_needed (scene_of c.args.scene.now) = ap (λ n. n.work) c.lengths_of-needed.ensures in
+    let needed : c.lengths_of-needed.result.work ≡ work_needed (scene_of c.args.scene.now) =
+    ap (λ n. n.work) c.lengths_of-needed.ensures in
     let p = c.requires in
     finished p.passed.0 p.pass_over.0.axes (axes-are _ p.pass_over.0.axes) p.pass_over.0.size _ p.iteration_ready
     c.pressure_solve-solved.ensures c.traverse.ensures
@@ -74,4 +88,5 @@ returns c =
     c.boundary_answers.ensures
     needed
     c.clear.ensures
-    (report_made _ p.pass_over.1.clock_is c.pressure_solve-solved.ensures.iterations c.pressure_solve-solved.ensures.ending)
+    (report_made _ p.pass_over.1.clock_is c.pressure_solve-solved.ensures.iterations
+    c.pressure_solve-solved.ensures.ending)

@@ -5,7 +5,6 @@ use mathlib.Core.Path.{◌≡◌, refl, sym, ◌∙◌}
 use mathlib.Core.Bool.{true, false}
 use native.Mathlib.Omega.{arith}
 use lib.ListN.{length}
-use borrow.Author.Rules.{rules}
 use Rattle.iisph_rules.proofs.Reports.{long_lists}
 use Rattle.iisph_rules.specs.Answer.{clears_work, LongEnough}
 use Rattle.scene_index.specs.Index.{index_needed}
@@ -24,37 +23,43 @@ returns-then-lists_short c =
     let work = c.args.work.now in
     record {
       steps_lent =
-        early_lent scene answers work _ refl
-        (short_steps scene answers work c.requires.walk (sym c.lists_short.ensures ∙ c.if-lists_short.true));
+          early_lent scene answers work _ refl
+          (short_steps scene answers work c.requires.walk (sym c.lists_short.ensures ∙ c.if-lists_short.true));
       index_after = λ _. refl;
     }
 
 pub returns-then-index-needed : goal.returns-then-index-needed
 returns-then-index-needed c =
-    let long : let a = c.args in LongEnough a.scene.now (length a.answers.now) (length a.work.now) = long_lists _ _ _ (sym c.lists_short.ensures ∙ c.if-lists_short.false) in
+    let long : let a = c.args in LongEnough a.scene.now (length a.answers.now) (length a.work.now) =
+    long_lists _ _ _ (sym c.lists_short.ensures ∙ c.if-lists_short.false) in
     let e = c.index_needed-needed.ensures in
     record {
       steps_lent =
-        rw e
-        (short_lent c.args.scene.now c.args.answers.now c.args.work.now _ c.requires.walk
-        long (omega (arith, c.if-index-needed.true, e)));
+          rw e
+          (short_lent c.args.scene.now c.args.answers.now c.args.work.now _ c.requires.walk
+          long (omega (arith, c.if-index-needed.true, e)));
       index_after = λ _. refl;
     }
 
 pub step_long-requires : goal.step_long-requires
 step_long-requires c =
-    let long : let a = c.args in LongEnough a.scene.now (length a.answers.now) (length a.work.now) = long_lists _ _ _ (sym c.lists_short.ensures ∙ c.if-lists_short.false) in
-    let room : let a = c.args in index_needed a.scene.now ≤ length a.index.now = omega (arith, c.if-index-needed.false, c.index_needed-needed.ensures) in
+    let long : let a = c.args in LongEnough a.scene.now (length a.answers.now) (length a.work.now) =
+    long_lists _ _ _ (sym c.lists_short.ensures ∙ c.if-lists_short.false) in
+    let room : let a = c.args in index_needed a.scene.now ≤ length a.index.now =
+    omega (arith, c.if-index-needed.false, c.index_needed-needed.ensures) in
     record { passed = (c.requires, long); scene_in_bounds = room }
 
 pub returns : goal.returns
 returns c =
-    let long : let a = c.args in LongEnough a.scene.now (length a.answers.now) (length a.work.now) = long_lists _ _ _ (sym c.lists_short.ensures ∙ c.if-lists_short.false) in
-    let room : let a = c.args in index_needed a.scene.now ≤ length a.index.now = omega (arith, c.if-index-needed.false, c.index_needed-needed.ensures) in
+    let long : let a = c.args in LongEnough a.scene.now (length a.answers.now) (length a.work.now) =
+    long_lists _ _ _ (sym c.lists_short.ensures ∙ c.if-lists_short.false) in
+    let room : let a = c.args in index_needed a.scene.now ≤ length a.index.now =
+    omega (arith, c.if-index-needed.false, c.index_needed-needed.ensures) in
     let scene = c.args.scene.now in
     let answers = c.args.answers.now in
     let work = c.args.work.now in
     record {
       steps_lent = steps_lent scene answers work _ room c.step_long.ensures;
-      index_after = λ q. absurd (unequal (sym (used scene (length answers) (length work) c.requires.walk long _ room) ∙ q));
+      index_after = λ q. absurd (unequal (sym (used scene (length answers) (length work) c.requires.walk long _ room)
+          ∙ q));
     }

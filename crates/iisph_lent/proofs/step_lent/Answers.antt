@@ -1,7 +1,6 @@
 -- `iisph_lent::step_lent` meets its contract: by the verdict of the check. Assumes nothing.
 use mathlib.Core.Path.{refl}
 use native.Mathlib.Omega.{arith}
-use borrow.Author.Rules.{rules}
 use Rattle.scene_format.specs.Bytes.{Bytes}
 use Rattle.scene_check.proofs.Checks.{verdict_refused, verdict_accepted}
 use Rattle.iisph_lent.proofs.LentSteps.{refused_clears, early_lent}

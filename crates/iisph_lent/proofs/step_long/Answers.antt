@@ -2,7 +2,6 @@
 -- finishes the step. Assumes nothing.
 use mathlib.Core.Path.{sym, ap, ◌∙◌}
 use native.Mathlib.Omega.{arith}
-use borrow.Author.Rules.{rules}
 use Rattle.iisph_preparation.specs.Prepare.{work_prepared}
 use Rattle.iisph_preparation.specs.declared.Readiness.{Readiness}
 use Rattle.iisph_preparation.proofs.Prepared.{prepared_ready, prepared_long}
@@ -16,7 +15,11 @@ step_header-header-requires c = c.requires.passed.0.walk
 pub prepare-readiness-requires : goal.prepare-readiness-requires
 prepare-readiness-requires c =
     let p = c.requires in
-    record { passed = (p.passed.0, c.step_header-header.ensures); scene_in_bounds = (p.scene_in_bounds, p.passed.1.enough_work) }
+    record {
+      passed = (p.passed.0, c.step_header-header.ensures);
+      scene_in_bounds =
+          (p.scene_in_bounds, p.passed.1.enough_work);
+    }
 
 pub finish-requires : goal.finish-requires
 finish-requires c =
@@ -27,8 +30,10 @@ finish-requires c =
     let list = c.prepare-readiness.ensures.list in
     let long = prepared_long c.args.scene.now c.args.work.now ready list in
     record {
-      pass_over =
-        (record { indexed = c.prepare-readiness.ensures.indexed; axes = is; size = size }, c.step_header-header.ensures);
+      pass_over = (
+        record { indexed = c.prepare-readiness.ensures.indexed; axes = is; size = size },
+        c.step_header-header.ensures,
+      );
       passed = (
         passed,
         record {
@@ -36,7 +41,8 @@ finish-requires c =
           enough_work = omega (arith, long, c.requires.passed.1.enough_work);
         },
       );
-      iteration_ready = prepared_ready c.args.scene.now is size c.args.work.now c.requires.passed.1.enough_work ready list;
+      iteration_ready = prepared_ready c.args.scene.now is size c.args.work.now c.requires.passed.1.enough_work ready
+          list;
     }
 
 pub returns-in-Refused : goal.returns-in-Refused

@@ -3,7 +3,6 @@
 use Rattle.iisph_passes.specs.Traverse.{Ready}
 use Rattle.iisph_pressures.proofs.IterationTerms.{axes-are}
 use Rattle.iisph_preparation.proofs.RowsFilled.{advected_ready, rows_filled_lem}
-use borrow.Author.Rules.{rules}
 use Rattle.iisph_preparation.proofs.fill_rows.Goals as goal
 
 pub traverse-requires : goal.traverse-requires

@@ -18,7 +18,6 @@ use Rattle.iisph_rules.specs.declared.StepAnswer.TheVariants.{Done, Refused}
 use Rattle.iisph_rows.specs.declared.zeros.Found.TheVariants.{At, Nothing}
 use Rattle.iisph_rows.proofs.Particles.{record_asked}
 use Rattle.iisph_rows.proofs.FirstZero.{found_lt, unless_found, unless_nothing}
-use borrow.Author.Rules.{rules}
 use Rattle.iisph_preparation.proofs.zero_refusal.Goals as goal
 
 -- what the searches found, in terms of the arguments
@@ -28,44 +27,51 @@ First n work slot i = At i ≡ found_below n (first_zero (column n slot work))
 abbrev None : ℕ → List Float → ℕ → Type 0
 None n work slot = Nothing ≡ found_below n (first_zero (column n slot work))
 
-in-slot : (n : ℕ) (l : List Float) {k slot : ℕ} → k ≡ slot
+in_slot : (n : ℕ) (l : List Float) {k slot : ℕ} → k ≡ slot
     → found_below n (first_zero (column n k l)) ≡ found_below n (first_zero (column n slot l))
-in-slot n l e = ap (λ (j : ℕ). found_below n (first_zero (column n j l))) e
+in_slot n l e = ap (λ (j : ℕ). found_below n (first_zero (column n j l))) e
 
 -- both columns are there
-density-within : (d : ℕ) {k : ℕ} → k ≡ density_slot d → k < work_width d
-density-within d e = omega arith
+density_within : (d : ℕ) {k : ℕ} → k ≡ density_slot d → k < work_width d
+density_within d e = omega arith
 
-predicted-within : (d : ℕ) {k : ℕ} → k ≡ predicted_slot d → k < work_width d
-predicted-within d e = omega arith
+predicted_within : (d : ℕ) {k : ℕ} → k ≡ predicted_slot d → k < work_width d
+predicted_within d e = omega arith
 
 pub first_zero-density-requires : goal.first_zero-density-requires
-first_zero-density-requires c = (density-within _ c.density_column.ensures, c.requires.1)
+first_zero-density-requires c = (density_within _ c.density_column.ensures, c.requires.1)
 
 pub first_zero-predicted-requires : goal.first_zero-predicted-requires
 first_zero-predicted-requires c = (
-  predicted-within _ c.predicted_column.ensures,
+  predicted_within _ c.predicted_column.ensures,
   c.requires.1,
 )
 
 pub record_of-requires : goal.record_of-requires
 record_of-requires c =
-    let density-found : let a = c.args in c.first_zero-density.result ≡ found_below a.n (first_zero (column a.n (density_slot a.dim) a.work.now)) = let a = c.args in c.first_zero-density.ensures ∙ in-slot a.n a.work.now c.density_column.ensures in
-    let found : First c.args.n c.args.work.now (density_slot c.args.dim) c.in-At.i = sym c.in-At.is ∙ density-found in
+    let density_found : let a = c.args in c.first_zero-density.result ≡ found_below a.n
+    (first_zero (column a.n (density_slot a.dim) a.work.now)) = let a = c.args in c.first_zero-density.ensures
+    ∙ in_slot a.n a.work.now c.density_column.ensures in
+    let found : First c.args.n c.args.work.now (density_slot c.args.dim) c.in-At.i = sym c.in-At.is ∙ density_found in
     record_asked c.requires.0 (found_lt _ _ found)
 
 pub record_of-requires-in-At-predicted : goal.record_of-requires-in-At-predicted
 record_of-requires-in-At-predicted c =
-    let predicted-found : let a = c.args in c.first_zero-predicted.result ≡ found_below a.n (first_zero (column a.n (predicted_slot a.dim) a.work.now)) = let a = c.args in c.first_zero-predicted.ensures ∙ in-slot a.n a.work.now c.predicted_column.ensures in
-    let found-2 : First c.args.n c.args.work.now (predicted_slot c.args.dim) c.in-At-predicted.j = sym c.in-At-predicted.is ∙ predicted-found in
+    let predicted_found : let a = c.args in c.first_zero-predicted.result ≡ found_below a.n
+    (first_zero (column a.n (predicted_slot a.dim) a.work.now)) = let a = c.args in c.first_zero-predicted.ensures
+    ∙ in_slot a.n a.work.now c.predicted_column.ensures in
+    let found_2 : First c.args.n c.args.work.now (predicted_slot c.args.dim) c.in-At-predicted.j =
+    sym c.in-At-predicted.is ∙ predicted_found in
     record_asked c.requires.0
-    (found_lt _ _ found-2)
+    (found_lt _ _ found_2)
 
 pub returns-in-At : goal.returns-in-At
 unfolding readiness
 returns-in-At c =
-    let density-found : let a = c.args in c.first_zero-density.result ≡ found_below a.n (first_zero (column a.n (density_slot a.dim) a.work.now)) = let a = c.args in c.first_zero-density.ensures ∙ in-slot a.n a.work.now c.density_column.ensures in
-    let found : First c.args.n c.args.work.now (density_slot c.args.dim) c.in-At.i = sym c.in-At.is ∙ density-found in
+    let density_found : let a = c.args in c.first_zero-density.result ≡ found_below a.n
+    (first_zero (column a.n (density_slot a.dim) a.work.now)) = let a = c.args in c.first_zero-density.ensures
+    ∙ in_slot a.n a.work.now c.density_column.ensures in
+    let found : First c.args.n c.args.work.now (density_slot c.args.dim) c.in-At.i = sym c.in-At.is ∙ density_found in
     let a = c.args in
     λ report.
     sym (ap readiness
@@ -76,10 +82,15 @@ returns-in-At c =
 pub returns-in-At-predicted : goal.returns-in-At-predicted
 unfolding readiness
 returns-in-At-predicted c =
-    let predicted-found : let a = c.args in c.first_zero-predicted.result ≡ found_below a.n (first_zero (column a.n (predicted_slot a.dim) a.work.now)) = let a = c.args in c.first_zero-predicted.ensures ∙ in-slot a.n a.work.now c.predicted_column.ensures in
-    let found-2 : First c.args.n c.args.work.now (predicted_slot c.args.dim) c.in-At-predicted.j = sym c.in-At-predicted.is ∙ predicted-found in
-    let density-found : let a = c.args in c.first_zero-density.result ≡ found_below a.n (first_zero (column a.n (density_slot a.dim) a.work.now)) = let a = c.args in c.first_zero-density.ensures ∙ in-slot a.n a.work.now c.density_column.ensures in
-    let nothing : None c.args.n c.args.work.now (density_slot c.args.dim) = sym c.in-Nothing.is ∙ density-found in
+    let predicted_found : let a = c.args in c.first_zero-predicted.result ≡ found_below a.n
+    (first_zero (column a.n (predicted_slot a.dim) a.work.now)) = let a = c.args in c.first_zero-predicted.ensures
+    ∙ in_slot a.n a.work.now c.predicted_column.ensures in
+    let found_2 : First c.args.n c.args.work.now (predicted_slot c.args.dim) c.in-At-predicted.j =
+    sym c.in-At-predicted.is ∙ predicted_found in
+    let density_found : let a = c.args in c.first_zero-density.result ≡ found_below a.n
+    (first_zero (column a.n (density_slot a.dim) a.work.now)) = let a = c.args in c.first_zero-density.ensures
+    ∙ in_slot a.n a.work.now c.density_column.ensures in
+    let nothing : None c.args.n c.args.work.now (density_slot c.args.dim) = sym c.in-Nothing.is ∙ density_found in
     let a = c.args in
     λ report.
     sym (ap readiness
@@ -87,16 +98,21 @@ returns-in-At-predicted c =
     (column a.n (density_slot a.dim) a.work.now) _ (length-table a.n _)
     nothing
     ∙ unless_found (λ i. (location_of Fluid a.scene.now i).at) ZeroPredictedDensity
-    (column a.n (predicted_slot a.dim) a.work.now) _ (length-table a.n _) found-2
+    (column a.n (predicted_slot a.dim) a.work.now) _ (length-table a.n _) found_2
     ∙ sym (ap (λ (at : ℕ). Refused (ZeroPredictedDensity at)) c.record_of-in-At-predicted.ensures)))
 
 pub returns-in-Nothing-predicted : goal.returns-in-Nothing-predicted
 unfolding readiness
 returns-in-Nothing-predicted c =
-    let density-found : let a = c.args in c.first_zero-density.result ≡ found_below a.n (first_zero (column a.n (density_slot a.dim) a.work.now)) = let a = c.args in c.first_zero-density.ensures ∙ in-slot a.n a.work.now c.density_column.ensures in
-    let nothing : None c.args.n c.args.work.now (density_slot c.args.dim) = sym c.in-Nothing.is ∙ density-found in
-    let predicted-found : let a = c.args in c.first_zero-predicted.result ≡ found_below a.n (first_zero (column a.n (predicted_slot a.dim) a.work.now)) = let a = c.args in c.first_zero-predicted.ensures ∙ in-slot a.n a.work.now c.predicted_column.ensures in
-    let nothing-2 : None c.args.n c.args.work.now (predicted_slot c.args.dim) = sym c.in-Nothing-predicted.is ∙ predicted-found in
+    let density_found : let a = c.args in c.first_zero-density.result ≡ found_below a.n
+    (first_zero (column a.n (density_slot a.dim) a.work.now)) = let a = c.args in c.first_zero-density.ensures
+    ∙ in_slot a.n a.work.now c.density_column.ensures in
+    let nothing : None c.args.n c.args.work.now (density_slot c.args.dim) = sym c.in-Nothing.is ∙ density_found in
+    let predicted_found : let a = c.args in c.first_zero-predicted.result ≡ found_below a.n
+    (first_zero (column a.n (predicted_slot a.dim) a.work.now)) = let a = c.args in c.first_zero-predicted.ensures
+    ∙ in_slot a.n a.work.now c.predicted_column.ensures in
+    let nothing_2 : None c.args.n c.args.work.now (predicted_slot c.args.dim) =
+    sym c.in-Nothing-predicted.is ∙ predicted_found in
     let a = c.args in
     λ report.
     sym (ap readiness
@@ -104,4 +120,4 @@ returns-in-Nothing-predicted c =
     (column a.n (density_slot a.dim) a.work.now) _ (length-table a.n _)
     nothing
     ∙ unless_nothing (λ i. (location_of Fluid a.scene.now i).at) ZeroPredictedDensity
-    (column a.n (predicted_slot a.dim) a.work.now) (Done report) (length-table a.n _) nothing-2))
+    (column a.n (predicted_slot a.dim) a.work.now) (Done report) (length-table a.n _) nothing_2))

@@ -2,7 +2,6 @@
 use native.Mathlib.Omega.{arith}
 use Rattle.iisph_text.specs.Text.{too_long}
 use Rattle.iisph_text.proofs.Ran.{no_room, too_long_lem}
-use borrow.Author.Rules.{rules}
 use Rattle.iisph_run.proofs.run.Goals as goal
 
 pub returns-then-out-lt-TEXT_ROOM : goal.returns-then-out-lt-TEXT_ROOM

@@ -5,7 +5,6 @@ use lib.ListN.{length, replicate, length-replicate}
 use Rattle.math.specs.Real.{+0}
 use Rattle.iisph_text.specs.Run.{enough_answers, enough_work}
 use Rattle.iisph_text.proofs.Ran.{text_written}
-use borrow.Author.Rules.{rules}
 use Rattle.iisph_run.proofs.text.Goals as goal
 
 long : (n : ℕ) → n ≤ length (replicate n +0)

@@ -2,7 +2,6 @@
 use Prim.Native.Nat.{◌*◌}
 use mathlib.Core.Path.{◌≡◌}
 use native.Mathlib.Omega.{arith}
-use borrow.Author.Rules.{rules}
 use Rattle.scene_check.proofs.Accepted.{accepted_within}
 use Rattle.scene_check.proofs.Checks.{fluids_are, boundaries_are, fluid-total}
 use Rattle.scene_format.specs.declared.Kind.TheVariants.{Fluid, Boundary}
@@ -13,7 +12,10 @@ use Rattle.iisph_text.proofs.put_done.Goals as goal
 
 pub put_models-next-requires : goal.put_models-next-requires
 put_models-next-requires c =
-    record { models_within = (accepted_within _ c.requires.0.walk Fluid, fluids_are _ c.requires.0.layout_is); scene_in_bounds = fluids_room c.requires.1 c.put_step-second.ensures c.put_clock-third.ensures }
+    record {
+      models_within = (accepted_within _ c.requires.0.walk Fluid, fluids_are _ c.requires.0.layout_is);
+      scene_in_bounds = fluids_room c.requires.1 c.put_step-second.ensures c.put_clock-third.ensures;
+    }
 
 pub overflow_mul-behind : goal.overflow_mul-behind
 overflow_mul-behind c =
@@ -24,11 +26,17 @@ overflow_mul-behind c =
 
 pub put_models-requires : goal.put_models-requires
 put_models-requires c =
-    let begins : c.fluid_answer_width.result * c.args.layout.fluids.total ≡ behind c.args.scene.now = behind-is _ c.fluid_answer_width.ensures.0 c.axes.ensures.0 (fluid-total c.requires.0) in
-    record { models_within = (accepted_within _ c.requires.0.walk Boundary, boundaries_are _ c.requires.0.layout_is); scene_in_bounds = boundaries_room c.requires.1 c.put_step-second.ensures c.put_clock-third.ensures begins c.put_models-next.ensures }
+    let begins : c.fluid_answer_width.result * c.args.layout.fluids.total ≡ behind c.args.scene.now =
+    behind-is _ c.fluid_answer_width.ensures.0 c.axes.ensures.0 (fluid-total c.requires.0) in
+    record {
+      models_within = (accepted_within _ c.requires.0.walk Boundary, boundaries_are _ c.requires.0.layout_is);
+      scene_in_bounds = boundaries_room c.requires.1 c.put_step-second.ensures c.put_clock-third.ensures begins
+          c.put_models-next.ensures;
+    }
 
 pub returns : goal.returns
 returns c =
-    let begins : c.fluid_answer_width.result * c.args.layout.fluids.total ≡ behind c.args.scene.now = behind-is _ c.fluid_answer_width.ensures.0 c.axes.ensures.0 (fluid-total c.requires.0) in
+    let begins : c.fluid_answer_width.result * c.args.layout.fluids.total ≡ behind c.args.scene.now =
+    behind-is _ c.fluid_answer_width.ensures.0 c.axes.ensures.0 (fluid-total c.requires.0) in
     parts-written _ _ _ begins c.put_step-second.ensures c.put_clock-third.ensures c.put_models-next.ensures
     c.put_models.ensures

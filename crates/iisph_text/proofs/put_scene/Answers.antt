@@ -1,7 +1,6 @@
 -- `iisph_text::put_scene` meets its contract: by the verdict of the check. Assumes nothing.
 use mathlib.Core.Path.{refl}
 use native.Mathlib.Omega.{arith}
-use borrow.Author.Rules.{rules}
 use Rattle.iisph_lent.proofs.Stepped.{refused_steps_lem}
 use Rattle.scene_check.proofs.Checks.{verdict_refused, verdict_accepted}
 use Rattle.iisph_text.proofs.Ran.{refused_run}
@@ -9,8 +8,11 @@ use Rattle.iisph_text.proofs.put_scene.Goals as goal
 
 pub put_accepted-requires : goal.put_accepted-requires
 put_accepted-requires c =
-    record { passed = verdict_accepted _ c.check-found.ensures (λ i. omega (arith, c.shared_slice_known-1.given i))
-          c.in-Accepted.is; scene_len_bound = c.requires }
+    record {
+      passed = verdict_accepted _ c.check-found.ensures (λ i. omega (arith, c.shared_slice_known-1.given i))
+          c.in-Accepted.is;
+      scene_len_bound = c.requires;
+    }
 
 pub returns-in-Refused : goal.returns-in-Refused
 returns-in-Refused c =

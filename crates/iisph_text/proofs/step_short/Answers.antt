@@ -4,7 +4,6 @@ use Prim.Native.Nat.{ℕ, ◌≤◌}
 use mathlib.Core.Path.{sym, ◌∙◌}
 use native.Mathlib.Omega.{arith}
 use lib.ListN.{length, replicate, length-replicate}
-use borrow.Author.Rules.{rules}
 use Rattle.iisph_rules.proofs.Reports.{long_lists}
 use Rattle.iisph_lent.proofs.Stepped.{short_steps}
 use Rattle.iisph_text.specs.Run.{enough_index}
@@ -21,4 +20,12 @@ returns-then-lists_short c =
 
 pub step_long-requires : goal.step_long-requires
 step_long-requires c =
-    let p = c.requires in record { passed = (p.0, long_lists _ _ _ (sym c.lists_short.ensures ∙ c.if-lists_short.false)); scene_in_bounds = omega (arith, index_enough p.0 p.1, long) }
+    let p = c.requires in record {
+      passed = (
+        p.0,
+        long_lists _ _ _
+            (sym c.lists_short.ensures ∙ c.if-lists_short.false),
+      );
+      scene_in_bounds =
+          omega (arith, index_enough p.0 p.1, long);
+    }

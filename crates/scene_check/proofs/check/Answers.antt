@@ -2,7 +2,6 @@
 -- fields end with the bytes. Assumes nothing.
 use mathlib.Core.Path.{◌≡◌, sym, ap, ◌∙◌}
 use lib.ListN.{length}
-use borrow.Author.Rules.{rules}
 use Rattle.scene_walk.specs.Walk.{fields}
 use Rattle.scene_format.specs.declared.Walk.TheVariants.{At}
 use Rattle.scene_walk.proofs.Walked.{fields_leads}
@@ -16,23 +15,27 @@ returns-in-Refused c =
 
 pub layout_of-found-requires : goal.layout_of-found-requires
 layout_of-found-requires c =
-    let fields-passed : let b = c.args.scene.now in fields b ≡ At (length b) = let q = sym c.fields.ensures ∙ c.in_default.is in q ∙ ap At (fields_leads _ _ q).0 in
-    fields-passed
+    let fields_passed : let b = c.args.scene.now in fields b ≡ At (length b) = let q =
+    sym c.fields.ensures ∙ c.in_default.is in q ∙ ap At (fields_leads _ _ q).0 in
+    fields_passed
 
 pub all_names-requires : goal.all_names-requires
 all_names-requires c =
-    let fields-passed : let b = c.args.scene.now in fields b ≡ At (length b) = let q = sym c.fields.ensures ∙ c.in_default.is in q ∙ ap At (fields_leads _ _ q).0 in
-    (fields-passed, c.layout_of-found.ensures)
+    let fields_passed : let b = c.args.scene.now in fields b ≡ At (length b) = let q =
+    sym c.fields.ensures ∙ c.in_default.is in q ∙ ap At (fields_leads _ _ q).0 in
+    (fields_passed, c.layout_of-found.ensures)
 
 pub returns-in-Refused-all_names : goal.returns-in-Refused-all_names
 returns-in-Refused-all_names c =
-    let fields-passed : let b = c.args.scene.now in fields b ≡ At (length b) = let q = sym c.fields.ensures ∙ c.in_default.is in q ∙ ap At (fields_leads _ _ q).0 in
-    checks_refused _ (names_decide _ fields-passed ∙ sym c.all_names.ensures ∙ c.in-Refused-all_names.is)
+    let fields_passed : let b = c.args.scene.now in fields b ≡ At (length b) = let q =
+    sym c.fields.ensures ∙ c.in_default.is in q ∙ ap At (fields_leads _ _ q).0 in
+    checks_refused _ (names_decide _ fields_passed ∙ sym c.all_names.ensures ∙ c.in-Refused-all_names.is)
     c.refused-in-Refused-all_names.ensures
 
 pub returns : goal.returns
 returns c =
-    let fields-passed : let b = c.args.scene.now in fields b ≡ At (length b) = let q = sym c.fields.ensures ∙ c.in_default.is in q ∙ ap At (fields_leads _ _ q).0 in
+    let fields_passed : let b = c.args.scene.now in fields b ≡ At (length b) = let q =
+    sym c.fields.ensures ∙ c.in_default.is in q ∙ ap At (fields_leads _ _ q).0 in
     checks_accepted _
-    (names_decide _ fields-passed ∙ sym c.all_names.ensures ∙ c.in_default-all_names.is)
+    (names_decide _ fields_passed ∙ sym c.all_names.ensures ∙ c.in_default-all_names.is)
     c.layout_of-found.ensures

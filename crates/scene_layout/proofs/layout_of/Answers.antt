@@ -1,7 +1,6 @@
 -- `scene_layout::layout_of` meets its contract: the boundaries begin where the fluids end. Assumes nothing.
 use mathlib.Core.Path.{◌≡◌, ap, ◌∙◌}
 use native.Mathlib.Omega.{arith}
-use borrow.Author.Rules.{rules}
 use Rattle.scene_format.specs.Format.{header_width, first_head}
 use Rattle.scene_format.specs.declared.Kind.TheVariants.{Fluid, Boundary}
 use Rattle.scene_layout.specs.Layout.{layout_models, layout_of}
@@ -29,8 +28,13 @@ model_number-number-requires c = omega (arith, header_within _ c.requires)
 pub models_of-boundaries-requires : goal.models_of-boundaries-requires
 unfolding layout_models first_head
 models_of-boundaries-requires c =
-    let fluids-end : c.models_of-fluids.result.end ≡ first_head Boundary c.args.s.now = ap (λ (m : Models). m.end) c.models_of-fluids.ensures in
-    record { models_within = fields_within _ c.requires Boundary; n_value = (c.model_number-number.ensures, fluids-end) }
+    let fluids_end : c.models_of-fluids.result.end ≡ first_head Boundary c.args.s.now =
+    ap (λ (m : Models). m.end) c.models_of-fluids.ensures in
+    record {
+      models_within = fields_within _ c.requires Boundary;
+      n_value =
+          (c.model_number-number.ensures, fluids_end);
+    }
 
 pub returns : goal.returns
 unfolding layout_of

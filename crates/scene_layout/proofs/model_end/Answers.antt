@@ -1,7 +1,6 @@
 -- `scene_layout::model_end` meets its contract: it is where a record behind the last would begin. Assumes nothing.
 use mathlib.Core.Path.{◌∙◌}
 use native.Mathlib.Omega.{arith}
-use borrow.Author.Rules.{rules}
 use Rattle.scene_format.specs.Format.{model_end}
 use Rattle.scene_layout.proofs.model_end.Goals as goal
 

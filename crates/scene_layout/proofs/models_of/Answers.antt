@@ -1,13 +1,10 @@
 -- `scene_layout::models_of` meets its contract: model by model, with the models that are left within the bytes and what
 -- is still to be stored. Assumes nothing.
 use Prim.Native.Nat.{◌-◌}
-use mathlib.Core.Path.{◌≡◌}
 use native.Mathlib.Omega.{arith}
-use borrow.Author.Rules.{rules}
-use Rattle.scene_format.specs.Format.{model_number, model_end, first_head}
 use Rattle.scene_format.specs.Within.{ModelWithin}
-use Rattle.scene_fields.proofs.Walks.{Ahead, none_stepped, one_more_stepped, holds_here, all_stepped}
-use Rattle.scene_layout.proofs.Filled.{Filled, none_filled, one_more_filled, all_filled}
+use Rattle.scene_fields.proofs.Walks.{none_stepped, one_more_stepped, holds_here, all_stepped}
+use Rattle.scene_layout.proofs.Filled.{none_filled, one_more_filled, all_filled}
 use Rattle.scene_layout.proofs.models_of.Goals as goal
 
 pub loop-i-init : goal.loop-i-init
@@ -17,12 +14,14 @@ loop-i-init c =
 
 pub particles-total-requires : goal.particles-total-requires
 particles-total-requires c =
-    let here : let a = c.args in ModelWithin a.kind a.s.now c.loop-i.at = let i = c.loop-i.invariant in holds_here i.1 (rw i.0 at c.loop-i-test.true) in
+    let here : let a = c.args in ModelWithin a.kind a.s.now c.loop-i.at = let i =
+    c.loop-i.invariant in holds_here i.1 (rw i.0 at c.loop-i-test.true) in
     here.head_room
 
 pub model_end-at-requires : goal.model_end-at-requires
 model_end-at-requires c =
-    let here : let a = c.args in ModelWithin a.kind a.s.now c.loop-i.at = let i = c.loop-i.invariant in holds_here i.1 (rw i.0 at c.loop-i-test.true) in
+    let here : let a = c.args in ModelWithin a.kind a.s.now c.loop-i.at = let i =
+    c.loop-i.invariant in holds_here i.1 (rw i.0 at c.loop-i-test.true) in
     here
 
 pub loop-i-preserved : goal.loop-i-preserved
@@ -31,7 +30,8 @@ loop-i-preserved c =
     let h = rw l.invariant.0 at c.loop-i-test.true in (
       l.invariant.0,
       one_more_stepped l.invariant.1 h c.model_end-at.ensures,
-      one_more_filled _ _ l.invariant.2 h c.particles-total.ensures.0 c.particles-total.ensures.1 c.model_end-at.ensures,
+      one_more_filled _ _ l.invariant.2 h c.particles-total.ensures.0 c.particles-total.ensures.1
+          c.model_end-at.ensures,
     )
 
 pub returns : goal.returns

@@ -2,12 +2,10 @@
 -- is still to be stored. Assumes nothing.
 use Prim.Native.Nat.{◌-◌}
 use mathlib.Core.Path.{◌≡◌}
-use native.Mathlib.Omega.{arith}
-use borrow.Author.Rules.{rules}
 use Rattle.scene_format.specs.Format.{model_number, model_end, first_head}
 use Rattle.scene_format.specs.Within.{ModelWithin}
-use Rattle.scene_fields.proofs.Walks.{Ahead, none_stepped, one_more_stepped, holds_here, all_stepped}
-use Rattle.scene_layout.proofs.Filled.{Filled, none_filled, one_more_filled, all_filled}
+use Rattle.scene_fields.proofs.Walks.{Ahead}
+use Rattle.scene_layout.proofs.Filled.{Filled}
 use Rattle.scene_layout.proofs.models_of.Given as goal
 
 abbrev pub invariant-loop-i : goal.invariant-loop-i

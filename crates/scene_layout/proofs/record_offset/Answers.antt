@@ -3,10 +3,7 @@
 use Prim.Native.Nat.{◌-◌}
 use mathlib.Core.Path.{◌∙◌}
 use native.Mathlib.Omega.{arith}
-use borrow.Author.Rules.{rules}
-use Rattle.scene_format.specs.Format.{next_record}
-use Rattle.scene_format.specs.Within.{RecordWithin}
-use Rattle.scene_fields.proofs.Walks.{Ahead, none_stepped, one_more_stepped, holds_here, all_stepped}
+use Rattle.scene_fields.proofs.Walks.{none_stepped, one_more_stepped, holds_here, all_stepped}
 use Rattle.scene_layout.proofs.record_offset.Goals as goal
 
 pub loop-i-init : goal.loop-i-init

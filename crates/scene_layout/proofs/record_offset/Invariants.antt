@@ -1,12 +1,9 @@
 -- `scene_layout::record_offset` meets its contract: record by record, with the records that are left within the bytes.
 -- Assumes nothing.
 use Prim.Native.Nat.{◌-◌}
-use mathlib.Core.Path.{◌∙◌}
-use native.Mathlib.Omega.{arith}
-use borrow.Author.Rules.{rules}
 use Rattle.scene_format.specs.Format.{next_record}
 use Rattle.scene_format.specs.Within.{RecordWithin}
-use Rattle.scene_fields.proofs.Walks.{Ahead, none_stepped, one_more_stepped, holds_here, all_stepped}
+use Rattle.scene_fields.proofs.Walks.{Ahead}
 use Rattle.scene_layout.proofs.record_offset.Given as goal
 
 abbrev pub invariant-loop-i : goal.invariant-loop-i

@@ -1,6 +1,5 @@
 -- `scene_lengths::added_width` meets its contract: each branch is the definition's. Assumes nothing.
 use native.Mathlib.Omega.{arith}
-use borrow.Author.Rules.{rules}
 use Rattle.scene_lengths.proofs.added_width.Goals as goal
 
 pub returns-in-InOrder : goal.returns-in-InOrder

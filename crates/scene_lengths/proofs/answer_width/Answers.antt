@@ -2,7 +2,6 @@
 use Prim.Native.Nat.{ℕ, zero, suc}
 use mathlib.Core.Path.{◌≡◌, refl, ◌∙◌}
 use native.Mathlib.Omega.{arith}
-use borrow.Author.Rules.{rules}
 use Rattle.scene_format.specs.declared.Kind.TheVariants.{Boundary}
 use Rattle.scene_lengths.specs.Lengths.{kept_answer_width, answer_width}
 use Rattle.scene_lengths.proofs.answer_width.Goals as goal
@@ -23,8 +22,7 @@ returns-then-keeps-eq0 c = (rw (c.in-Boundary.is, c.if-keeps-eq0.true), omega ar
 
 pub returns-else-keeps-eq0 : goal.returns-else-keeps-eq0
 returns-else-keeps-eq0 c =
-    let w = c.kept_answer_width in
-    (
+    let w = c.kept_answer_width in (
       rw c.in-Boundary.is (w.ensures.0 ∙ kept _ _ c.if-keeps-eq0.false),
       w.ensures.1,
     )

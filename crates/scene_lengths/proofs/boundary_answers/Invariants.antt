@@ -1,24 +1,18 @@
 -- `scene_lengths::boundary_answers` meets its contract: boundary by boundary, each read at the head that the layout
 -- has. Assumes nothing.
 use Prim.Native.Nat.{◌*◌, ◌-◌, ◌≤◌}
-use mathlib.Core.Path.{◌≡◌, ◌∙◌}
-use native.Mathlib.Nat.{le_antisymm}
-use native.Mathlib.Omega.{arith}
-use borrow.Author.Rules.{rules}
-use Rattle.scene_check.proofs.Accepted.{accepted_within}
-use Rattle.scene_check.proofs.Checks.{boundary_turn, boundary-number}
+use mathlib.Core.Path.{◌≡◌}
 use Rattle.math.specs.Vector.{space}
-use Rattle.scene_format.specs.Format.{axes_of, most_models, most_particles, model_number, counts_of, keeps_of}
+use Rattle.scene_format.specs.Format.{axes_of, most_particles, model_number, counts_of, keeps_of}
 use Rattle.scene_format.specs.declared.Kind.TheVariants.{Boundary}
-use Rattle.scene_layout.proofs.Turns.{Turn}
-use Rattle.scene_lengths.specs.Lengths.{kept_answer_width, width_in, answers_before}
-use Rattle.scene_lengths.proofs.Needed.{answers_none, answers_next, few_answers, boundary_few}
+use Rattle.scene_lengths.specs.Lengths.{kept_answer_width, answers_before}
 use Rattle.scene_lengths.proofs.boundary_answers.Given as goal
 
 abbrev pub invariant-loop-m : goal.invariant-loop-m
 invariant-loop-m l =
     (l.m ≤ model_number Boundary l.scene) × (l.needed ≤ kept_answer_width space * most_particles * l.m)
-    × (l.needed ≡ answers_before (axes_of l.scene) Boundary (keeps_of Boundary l.scene) (counts_of Boundary l.scene) l.m)
+    × (l.needed ≡ answers_before (axes_of l.scene) Boundary (keeps_of Boundary l.scene) (counts_of Boundary l.scene)
+    l.m)
 
 abbrev pub decreases-loop-m : goal.decreases-loop-m
 decreases-loop-m l = l.number - l.m

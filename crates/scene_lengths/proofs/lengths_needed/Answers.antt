@@ -1,6 +1,5 @@
 -- `scene_lengths::lengths_needed` meets its contract: by the verdict of the check. Assumes nothing.
 use native.Mathlib.Omega.{arith}
-use borrow.Author.Rules.{rules}
 use Rattle.scene_check.specs.Check.{Passed}
 use Rattle.scene_check.proofs.Checks.{verdict_refused, verdict_accepted}
 use Rattle.scene_lengths.proofs.Needed.{refused_needs, accepted_needs}
@@ -8,7 +7,9 @@ use Rattle.scene_lengths.proofs.lengths_needed.Goals as goal
 
 pub lengths_of-requires : goal.lengths_of-requires
 lengths_of-requires c =
-    let passed : Passed c.args.scene.now c.check-found.result.layout = verdict_accepted _ c.check-found.ensures (λ i. omega (arith, c.shared_slice_known-1.given i)) c.in-Accepted.is in
+    let passed : Passed c.args.scene.now c.check-found.result.layout =
+    verdict_accepted _ c.check-found.ensures (λ i. omega (arith, c.shared_slice_known-1.given i)) c.in-Accepted.is
+    in
     passed
 
 pub returns-in-Refused : goal.returns-in-Refused
@@ -17,5 +18,7 @@ returns-in-Refused c =
 
 pub returns-in-Accepted : goal.returns-in-Accepted
 returns-in-Accepted c =
-    let passed : Passed c.args.scene.now c.check-found.result.layout = verdict_accepted _ c.check-found.ensures (λ i. omega (arith, c.shared_slice_known-1.given i)) c.in-Accepted.is in
+    let passed : Passed c.args.scene.now c.check-found.result.layout =
+    verdict_accepted _ c.check-found.ensures (λ i. omega (arith, c.shared_slice_known-1.given i)) c.in-Accepted.is
+    in
     accepted_needs passed c.lengths_of.ensures

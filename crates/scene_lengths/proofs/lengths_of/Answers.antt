@@ -2,7 +2,6 @@
 use Prim.Native.Nat.{◌+◌, ◌*◌, ◌≤◌}
 use mathlib.Core.Path.{ap, ◌∙◌}
 use native.Mathlib.Omega.{arith}
-use borrow.Author.Rules.{rules}
 use Rattle.math.specs.Vector.{space}
 use Rattle.scene_check.proofs.Accepted.{accepted_header}
 use Rattle.scene_format.specs.Format.{most_of_a_kind}
@@ -18,22 +17,28 @@ summation-requires c = omega (arith, accepted_header _ c.requires.walk)
 
 pub overflow_mul-result : goal.overflow_mul-result
 overflow_mul-result c =
-    let answers : c.fluid_answer_width.result * c.args.layout.fluids.total ≤ fluid_answer_width space * most_of_a_kind = answers_few _ c.fluid_answer_width.ensures.0 c.axes-dim.ensures.1.most (fluids_few c.requires) in
+    let answers : c.fluid_answer_width.result * c.args.layout.fluids.total ≤ fluid_answer_width space * most_of_a_kind
+    = answers_few _ c.fluid_answer_width.ensures.0 c.axes-dim.ensures.1.most (fluids_few c.requires) in
     omega (arith, answers)
 
 pub overflow_add-result : goal.overflow_add-result
 overflow_add-result c =
-    let answers : c.fluid_answer_width.result * c.args.layout.fluids.total ≤ fluid_answer_width space * most_of_a_kind = answers_few _ c.fluid_answer_width.ensures.0 c.axes-dim.ensures.1.most (fluids_few c.requires) in
+    let answers : c.fluid_answer_width.result * c.args.layout.fluids.total ≤ fluid_answer_width space * most_of_a_kind
+    = answers_few _ c.fluid_answer_width.ensures.0 c.axes-dim.ensures.1.most (fluids_few c.requires) in
     omega (arith, answers, c.boundary_answers-behind.ensures.0)
 
 pub overflow_mul-result-2 : goal.overflow_mul-result-2
 overflow_mul-result-2 c =
-    let rows : (c.work_width.result + c.added_width.result) * c.args.layout.fluids.total ≤ (work_width space + 1) * most_of_a_kind = width_few _ c.work_width.ensures.0 c.axes-dim.ensures.1.most c.added_width.ensures.1 (fluids_few c.requires) in
+    let rows : (c.work_width.result + c.added_width.result) * c.args.layout.fluids.total ≤ (work_width space + 1)
+    * most_of_a_kind = width_few _ c.work_width.ensures.0 c.axes-dim.ensures.1.most c.added_width.ensures.1
+    (fluids_few c.requires) in
     omega (arith, rows)
 
 pub overflow_add-result-2 : goal.overflow_add-result-2
 overflow_add-result-2 c =
-    let rows : (c.work_width.result + c.added_width.result) * c.args.layout.fluids.total ≤ (work_width space + 1) * most_of_a_kind = width_few _ c.work_width.ensures.0 c.axes-dim.ensures.1.most c.added_width.ensures.1 (fluids_few c.requires) in
+    let rows : (c.work_width.result + c.added_width.result) * c.args.layout.fluids.total ≤ (work_width space + 1)
+    * most_of_a_kind = width_few _ c.work_width.ensures.0 c.axes-dim.ensures.1.most c.added_width.ensures.1
+    (fluids_few c.requires) in
     omega (arith, rows, boundaries_few c.requires)
 
 pub returns : goal.returns

@@ -4,7 +4,6 @@ use Prim.Native.Nat.{ℕ, ◌≤◌, ◌<◌}
 use mathlib.Core.Path.{◌≡◌, sym, ap, ◌∙◌}
 use native.Mathlib.Omega.{arith}
 use lib.ListN.{length, get_or, replicate, length-replicate}
-use borrow.Author.Rules.{rules}
 use Rattle.scene_walk.specs.Walk.{fields}
 use Rattle.scene_walk.proofs.Walked.{fields_leads}
 use Rattle.scene_walk.proofs.Within.{fields_within}
@@ -23,7 +22,8 @@ returns-in-Refused c = refused_before _ _ _ _ (sym c.fields.ensures ∙ c.in-Ref
 
 pub layout_of-layout-requires : goal.layout_of-layout-requires
 layout_of-layout-requires c =
-    let passed : let b = c.args.scene.now in fields b ≡ At (length b) = let q = sym c.fields.ensures ∙ c.in_default.is in q ∙ ap At (fields_leads _ _ q).0 in
+    let passed : let b = c.args.scene.now in fields b ≡ At (length b) = let q =
+    sym c.fields.ensures ∙ c.in_default.is in q ∙ ap At (fields_leads _ _ q).0 in
     passed
 
 pub models_of-owners-requires : goal.models_of-owners-requires
@@ -31,32 +31,41 @@ models_of-owners-requires c = c.layout_of-layout.ensures
 
 pub returns-then-owners-model : goal.returns-then-owners-model
 returns-then-owners-model c =
-    let passed : let b = c.args.scene.now in fields b ≡ At (length b) = let q = sym c.fields.ensures ∙ c.in_default.is in q ∙ ap At (fields_leads _ _ q).0 in
+    let passed : let b = c.args.scene.now in fields b ≡ At (length b) = let q =
+    sym c.fields.ensures ∙ c.in_default.is in q ∙ ap At (fields_leads _ _ q).0 in
     no_model _ _ _ _ passed c.owner_of-owner.ensures
     (rw (← number_is (fields_within _ passed _) c.models_of-owners.ensures) c.if-owners-model.true)
 
 pub offset_bounds-heads-model : goal.offset_bounds-heads-model
 offset_bounds-heads-model c =
-    let passed : let b = c.args.scene.now in fields b ≡ At (length b) = let q = sym c.fields.ensures ∙ c.in_default.is in q ∙ ap At (fields_leads _ _ q).0 in
-    let turn : let a = c.args in Turn c.owner_of-owner.result a.scene.now c.models_of-owners.result.heads a.model = this_turn (fields_within _ passed _) c.models_of-owners.ensures _ c.if-owners-model.false in
+    let passed : let b = c.args.scene.now in fields b ≡ At (length b) = let q =
+    sym c.fields.ensures ∙ c.in_default.is in q ∙ ap At (fields_leads _ _ q).0 in
+    let turn : let a = c.args in Turn c.owner_of-owner.result a.scene.now c.models_of-owners.result.heads a.model =
+    this_turn (fields_within _ passed _) c.models_of-owners.ensures _ c.if-owners-model.false in
     omega (arith, turn.small)
 
 pub bounds-heads-model : goal.bounds-heads-model
 bounds-heads-model c =
-    let passed : let b = c.args.scene.now in fields b ≡ At (length b) = let q = sym c.fields.ensures ∙ c.in_default.is in q ∙ ap At (fields_leads _ _ q).0 in
-    let turn : let a = c.args in Turn c.owner_of-owner.result a.scene.now c.models_of-owners.result.heads a.model = this_turn (fields_within _ passed _) c.models_of-owners.ensures _ c.if-owners-model.false in
+    let passed : let b = c.args.scene.now in fields b ≡ At (length b) = let q =
+    sym c.fields.ensures ∙ c.in_default.is in q ∙ ap At (fields_leads _ _ q).0 in
+    let turn : let a = c.args in Turn c.owner_of-owner.result a.scene.now c.models_of-owners.result.heads a.model =
+    this_turn (fields_within _ passed _) c.models_of-owners.ensures _ c.if-owners-model.false in
     omega (arith, turn.small)
 
 pub particles-requires : goal.particles-requires
 particles-requires c =
-    let passed : let b = c.args.scene.now in fields b ≡ At (length b) = let q = sym c.fields.ensures ∙ c.in_default.is in q ∙ ap At (fields_leads _ _ q).0 in
-    let turn : let a = c.args in Turn c.owner_of-owner.result a.scene.now c.models_of-owners.result.heads a.model = this_turn (fields_within _ passed _) c.models_of-owners.ensures _ c.if-owners-model.false in
+    let passed : let b = c.args.scene.now in fields b ≡ At (length b) = let q =
+    sym c.fields.ensures ∙ c.in_default.is in q ∙ ap At (fields_leads _ _ q).0 in
+    let turn : let a = c.args in Turn c.owner_of-owner.result a.scene.now c.models_of-owners.result.heads a.model =
+    this_turn (fields_within _ passed _) c.models_of-owners.ensures _ c.if-owners-model.false in
     turn.within.head_room
 
 pub returns-then-particles-particle : goal.returns-then-particles-particle
 returns-then-particles-particle c =
-    let passed : let b = c.args.scene.now in fields b ≡ At (length b) = let q = sym c.fields.ensures ∙ c.in_default.is in q ∙ ap At (fields_leads _ _ q).0 in
-    let turn : let a = c.args in Turn c.owner_of-owner.result a.scene.now c.models_of-owners.result.heads a.model = this_turn (fields_within _ passed _) c.models_of-owners.ensures _ c.if-owners-model.false in
+    let passed : let b = c.args.scene.now in fields b ≡ At (length b) = let q =
+    sym c.fields.ensures ∙ c.in_default.is in q ∙ ap At (fields_leads _ _ q).0 in
+    let turn : let a = c.args in Turn c.owner_of-owner.result a.scene.now c.models_of-owners.result.heads a.model =
+    this_turn (fields_within _ passed _) c.models_of-owners.ensures _ c.if-owners-model.false in
     no_particle _ _ _ _ passed c.owner_of-owner.ensures turn.below
     (rw (← turn.head, ← c.particles.ensures.0) c.if-particles-particle.true)
 
@@ -65,29 +74,45 @@ models_of-requires c = c.layout_of-layout.ensures
 
 pub fill_counts-requires : goal.fill_counts-requires
 fill_counts-requires c =
-    let passed : let b = c.args.scene.now in fields b ≡ At (length b) = let q = sym c.fields.ensures ∙ c.in_default.is in q ∙ ap At (fields_leads _ _ q).0 in
+    let passed : let b = c.args.scene.now in fields b ≡ At (length b) = let q =
+    sym c.fields.ensures ∙ c.in_default.is in q ∙ ap At (fields_leads _ _ q).0 in
     record { models_within = (fields_within _ passed _, c.models_of.ensures); most_models_in_bounds = room }
 
 pub record_offset-at-requires : goal.record_offset-at-requires
 record_offset-at-requires c =
-    let particle-there : let a = c.args in a.particle < particles_at c.owner_of-owner.result a.scene.now (get_or c.models_of-owners.result.heads a.model 0) = rw (← c.particles.ensures.0) c.if-particles-particle.false in
-    let passed : let b = c.args.scene.now in fields b ≡ At (length b) = let q = sym c.fields.ensures ∙ c.in_default.is in q ∙ ap At (fields_leads _ _ q).0 in
-    let turn : let a = c.args in Turn c.owner_of-owner.result a.scene.now c.models_of-owners.result.heads a.model = this_turn (fields_within _ passed _) c.models_of-owners.ensures _ c.if-owners-model.false in
-    (turn.within, omega (arith, particle-there))
+    let particle_there : let a = c.args in a.particle < particles_at c.owner_of-owner.result a.scene.now
+    (get_or c.models_of-owners.result.heads a.model 0) =
+    rw (← c.particles.ensures.0) c.if-particles-particle.false in
+    let passed : let b = c.args.scene.now in fields b ≡ At (length b) = let q =
+    sym c.fields.ensures ∙ c.in_default.is in q ∙ ap At (fields_leads _ _ q).0 in
+    let turn : let a = c.args in Turn c.owner_of-owner.result a.scene.now c.models_of-owners.result.heads a.model =
+    this_turn (fields_within _ passed _) c.models_of-owners.ensures _ c.if-owners-model.false in
+    (turn.within, omega (arith, particle_there))
 
 pub list_looked-requires : goal.list_looked-requires
 list_looked-requires c =
-    let particle-there : let a = c.args in a.particle < particles_at c.owner_of-owner.result a.scene.now (get_or c.models_of-owners.result.heads a.model 0) = rw (← c.particles.ensures.0) c.if-particles-particle.false in
-    let passed : let b = c.args.scene.now in fields b ≡ At (length b) = let q = sym c.fields.ensures ∙ c.in_default.is in q ∙ ap At (fields_leads _ _ q).0 in
-    let turn : let a = c.args in Turn c.owner_of-owner.result a.scene.now c.models_of-owners.result.heads a.model = this_turn (fields_within _ passed _) c.models_of-owners.ensures _ c.if-owners-model.false in
-    record { record_within = rw (← c.owner_of-owner.ensures, c.record_offset-at.ensures)
-          (turn.within.records _ particle-there); counts_of_kind = rw (← c.named_of-named.ensures)
-          (stored_counts _ _ (fields_within _ passed _) c.fill_counts.ensures) }
+    let particle_there : let a = c.args in a.particle < particles_at c.owner_of-owner.result a.scene.now
+    (get_or c.models_of-owners.result.heads a.model 0) =
+    rw (← c.particles.ensures.0) c.if-particles-particle.false in
+    let passed : let b = c.args.scene.now in fields b ≡ At (length b) = let q =
+    sym c.fields.ensures ∙ c.in_default.is in q ∙ ap At (fields_leads _ _ q).0 in
+    let turn : let a = c.args in Turn c.owner_of-owner.result a.scene.now c.models_of-owners.result.heads a.model =
+    this_turn (fields_within _ passed _) c.models_of-owners.ensures _ c.if-owners-model.false in
+    record {
+      record_within = rw (← c.owner_of-owner.ensures, c.record_offset-at.ensures)
+          (turn.within.records _ particle_there);
+      counts_of_kind = rw (← c.named_of-named.ensures)
+          (stored_counts _ _ (fields_within _ passed _) c.fill_counts.ensures);
+    }
 
 pub returns : goal.returns
 returns c =
-    let particle-there : let a = c.args in a.particle < particles_at c.owner_of-owner.result a.scene.now (get_or c.models_of-owners.result.heads a.model 0) = rw (← c.particles.ensures.0) c.if-particles-particle.false in
-    let passed : let b = c.args.scene.now in fields b ≡ At (length b) = let q = sym c.fields.ensures ∙ c.in_default.is in q ∙ ap At (fields_leads _ _ q).0 in
-    let turn : let a = c.args in Turn c.owner_of-owner.result a.scene.now c.models_of-owners.result.heads a.model = this_turn (fields_within _ passed _) c.models_of-owners.ensures _ c.if-owners-model.false in
+    let particle_there : let a = c.args in a.particle < particles_at c.owner_of-owner.result a.scene.now
+    (get_or c.models_of-owners.result.heads a.model 0) =
+    rw (← c.particles.ensures.0) c.if-particles-particle.false in
+    let passed : let b = c.args.scene.now in fields b ≡ At (length b) = let q =
+    sym c.fields.ensures ∙ c.in_default.is in q ∙ ap At (fields_leads _ _ q).0 in
+    let turn : let a = c.args in Turn c.owner_of-owner.result a.scene.now c.models_of-owners.result.heads a.model =
+    this_turn (fields_within _ passed _) c.models_of-owners.ensures _ c.if-owners-model.false in
     list_checked _ _ _ _ passed c.owner_of-owner.ensures turn.below
-    (rw (← turn.head) particle-there) (c.list_looked.ensures ∙ rw (c.record_offset-at.ensures, turn.head))
+    (rw (← turn.head) particle_there) (c.list_looked.ensures ∙ rw (c.record_offset-at.ensures, turn.head))

@@ -1,5 +1,4 @@
 -- `scene_lists::models_of` meets its contract, kind by kind. Assumes nothing.
-use borrow.Author.Rules.{rules}
 use Rattle.scene_check.proofs.Checks.{fluids_are, boundaries_are}
 use Rattle.scene_lists.proofs.models_of.Goals as goal
 

@@ -1,6 +1,5 @@
 -- `scene_walk::contact` meets its contract: field by field, up to the first refusal. Assumes nothing.
 use mathlib.Core.Path.{sym, ◌∙◌}
-use borrow.Author.Rules.{rules}
 use Rattle.scene_fields.specs.Fields.{◌▹◌}
 use Rattle.scene_walk.specs.Walk.{contact}
 use Rattle.scene_walk.proofs.contact.Goals as goal

@@ -1,8 +1,5 @@
 -- `scene_walk::contacts` meets its contract: what remains from here is the whole, turn by turn. Assumes nothing.
-use Prim.Native.Nat.{◌-◌}
-use borrow.Author.Rules.{rules}
-use Rattle.scene_walk.specs.Walk.{contact}
-use Rattle.scene_fields.proofs.Walks.{Remains, none_done, one_more_done, turn_refused, all_done}
+use Rattle.scene_fields.proofs.Walks.{none_done, one_more_done, turn_refused, all_done}
 use Rattle.scene_walk.proofs.contacts.Goals as goal
 
 pub loop-i-init : goal.loop-i-init

@@ -1,8 +1,7 @@
 -- `scene_walk::contacts` meets its contract: what remains from here is the whole, turn by turn. Assumes nothing.
 use Prim.Native.Nat.{◌-◌}
-use borrow.Author.Rules.{rules}
 use Rattle.scene_walk.specs.Walk.{contact}
-use Rattle.scene_fields.proofs.Walks.{Remains, none_done, one_more_done, turn_refused, all_done}
+use Rattle.scene_fields.proofs.Walks.{Remains}
 use Rattle.scene_walk.proofs.contacts.Given as goal
 
 abbrev pub invariant-loop-i : goal.invariant-loop-i

@@ -1,16 +1,10 @@
 -- `scene_walk::contacts_plainly_finite` meets its contract: the contacts before this one have passed, turn by turn;
 -- each is there, since all are. Assumes nothing.
-use Prim.Native.Nat.{◌+◌, ◌*◌, ◌-◌, ◌≤◌}
-use mathlib.Core.Path.{◌≡◌, sym, ◌∙◌}
-use native.Mathlib.Nat.{mul-zero, mul-suc}
-use native.Mathlib.Numerals.{add-one}
-use native.Mathlib.Omega.{arith}
-use lib.ListN.{length}
-use borrow.Author.Rules.{rules}
-use borrow.Author.Tests.{not-true, not-false}
+use Prim.Native.Nat.{◌+◌, ◌*◌, ◌-◌}
+use mathlib.Core.Path.{◌≡◌}
 use Rattle.scene_format.specs.Format.{name_width}
-use Rattle.scene_walk.specs.Plainly.{doubles_plainly_finite, contact_bytes, contacts_plainly_finite}
-use Rattle.scene_walk.proofs.Plainly.{Passed, none_passed, one_more_passed, all_passed, one_failed, part_within}
+use Rattle.scene_walk.specs.Plainly.{doubles_plainly_finite, contact_bytes}
+use Rattle.scene_walk.proofs.Plainly.{Passed}
 use Rattle.scene_walk.proofs.contacts_plainly_finite.Given as goal
 
 abbrev pub invariant-loop-i : goal.invariant-loop-i

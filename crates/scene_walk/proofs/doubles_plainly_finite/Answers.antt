@@ -1,12 +1,8 @@
 -- `scene_walk::doubles_plainly_finite` meets its contract: the doubles before this one have passed, turn by turn.
 -- Assumes nothing.
-use Prim.Native.Nat.{◌+◌, ◌*◌, ◌-◌}
 use mathlib.Core.Path.{sym, ◌∙◌}
-use borrow.Author.Rules.{rules}
-use borrow.Author.Tests.{not-true, not-false}
-use Rattle.scene_format.specs.Bytes.{double_width, plainly_finite}
 use Rattle.scene_walk.specs.Plainly.{doubles_plainly_finite}
-use Rattle.scene_walk.proofs.Plainly.{Passed, none_passed, one_more_passed, all_passed, one_failed}
+use Rattle.scene_walk.proofs.Plainly.{none_passed, one_more_passed, all_passed, one_failed}
 use Rattle.scene_walk.proofs.doubles_plainly_finite.Goals as goal
 
 pub loop-i-init : goal.loop-i-init

@@ -5,7 +5,6 @@ use mathlib.Core.List.{List}
 use mathlib.Core.Path.{◌≡◌, sym, ◌∙◌}
 use native.Mathlib.Omega.{arith}
 use lib.ListN.{length}
-use borrow.Author.Rules.{rules}
 use Rattle.scene_fields.proofs.Reached.{both}
 use Rattle.scene_fields.proofs.Walks.{stopped, gone_on}
 use Rattle.scene_format.specs.Format.{axes_of, header_width}

@@ -4,7 +4,6 @@ use Prim.Native.Nat.{◌+◌, ◌*◌, ◌≤◌}
 use mathlib.Core.Path.{sym, ◌∙◌}
 use native.Mathlib.Omega.{arith}
 use lib.ListN.{length}
-use borrow.Author.Rules.{rules}
 use Rattle.scene_fields.proofs.Reached.{plain-steps}
 use Rattle.scene_fields.proofs.Walks.{plain_there}
 use Rattle.scene_format.specs.Format.{contact_width}
@@ -17,12 +16,14 @@ overflow_mul-contact_width c = omega (arith, contacts_fit c.contact_width.ensure
 
 pub contacts_plainly_finite-requires : goal.contacts_plainly_finite-requires
 contacts_plainly_finite-requires c =
-    let there : let a = c.args in a.from + contact_width a.dim * a.n ≤ length a.s.now = rw c.contact_width.ensures.0 at (plain-steps _ _ _ _ (sym c.plain-w.ensures ∙ c.in-At.is)).1 in
+    let there : let a = c.args in a.from + contact_width a.dim * a.n ≤ length a.s.now =
+    rw c.contact_width.ensures.0 at (plain-steps _ _ _ _ (sym c.plain-w.ensures ∙ c.in-At.is)).1 in
     rw c.contact_doubles-d.ensures (omega (arith, there))
 
 pub returns-then-contacts_plainly_finite : goal.returns-then-contacts_plainly_finite
 returns-then-contacts_plainly_finite c =
-    let there : let a = c.args in a.from + contact_width a.dim * a.n ≤ length a.s.now = rw c.contact_width.ensures.0 at (plain-steps _ _ _ _ (sym c.plain-w.ensures ∙ c.in-At.is)).1 in
+    let there : let a = c.args in a.from + contact_width a.dim * a.n ≤ length a.s.now =
+    rw c.contact_width.ensures.0 at (plain-steps _ _ _ _ (sym c.plain-w.ensures ∙ c.in-At.is)).1 in
     let h = there in
     c.plain-w.ensures ∙ rw c.contact_width.ensures.0 (plain_there _ _ _ h)
     ∙ sym

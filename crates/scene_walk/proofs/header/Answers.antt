@@ -1,7 +1,6 @@
 -- `scene_walk::header` meets its contract: field by field, up to the first refusal. Assumes nothing.
 use mathlib.Core.Path.{sym, ◌∙◌}
 use native.Mathlib.Omega.{arith}
-use borrow.Author.Rules.{rules}
 use Rattle.scene_fields.specs.Fields.{◌▹◌}
 use Rattle.scene_fields.proofs.Reached.{halves-steps}
 use Rattle.scene_walk.specs.Walk.{header}

@@ -1,7 +1,6 @@
 -- `scene_walk::model` meets its contract: the head, and then its records, which are as many as it says. Assumes
 -- nothing.
 use mathlib.Core.Path.{sym, ◌∙◌}
-use borrow.Author.Rules.{rules}
 use Rattle.scene_walk.specs.Walk.{model_of}
 use Rattle.scene_fields.specs.Fields.{◌▹◌}
 use Rattle.scene_walk.proofs.Within.{passed_head}

@@ -1,6 +1,5 @@
 -- `scene_walk::models_on` meets its contract: by whether the walk is refused; the models are as many as the header
 -- says. Assumes nothing.
-use borrow.Author.Rules.{rules}
 use Rattle.scene_fields.proofs.Walks.{stopped, gone_on}
 use Rattle.scene_walk.specs.Walk.{models_of}
 use Rattle.scene_walk.proofs.models_on.Goals as goal

@@ -1,5 +1,4 @@
 -- `scene_walk::plain_on` meets its contract: by whether the walk is refused. Assumes nothing.
-use borrow.Author.Rules.{rules}
 use Rattle.scene_fields.proofs.Walks.{stopped, gone_on}
 use Rattle.scene_walk.proofs.plain_on.Goals as goal
 

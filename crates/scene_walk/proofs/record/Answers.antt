@@ -1,5 +1,4 @@
 -- `scene_walk::record` meets its contract: by the kind. Assumes nothing.
-use borrow.Author.Rules.{rules}
 use Rattle.scene_walk.specs.Walk.{record_of}
 use Rattle.scene_walk.proofs.record.Goals as goal
 

@@ -1,5 +1,4 @@
 -- `timestep_manager::advance` meets its contract: field by field, with what `inverse_of` ensures. Assumes nothing.
-use borrow.Author.Rules.{rules}
 use Rattle.timestep_manager.specs.Clock.{advanced}
 use Rattle.timestep_manager.proofs.advance.Goals as goal
 

@@ -1,7 +1,6 @@
 -- `timestep_manager::inverse_of` meets its contract: each branch is the definition's, by what `is_zero` ensures.
 -- Assumes nothing.
 use mathlib.Core.Path.{sym, ◌∙◌}
-use borrow.Author.Rules.{rules}
 use Rattle.timestep_manager.specs.Clock.{inverse}
 use Rattle.timestep_manager.proofs.inverse_of.Goals as goal
 

@@ -1,7 +1,6 @@
 -- `weight_table::lookup` meets its contract: its numbers are those of proofs/Found.antt, in the table that `entries`
 -- promises. Assumes nothing.
 use native.Mathlib.Omega.{arith}
-use borrow.Author.Rules.{rules}
 use Rattle.weight_table.proofs.Found.{lower, small, inside, found, beyond}
 use Rattle.weight_table.proofs.lookup.Goals as goal
 

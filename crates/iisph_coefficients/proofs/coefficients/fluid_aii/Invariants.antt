@@ -1,19 +1,11 @@
 -- `iisph_coefficients::coefficients::fluid_aii` meets its contract. The invariant: the sum is the rule's
 -- over the contacts passed; a turn takes in one more. The measure is the number of contacts left. Assumes nothing.
-use Prim.Native.Nat.{◌+◌, ◌*◌, ◌-◌, ◌≤◌}
-use mathlib.Core.Path.{◌≡◌, refl}
-use native.Mathlib.Nat.{le_antisymm}
-use native.Mathlib.Omega.{arith}
-use borrow.Author.Rules.{rules}
-use Rattle.lists.specs.Lists.{fold, table}
+use Prim.Native.Nat.{◌+◌, ◌-◌, ◌≤◌}
+use mathlib.Core.Path.{◌≡◌}
 use Rattle.math.specs.Real.{+0}
 use Rattle.math.specs.Vector.{coordinates}
-use Rattle.scene_format.specs.SceneOf.{contact_list}
 use Rattle.scene_format.specs.declared.Kind.TheVariants.{Fluid}
-use Rattle.scene_index.specs.Contacts.{ContactReady}
-use Rattle.scene_index.proofs.ContactLists.{contact_here}
 use Rattle.iisph_coefficients.specs.Neighbours.{returned, summed}
-use Rattle.iisph_coefficients.proofs.Sums.{returned_next}
 use Rattle.iisph_coefficients.proofs.coefficients.fluid_aii.Given as goal
 
 abbrev pub invariant-loop-k : goal.invariant-loop-k

@@ -1,13 +1,13 @@
 -- `iisph_coefficients::neighbours::mass` meets its contract: by the kind, the work list holds the mass or the volume of
 -- what the contact names. Assumes nothing.
 use native.Mathlib.Omega.{arith}
-use borrow.Author.Rules.{rules}
 use Rattle.scene_index.proofs.ContactLists.{target_ready}
 use Rattle.iisph_coefficients.proofs.Targets.{fluid_row, fluid_mass_lem, boundary_volume_lem, boundary_mass_lem}
 use Rattle.iisph_coefficients.proofs.neighbours.mass.Goals as goal
 
 pub target_of-j-requires : goal.target_of-j-requires
-target_of-j-requires c = let p = c.requires in record { indexed = p.pass_over.indexed; target_ready = target_ready p.contact_ready.0 }
+target_of-j-requires c = let p = c.requires in record
+    { indexed = p.pass_over.indexed; target_ready = target_ready p.contact_ready.0 }
 
 pub row_at-requires : goal.row_at-requires
 row_at-requires c =

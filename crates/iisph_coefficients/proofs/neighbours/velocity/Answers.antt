@@ -2,7 +2,6 @@
 -- stands in the work list, or in the boundary particle's record, which the index finds. Assumes nothing.
 use mathlib.Core.Path.{◌∙◌}
 use native.Mathlib.Omega.{arith}
-use borrow.Author.Rules.{rules}
 use Rattle.scene_format.specs.Scene.{size_of}
 use Rattle.scene_index.proofs.ContactLists.{target_ready}
 use Rattle.scene_index.proofs.Targets.{boundary_named}
@@ -11,7 +10,8 @@ use Rattle.iisph_coefficients.proofs.Targets.{boundary-velocity_read, boundary-v
 use Rattle.iisph_coefficients.proofs.neighbours.velocity.Goals as goal
 
 pub target_of-j-requires : goal.target_of-j-requires
-target_of-j-requires c = let p = c.requires in record { indexed = p.pass_over.indexed; target_ready = target_ready p.contact_ready.0 }
+target_of-j-requires c = let p = c.requires in record
+    { indexed = p.pass_over.indexed; target_ready = target_ready p.contact_ready.0 }
 
 pub row_at-requires : goal.row_at-requires
 row_at-requires c =

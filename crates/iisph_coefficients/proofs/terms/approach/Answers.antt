@@ -1,4 +1,5 @@
--- `iisph_coefficients::terms::approach` meets its contract: by whether there are the axes of space; either number is the
+-- `iisph_coefficients::terms::approach` meets its contract: by whether there are the axes of space; either number is
+-- the
 -- one that is asked for. Assumes nothing.
 use Prim.Native.Nat.{ℕ}
 use mathlib.Core.Path.{◌≡◌}
@@ -6,7 +7,6 @@ use mathlib.Core.List.{List}
 use mathlib.Core.Logic.{⊎_elim}
 use native.Mathlib.Omega.{arith}
 use lib.Ieee.{Float}
-use borrow.Author.Rules.{rules}
 use Rattle.math.specs.Vector.{plane, coordinates, ◌·◌}
 use Rattle.math.specs.declared.Vec3.{Vec3}
 use Rattle.math.proofs.Vectors.{plane_or_space}
@@ -14,9 +14,10 @@ use Rattle.scene_format.specs.Bytes.{vector_at}
 use Rattle.scene_format.proofs.Forms.{vector_at_lem}
 use Rattle.iisph_coefficients.proofs.terms.approach.Goals as goal
 
-dot-here : {d n : ℕ} → d ≡ n → (b : List ℕ) (at : ℕ) (v g : Vec3) {r : Float}
-    → r ≡ coordinates n v · coordinates n g → coordinates n g ≡ vector_at n b at → r ≡ coordinates d v · vector_at d b at
-dot-here e b at v g re ge = rw (re, ge, e)
+dot_here : {d n : ℕ} → d ≡ n → (b : List ℕ) (at : ℕ) (v g : Vec3) {r : Float}
+    → r ≡ coordinates n v · coordinates n g → coordinates n g ≡ vector_at n b at → r ≡ coordinates d v · vector_at d b
+    at
+dot_here e b at v g re ge = rw (re, ge, e)
 
 pub overflow_add-c : goal.overflow_add-c
 overflow_add-c c =
@@ -28,20 +29,23 @@ vector-g-requires c = let p = c.requires in vector_at_lem c.if-dim-eq-SPACE.true
 
 pub returns-then-dim-eq-SPACE : goal.returns-then-dim-eq-SPACE
 returns-then-dim-eq-SPACE c =
-    dot-here c.if-dim-eq-SPACE.true _ _ _ _ c.dot.ensures c.vector-g.ensures
+    dot_here c.if-dim-eq-SPACE.true _ _ _ _ c.dot.ensures c.vector-g.ensures
 
 pub overflow_add-c-2 : goal.overflow_add-c-2
 overflow_add-c-2 c =
-    let flat : c.args.dim ≡ plane = ⊎_elim (λ e. e) (λ e. absurd (c.if-dim-eq-SPACE.false e)) (plane_or_space c.requires.0) in
+    let flat : c.args.dim ≡ plane = ⊎_elim (λ e. e) (λ e. absurd (c.if-dim-eq-SPACE.false e))
+    (plane_or_space c.requires.0) in
     let p = c.requires in
     omega (arith, ((vector_at_lem flat _ _ p.0 p.1).1.each 0 (omega arith)).present)
 
 pub vector-g-requires-2 : goal.vector-g-requires-2
 vector-g-requires-2 c =
-    let flat : c.args.dim ≡ plane = ⊎_elim (λ e. e) (λ e. absurd (c.if-dim-eq-SPACE.false e)) (plane_or_space c.requires.0) in
+    let flat : c.args.dim ≡ plane = ⊎_elim (λ e. e) (λ e. absurd (c.if-dim-eq-SPACE.false e))
+    (plane_or_space c.requires.0) in
     let p = c.requires in vector_at_lem flat _ _ p.0 p.1
 
 pub returns : goal.returns
 returns c =
-    let flat : c.args.dim ≡ plane = ⊎_elim (λ e. e) (λ e. absurd (c.if-dim-eq-SPACE.false e)) (plane_or_space c.requires.0) in
-    dot-here flat _ _ _ _ c.dot-2.ensures c.vector-g-2.ensures
+    let flat : c.args.dim ≡ plane = ⊎_elim (λ e. e) (λ e. absurd (c.if-dim-eq-SPACE.false e))
+    (plane_or_space c.requires.0) in
+    dot_here flat _ _ _ _ c.dot-2.ensures c.vector-g-2.ensures

@@ -5,7 +5,6 @@ use mathlib.Core.Path.{ap, ◌∙◌}
 use native.Mathlib.Omega.{arith}
 use lib.ListN.{length, get_or}
 use lib.Seq.{length-sets}
-use borrow.Author.Rules.{rules}
 use Rattle.iisph_motion.proofs.Accelerations.{pass_axes}
 use Rattle.scene_index.proofs.ContactLists.{target_ready}
 use Rattle.iisph_forces.proofs.Contacts.{force_kept, force_offset_lem, force_room, force_none}
@@ -25,12 +24,22 @@ bounds-forces-model c =
 
 pub overflow_mul-k : goal.overflow_mul-k
 overflow_mul-k c =
-    let room : let a = c.args in let name = c.contact_name-name.result in let k = get_or a.forces.now name.model.0 0 + c.kept_answer_width.result * name.particle.0 in k + a.dim ≤ length a.answers.now = let p = c.requires in let within = force_room p.pass_over.0.indexed p.force_contact.0 p.force_contact.1 c.contact_name-name.ensures c.if-first-gt0.true c.kept_answer_width.ensures.0 p.pass_over.0.axes in omega (arith, within, p.force_contact.2) in
+    let room : let a = c.args in let name = c.contact_name-name.result in let k =
+    get_or a.forces.now name.model.0 0 + c.kept_answer_width.result * name.particle.0 in
+    k + a.dim ≤ length a.answers.now = let p = c.requires in let within =
+    force_room p.pass_over.0.indexed p.force_contact.0 p.force_contact.1 c.contact_name-name.ensures
+    c.if-first-gt0.true c.kept_answer_width.ensures.0 p.pass_over.0.axes in
+    omega (arith, within, p.force_contact.2) in
     omega (arith, room)
 
 pub overflow_add-k : goal.overflow_add-k
 overflow_add-k c =
-    let room : let a = c.args in let name = c.contact_name-name.result in let k = get_or a.forces.now name.model.0 0 + c.kept_answer_width.result * name.particle.0 in k + a.dim ≤ length a.answers.now = let p = c.requires in let within = force_room p.pass_over.0.indexed p.force_contact.0 p.force_contact.1 c.contact_name-name.ensures c.if-first-gt0.true c.kept_answer_width.ensures.0 p.pass_over.0.axes in omega (arith, within, p.force_contact.2) in
+    let room : let a = c.args in let name = c.contact_name-name.result in let k =
+    get_or a.forces.now name.model.0 0 + c.kept_answer_width.result * name.particle.0 in
+    k + a.dim ≤ length a.answers.now = let p = c.requires in let within =
+    force_room p.pass_over.0.indexed p.force_contact.0 p.force_contact.1 c.contact_name-name.ensures
+    c.if-first-gt0.true c.kept_answer_width.ensures.0 p.pass_over.0.axes in
+    omega (arith, within, p.force_contact.2) in
     omega (arith, room)
 
 pub boundary_acceleration-a-requires : goal.boundary_acceleration-a-requires
@@ -40,12 +49,22 @@ boundary_acceleration-a-requires c =
 
 pub vector_at-requires : goal.vector_at-requires
 vector_at-requires c =
-    let room : let a = c.args in let name = c.contact_name-name.result in let k = get_or a.forces.now name.model.0 0 + c.kept_answer_width.result * name.particle.0 in k + a.dim ≤ length a.answers.now = let p = c.requires in let within = force_room p.pass_over.0.indexed p.force_contact.0 p.force_contact.1 c.contact_name-name.ensures c.if-first-gt0.true c.kept_answer_width.ensures.0 p.pass_over.0.axes in omega (arith, within, p.force_contact.2) in
+    let room : let a = c.args in let name = c.contact_name-name.result in let k =
+    get_or a.forces.now name.model.0 0 + c.kept_answer_width.result * name.particle.0 in
+    k + a.dim ≤ length a.answers.now = let p = c.requires in let within =
+    force_room p.pass_over.0.indexed p.force_contact.0 p.force_contact.1 c.contact_name-name.ensures
+    c.if-first-gt0.true c.kept_answer_width.ensures.0 p.pass_over.0.axes in
+    omega (arith, within, p.force_contact.2) in
     (pass_axes c.requires.pass_over.0, omega (arith, room))
 
 pub put_vector-requires : goal.put_vector-requires
 put_vector-requires c =
-    let room : let a = c.args in let name = c.contact_name-name.result in let k = get_or a.forces.now name.model.0 0 + c.kept_answer_width.result * name.particle.0 in k + a.dim ≤ length a.answers.now = let p = c.requires in let within = force_room p.pass_over.0.indexed p.force_contact.0 p.force_contact.1 c.contact_name-name.ensures c.if-first-gt0.true c.kept_answer_width.ensures.0 p.pass_over.0.axes in omega (arith, within, p.force_contact.2) in
+    let room : let a = c.args in let name = c.contact_name-name.result in let k =
+    get_or a.forces.now name.model.0 0 + c.kept_answer_width.result * name.particle.0 in
+    k + a.dim ≤ length a.answers.now = let p = c.requires in let within =
+    force_room p.pass_over.0.indexed p.force_contact.0 p.force_contact.1 c.contact_name-name.ensures
+    c.if-first-gt0.true c.kept_answer_width.ensures.0 p.pass_over.0.axes in
+    omega (arith, within, p.force_contact.2) in
     (pass_axes c.requires.pass_over.0, omega (arith, room))
 
 pub shape_of-answers : goal.shape_of-answers
@@ -70,4 +89,5 @@ pub returns-else-first-gt0 : goal.returns-else-first-gt0
 returns-else-first-gt0 c =
     let p = c.requires in
     gather_none c.args.dim c.args.scene.now c.args.at c.args.state c.args.answers.now
-    (force_none p.pass_over.0.indexed p.force_contact.0 p.force_contact.1 c.contact_name-name.ensures c.if-first-gt0.false)
+    (force_none p.pass_over.0.indexed p.force_contact.0 p.force_contact.1 c.contact_name-name.ensures
+    c.if-first-gt0.false)

@@ -1,11 +1,10 @@
 -- `iisph_forces::gather::gather_all` meets its contract. The invariant: the answer list is what the particles passed
 -- make of it. The measure is the number of particles left. Assumes nothing.
-use Prim.Native.Nat.{ℕ, ◌-◌, ◌<◌, ◌≤◌}
-use mathlib.Core.Path.{◌≡◌, refl, ap, ◌∙◌}
+use Prim.Native.Nat.{ℕ, ◌-◌, ◌<◌}
+use mathlib.Core.Path.{refl, ap, ◌∙◌}
 use native.Mathlib.Nat.{le_antisymm}
 use native.Mathlib.Omega.{arith}
 use lib.ListN.{length}
-use borrow.Author.Rules.{rules}
 use Rattle.scene_format.specs.Scene.{fluid_size}
 use Rattle.scene_format.specs.SceneOf.{scene_of}
 use Rattle.iisph_pressures.specs.IterationRows.{pressures_in}
@@ -24,27 +23,34 @@ pressure_state_of-state-requires c =
 
 pub contacts_of-list-requires : goal.contacts_of-list-requires
 contacts_of-list-requires c =
-    let below : c.loop-i.i < fluid_size (scene_of c.args.scene.now) = omega (arith, c.loop-i-test.true, c.requires.pass_over.0.size) in
+    let below : c.loop-i.i < fluid_size (scene_of c.args.scene.now) =
+    omega (arith, c.loop-i-test.true, c.requires.pass_over.0.size) in
     let over = c.requires.pass_over.0 in
     record { indexed = (over.indexed, over.axes); i_bound = below }
 
 pub gather_list-requires : goal.gather_list-requires
 gather_list-requires c =
-    let below : c.loop-i.i < fluid_size (scene_of c.args.scene.now) = omega (arith, c.loop-i-test.true, c.requires.pass_over.0.size) in
-    let p = c.requires in record { pass_over = p.pass_over; force_contacts = (
+    let below : c.loop-i.i < fluid_size (scene_of c.args.scene.now) =
+    omega (arith, c.loop-i-test.true, c.requires.pass_over.0.size) in
+    let p = c.requires in record {
+      pass_over = p.pass_over;
+      force_contacts = (
         force_contacts p.pass_over.0.indexed c.loop-i.i below p.pass_over.0.axes c.contacts_of-list.ensures,
         p.forces_known.0,
         omega (arith, c.loop-i.invariant.1, p.forces_known.1),
-      ) }
+      );
+    }
 
 pub overflow_add-i : goal.overflow_add-i
 overflow_add-i c =
-    let below : c.loop-i.i < fluid_size (scene_of c.args.scene.now) = omega (arith, c.loop-i-test.true, c.requires.pass_over.0.size) in
+    let below : c.loop-i.i < fluid_size (scene_of c.args.scene.now) =
+    omega (arith, c.loop-i-test.true, c.requires.pass_over.0.size) in
     omega (arith, below, c.requires.pass_over.0.indexed.few_fluid)
 
 pub loop-i-preserved : goal.loop-i-preserved
 loop-i-preserved c =
-    let below : c.loop-i.i < fluid_size (scene_of c.args.scene.now) = omega (arith, c.loop-i-test.true, c.requires.pass_over.0.size) in
+    let below : c.loop-i.i < fluid_size (scene_of c.args.scene.now) =
+    omega (arith, c.loop-i-test.true, c.requires.pass_over.0.size) in
     let loop = c.loop-i in
     let s = scene_of c.args.scene.now in
     let d = c.args.dim in

@@ -1,17 +1,11 @@
 -- `iisph_forces::gather::gather_all` meets its contract. The invariant: the answer list is what the particles passed
 -- make of it. The measure is the number of particles left. Assumes nothing.
-use Prim.Native.Nat.{ℕ, ◌-◌, ◌<◌, ◌≤◌}
-use mathlib.Core.Path.{◌≡◌, refl, ap, ◌∙◌}
-use native.Mathlib.Nat.{le_antisymm}
-use native.Mathlib.Omega.{arith}
+use Prim.Native.Nat.{◌-◌, ◌≤◌}
+use mathlib.Core.Path.{◌≡◌}
 use lib.ListN.{length}
-use borrow.Author.Rules.{rules}
-use Rattle.scene_format.specs.Scene.{fluid_size}
 use Rattle.scene_format.specs.SceneOf.{scene_of}
 use Rattle.iisph_pressures.specs.IterationRows.{pressures_in}
 use Rattle.iisph_forces.specs.Forces.{gathered_all}
-use Rattle.iisph_forces.proofs.Contacts.{length-gathered_from, force_contacts, from_made}
-use Rattle.iisph_forces.proofs.Contacts.{no_particles, one_more_particle}
 use Rattle.iisph_forces.proofs.gather.gather_all.Given as goal
 
 abbrev pub invariant-loop-i : goal.invariant-loop-i

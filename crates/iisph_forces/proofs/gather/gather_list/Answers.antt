@@ -1,17 +1,15 @@
 -- `iisph_forces::gather::gather_list` meets its contract. The invariant: the answer list is what the contacts passed
 -- make of it; a turn takes in one more. The measure is the number of contacts left. Assumes nothing.
 use Prim.Native.Nat.{◌+◌, ◌*◌, ◌-◌, ◌≤◌}
-use mathlib.Core.Path.{◌≡◌, refl, ap, ◌∙◌}
+use mathlib.Core.Path.{refl, ap, ◌∙◌}
 use native.Mathlib.Nat.{le_antisymm}
 use native.Mathlib.Omega.{arith}
 use lib.ListN.{length}
-use borrow.Author.Rules.{rules}
 use Rattle.iisph_motion.proofs.Accelerations.{pass_axes}
 use Rattle.lists.specs.Lists.{fold, table}
 use Rattle.scene_format.specs.SceneOf.{contact_at, contact_list, scene_of}
 use Rattle.scene_format.specs.declared.Kind.TheVariants.{Boundary}
 use Rattle.scene_format.specs.Format.{contact_width, starts_of}
-use Rattle.scene_index.specs.Contacts.{over_first}
 use Rattle.scene_index.proofs.ContactLists.{fold_next, contact-room}
 use Rattle.iisph_forces.specs.Forces.{ForceContact, gathered, state_gain}
 use Rattle.iisph_forces.proofs.Contacts.{force_contact, length-gathered}
@@ -23,21 +21,33 @@ loop-k-init c = (omega arith, refl, refl)
 
 pub overflow_mul-c : goal.overflow_mul-c
 overflow_mul-c c =
-    let here : let a = c.args in ForceContact a.dim a.scene.now (a.list.at + c.contact_width-width.result * c.loop-k.k) = force_contact c.requires.force_contacts.0 c.loop-k.k c.contact_width-width.ensures.0 c.loop-k-test.true in
-    let within : let a = c.args in a.list.at + c.contact_width-width.result * c.loop-k.k + contact_width a.dim ≤ length a.scene.now = contact-room (pass_axes c.requires.pass_over.0) here.ready in
+    let here : let a = c.args in ForceContact a.dim a.scene.now
+    (a.list.at + c.contact_width-width.result * c.loop-k.k) =
+    force_contact c.requires.force_contacts.0 c.loop-k.k c.contact_width-width.ensures.0 c.loop-k-test.true in
+    let within : let a = c.args in a.list.at + c.contact_width-width.result * c.loop-k.k + contact_width a.dim
+    ≤ length a.scene.now = contact-room (pass_axes c.requires.pass_over.0) here.ready in
     omega (arith, within)
 
 pub overflow_add-c : goal.overflow_add-c
 overflow_add-c c =
-    let here : let a = c.args in ForceContact a.dim a.scene.now (a.list.at + c.contact_width-width.result * c.loop-k.k) = force_contact c.requires.force_contacts.0 c.loop-k.k c.contact_width-width.ensures.0 c.loop-k-test.true in
-    let within : let a = c.args in a.list.at + c.contact_width-width.result * c.loop-k.k + contact_width a.dim ≤ length a.scene.now = contact-room (pass_axes c.requires.pass_over.0) here.ready in
+    let here : let a = c.args in ForceContact a.dim a.scene.now
+    (a.list.at + c.contact_width-width.result * c.loop-k.k) =
+    force_contact c.requires.force_contacts.0 c.loop-k.k c.contact_width-width.ensures.0 c.loop-k-test.true in
+    let within : let a = c.args in a.list.at + c.contact_width-width.result * c.loop-k.k + contact_width a.dim
+    ≤ length a.scene.now = contact-room (pass_axes c.requires.pass_over.0) here.ready in
     omega (arith, within)
 
 pub gather-requires : goal.gather-requires
 gather-requires c =
-    let here : let a = c.args in ForceContact a.dim a.scene.now (a.list.at + c.contact_width-width.result * c.loop-k.k) = force_contact c.requires.force_contacts.0 c.loop-k.k c.contact_width-width.ensures.0 c.loop-k-test.true in
+    let here : let a = c.args in ForceContact a.dim a.scene.now
+    (a.list.at + c.contact_width-width.result * c.loop-k.k) =
+    force_contact c.requires.force_contacts.0 c.loop-k.k c.contact_width-width.ensures.0 c.loop-k-test.true in
     let p = c.requires in
-    record { pass_over = p.pass_over; force_contact = (here, p.force_contacts.1, omega (arith, c.loop-k.invariant.1, p.force_contacts.2)) }
+    record {
+      pass_over = p.pass_over;
+      force_contact =
+          (here, p.force_contacts.1, omega (arith, c.loop-k.invariant.1, p.force_contacts.2));
+    }
 
 pub overflow_add-k : goal.overflow_add-k
 overflow_add-k c = omega (arith, c.loop-k-test.true)

@@ -1,20 +1,12 @@
 -- `iisph_forces::gather::gather_list` meets its contract. The invariant: the answer list is what the contacts passed
 -- make of it; a turn takes in one more. The measure is the number of contacts left. Assumes nothing.
-use Prim.Native.Nat.{◌+◌, ◌*◌, ◌-◌, ◌≤◌}
-use mathlib.Core.Path.{◌≡◌, refl, ap, ◌∙◌}
-use native.Mathlib.Nat.{le_antisymm}
-use native.Mathlib.Omega.{arith}
+use Prim.Native.Nat.{◌-◌, ◌≤◌}
+use mathlib.Core.Path.{◌≡◌}
 use lib.ListN.{length}
-use borrow.Author.Rules.{rules}
-use Rattle.iisph_motion.proofs.Accelerations.{pass_axes}
-use Rattle.lists.specs.Lists.{fold, table}
-use Rattle.scene_format.specs.SceneOf.{contact_at, contact_list, scene_of}
+use Rattle.scene_format.specs.SceneOf.{scene_of}
 use Rattle.scene_format.specs.declared.Kind.TheVariants.{Boundary}
-use Rattle.scene_format.specs.Format.{contact_width, starts_of}
 use Rattle.scene_index.specs.Contacts.{over_first}
-use Rattle.scene_index.proofs.ContactLists.{fold_next, contact-room}
-use Rattle.iisph_forces.specs.Forces.{ForceContact, gathered, state_gain}
-use Rattle.iisph_forces.proofs.Contacts.{force_contact, length-gathered}
+use Rattle.iisph_forces.specs.Forces.{gathered, state_gain}
 use Rattle.iisph_forces.proofs.gather.gather_list.Given as goal
 
 abbrev pub invariant-loop-k : goal.invariant-loop-k
@@ -22,7 +14,8 @@ invariant-loop-k l =
     (l.k ≤ l.count)
     × (length l.answers ≡ length l.initial.answers)
     × (l.answers
-    ≡ over_first Boundary l.dim l.scene l.at (gathered l.dim (scene_of l.scene) (state_gain (scene_of l.scene) l.state)) l.initial.answers l.k)
+    ≡ over_first Boundary l.dim l.scene l.at (gathered l.dim (scene_of l.scene)
+    (state_gain (scene_of l.scene) l.state)) l.initial.answers l.k)
 
 abbrev pub decreases-loop-k : goal.decreases-loop-k
 decreases-loop-k l = l.count - l.k

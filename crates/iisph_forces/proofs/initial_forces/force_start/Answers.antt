@@ -1,5 +1,4 @@
 -- `iisph_forces::initial_forces::force_start` meets its contract, by whether forces are kept. Assumes nothing.
-use borrow.Author.Rules.{rules}
 use borrow.Author.Tests.{eq-eqb, ne_eqb}
 use Rattle.lists.specs.Lists.{choose}
 use Rattle.iisph_forces.proofs.initial_forces.force_start.Goals as goal

@@ -2,9 +2,8 @@
 -- particles left. Assumes nothing.
 use Prim.Native.Nat.{◌-◌}
 use native.Mathlib.Omega.{arith}
-use borrow.Author.Rules.{rules}
 use Rattle.scene_index.proofs.Runs.{run_keeps}
-use Rattle.iisph_forces.proofs.InitialAnswers.{BoundaryPut, none_put, particle-room, one_more_put, all_put}
+use Rattle.iisph_forces.proofs.InitialAnswers.{none_put, particle-room, one_more_put, all_put}
 use Rattle.iisph_forces.proofs.initial_forces.put_boundary.Goals as goal
 
 pub loop-p-init : goal.loop-p-init
@@ -20,11 +19,14 @@ put_particle-to-requires c =
     let p = c.requires in
     let l = c.loop-p in
     let run = p.fact.0 in
-    let here = c.loop-p-test.true in record { pass_over = p.pass_over; fact = (
+    let here = c.loop-p-test.true in record {
+      pass_over = p.pass_over;
+      fact = (
         omega (arith, here, run.within),
         run_keeps run l.p here,
         particle-room _ _ _ _ _ p.pass_over.0.axes p.pass_over.0.indexed.accepted run.within l.invariant here p.fact.2,
-      ) }
+      );
+    }
 
 pub overflow_add-p : goal.overflow_add-p
 overflow_add-p c =

@@ -1,10 +1,7 @@
 -- `iisph_forces::initial_forces::put_boundary` meets its contract: particle by particle. The measure is the number of
 -- particles left. Assumes nothing.
 use Prim.Native.Nat.{◌-◌}
-use native.Mathlib.Omega.{arith}
-use borrow.Author.Rules.{rules}
-use Rattle.scene_index.proofs.Runs.{run_keeps}
-use Rattle.iisph_forces.proofs.InitialAnswers.{BoundaryPut, none_put, particle-room, one_more_put, all_put}
+use Rattle.iisph_forces.proofs.InitialAnswers.{BoundaryPut}
 use Rattle.iisph_forces.proofs.initial_forces.put_boundary.Given as goal
 
 abbrev pub invariant-loop-p : goal.invariant-loop-p

@@ -6,7 +6,6 @@ use mathlib.Core.Bool.{true}
 use native.Mathlib.Omega.{arith}
 use lib.ListN.{length, length-set}
 use lib.Seq.{length-sets}
-use borrow.Author.Rules.{rules}
 use Rattle.scene_format.specs.Bytes.{AllFinite}
 use Rattle.scene_format.specs.Scene.{size_of, boundary}
 use Rattle.scene_format.specs.SceneOf.{scene_of}
@@ -23,7 +22,9 @@ volume_at-requires c = let p = c.requires in omega (arith, p.fact.0, p.pass_over
 
 pub offset_bounds-work-volume_at : goal.offset_bounds-work-volume_at
 offset_bounds-work-volume_at c =
-    let room : let a = c.args in (a.at + width_at a.dim (scene_of a.scene.now) a.j ≤ length a.answers.now) × (length a.answers.now * 8 < 0x8000000000000000) × (length a.work.now * 8 < 0x8000000000000000) = (c.requires.fact.2, c.well_formed.1.1.1.1.1.1.1.1.0.1, c.well_formed.1.1.0.1) in
+    let room : let a = c.args in (a.at + width_at a.dim (scene_of a.scene.now) a.j ≤ length a.answers.now)
+    × (length a.answers.now * 8 < 0x8000000000000000) × (length a.work.now * 8 < 0x8000000000000000) =
+    (c.requires.fact.2, c.well_formed.1.1.1.1.1.1.1.1.0.1, c.well_formed.1.1.0.1) in
     let within : c.volume_at.result < length c.args.work.now = c.volume_at.ensures.1 in
     omega (arith, within, room)
 
@@ -34,14 +35,20 @@ bounds-work-volume_at c =
 
 pub offset_bounds-answers-at : goal.offset_bounds-answers-at
 offset_bounds-answers-at c =
-    let room : let a = c.args in (a.at + width_at a.dim (scene_of a.scene.now) a.j ≤ length a.answers.now) × (length a.answers.now * 8 < 0x8000000000000000) × (length a.work.now * 8 < 0x8000000000000000) = (c.requires.fact.2, c.well_formed.1.1.1.1.1.1.1.1.0.1, c.well_formed.1.1.0.1) in
-    let first : let a = c.args in a.at < length a.answers.now = let a = c.args in omega (arith, room, width_some a.dim (scene_of a.scene.now) a.j) in
+    let room : let a = c.args in (a.at + width_at a.dim (scene_of a.scene.now) a.j ≤ length a.answers.now)
+    × (length a.answers.now * 8 < 0x8000000000000000) × (length a.work.now * 8 < 0x8000000000000000) =
+    (c.requires.fact.2, c.well_formed.1.1.1.1.1.1.1.1.0.1, c.well_formed.1.1.0.1) in
+    let first : let a = c.args in a.at < length a.answers.now = let a =
+    c.args in omega (arith, room, width_some a.dim (scene_of a.scene.now) a.j) in
     omega (arith, first, room)
 
 pub bounds-answers-at : goal.bounds-answers-at
 bounds-answers-at c =
-    let room : let a = c.args in (a.at + width_at a.dim (scene_of a.scene.now) a.j ≤ length a.answers.now) × (length a.answers.now * 8 < 0x8000000000000000) × (length a.work.now * 8 < 0x8000000000000000) = (c.requires.fact.2, c.well_formed.1.1.1.1.1.1.1.1.0.1, c.well_formed.1.1.0.1) in
-    let first : let a = c.args in a.at < length a.answers.now = let a = c.args in omega (arith, room, width_some a.dim (scene_of a.scene.now) a.j) in
+    let room : let a = c.args in (a.at + width_at a.dim (scene_of a.scene.now) a.j ≤ length a.answers.now)
+    × (length a.answers.now * 8 < 0x8000000000000000) × (length a.work.now * 8 < 0x8000000000000000) =
+    (c.requires.fact.2, c.well_formed.1.1.1.1.1.1.1.1.0.1, c.well_formed.1.1.0.1) in
+    let first : let a = c.args in a.at < length a.answers.now = let a =
+    c.args in omega (arith, room, width_some a.dim (scene_of a.scene.now) a.j) in
     omega (arith, first)
 
 pub record_of-record-requires : goal.record_of-record-requires
@@ -50,35 +57,52 @@ record_of-record-requires c = let p = c.requires in (p.pass_over.0.indexed, p.fa
 
 pub overflow_add-record : goal.overflow_add-record
 overflow_add-record c =
-    let kept : let a = c.args in (boundary (scene_of a.scene.now) a.j).keeps_forces ≡ true = kept_here c.requires.fact.1 c.if-keeps-eq1.true in
-    let finite : let a = c.args in AllFinite a.scene.now (c.record_of-record.result + c.vector_width.result) a.dim = force_finite c.requires.pass_over.0.indexed c.args.j c.requires.fact.0 kept c.requires.pass_over.0.axes c.record_of-record.ensures c.vector_width.ensures.0 in
+    let kept : let a = c.args in (boundary (scene_of a.scene.now) a.j).keeps_forces ≡ true =
+    kept_here c.requires.fact.1 c.if-keeps-eq1.true in
+    let finite : let a = c.args in AllFinite a.scene.now (c.record_of-record.result + c.vector_width.result) a.dim =
+    force_finite c.requires.pass_over.0.indexed c.args.j c.requires.fact.0 kept c.requires.pass_over.0.axes
+    c.record_of-record.ensures c.vector_width.ensures.0 in
     let axes = pass_axes c.requires.pass_over.0 in
     omega (arith, (finite.each 0 (omega (arith, axes.least))).present)
 
 pub vector-force-requires : goal.vector-force-requires
 vector-force-requires c =
-    let kept : let a = c.args in (boundary (scene_of a.scene.now) a.j).keeps_forces ≡ true = kept_here c.requires.fact.1 c.if-keeps-eq1.true in
-    let finite : let a = c.args in AllFinite a.scene.now (c.record_of-record.result + c.vector_width.result) a.dim = force_finite c.requires.pass_over.0.indexed c.args.j c.requires.fact.0 kept c.requires.pass_over.0.axes c.record_of-record.ensures c.vector_width.ensures.0 in
+    let kept : let a = c.args in (boundary (scene_of a.scene.now) a.j).keeps_forces ≡ true =
+    kept_here c.requires.fact.1 c.if-keeps-eq1.true in
+    let finite : let a = c.args in AllFinite a.scene.now (c.record_of-record.result + c.vector_width.result) a.dim =
+    force_finite c.requires.pass_over.0.indexed c.args.j c.requires.fact.0 kept c.requires.pass_over.0.axes
+    c.record_of-record.ensures c.vector_width.ensures.0 in
     (pass_axes c.requires.pass_over.0, finite)
 
 pub overflow_add-at : goal.overflow_add-at
 overflow_add-at c =
-    let room : let a = c.args in (a.at + width_at a.dim (scene_of a.scene.now) a.j ≤ length a.answers.now) × (length a.answers.now * 8 < 0x8000000000000000) × (length a.work.now * 8 < 0x8000000000000000) = (c.requires.fact.2, c.well_formed.1.1.1.1.1.1.1.1.0.1, c.well_formed.1.1.0.1) in
-    let first : let a = c.args in a.at < length a.answers.now = let a = c.args in omega (arith, room, width_some a.dim (scene_of a.scene.now) a.j) in
+    let room : let a = c.args in (a.at + width_at a.dim (scene_of a.scene.now) a.j ≤ length a.answers.now)
+    × (length a.answers.now * 8 < 0x8000000000000000) × (length a.work.now * 8 < 0x8000000000000000) =
+    (c.requires.fact.2, c.well_formed.1.1.1.1.1.1.1.1.0.1, c.well_formed.1.1.0.1) in
+    let first : let a = c.args in a.at < length a.answers.now = let a =
+    c.args in omega (arith, room, width_some a.dim (scene_of a.scene.now) a.j) in
     omega (arith, first, room)
 
 pub put_vector-requires : goal.put_vector-requires
 put_vector-requires c =
-    let kept : let a = c.args in (boundary (scene_of a.scene.now) a.j).keeps_forces ≡ true = kept_here c.requires.fact.1 c.if-keeps-eq1.true in
-    let room : let a = c.args in (a.at + width_at a.dim (scene_of a.scene.now) a.j ≤ length a.answers.now) × (length a.answers.now * 8 < 0x8000000000000000) × (length a.work.now * 8 < 0x8000000000000000) = (c.requires.fact.2, c.well_formed.1.1.1.1.1.1.1.1.0.1, c.well_formed.1.1.0.1) in
-    let wide : let a = c.args in a.at + kept_answer_width a.dim ≤ length a.answers.now = let a = c.args in omega (arith, room, width_kept a.dim (scene_of a.scene.now) a.j kept) in
+    let kept : let a = c.args in (boundary (scene_of a.scene.now) a.j).keeps_forces ≡ true =
+    kept_here c.requires.fact.1 c.if-keeps-eq1.true in
+    let room : let a = c.args in (a.at + width_at a.dim (scene_of a.scene.now) a.j ≤ length a.answers.now)
+    × (length a.answers.now * 8 < 0x8000000000000000) × (length a.work.now * 8 < 0x8000000000000000) =
+    (c.requires.fact.2, c.well_formed.1.1.1.1.1.1.1.1.0.1, c.well_formed.1.1.0.1) in
+    let wide : let a = c.args in a.at + kept_answer_width a.dim ≤ length a.answers.now = let a =
+    c.args in omega (arith, room, width_kept a.dim (scene_of a.scene.now) a.j kept) in
     (pass_axes c.requires.pass_over.0, simp length-set (omega (arith, wide)))
 
 pub overflow_add-result : goal.overflow_add-result
 overflow_add-result c =
-    let room : let a = c.args in (a.at + width_at a.dim (scene_of a.scene.now) a.j ≤ length a.answers.now) × (length a.answers.now * 8 < 0x8000000000000000) × (length a.work.now * 8 < 0x8000000000000000) = (c.requires.fact.2, c.well_formed.1.1.1.1.1.1.1.1.0.1, c.well_formed.1.1.0.1) in
-    let kept : let a = c.args in (boundary (scene_of a.scene.now) a.j).keeps_forces ≡ true = kept_here c.requires.fact.1 c.if-keeps-eq1.true in
-    let wide : let a = c.args in a.at + kept_answer_width a.dim ≤ length a.answers.now = let a = c.args in omega (arith, room, width_kept a.dim (scene_of a.scene.now) a.j kept) in
+    let room : let a = c.args in (a.at + width_at a.dim (scene_of a.scene.now) a.j ≤ length a.answers.now)
+    × (length a.answers.now * 8 < 0x8000000000000000) × (length a.work.now * 8 < 0x8000000000000000) =
+    (c.requires.fact.2, c.well_formed.1.1.1.1.1.1.1.1.0.1, c.well_formed.1.1.0.1) in
+    let kept : let a = c.args in (boundary (scene_of a.scene.now) a.j).keeps_forces ≡ true =
+    kept_here c.requires.fact.1 c.if-keeps-eq1.true in
+    let wide : let a = c.args in a.at + kept_answer_width a.dim ≤ length a.answers.now = let a =
+    c.args in omega (arith, room, width_kept a.dim (scene_of a.scene.now) a.j kept) in
     omega (arith, wide, room, c.kept_answer_width-width.ensures.0)
 
 pub shape_of-answers-then-keeps-eq1 : goal.shape_of-answers-then-keeps-eq1
@@ -86,7 +110,8 @@ shape_of-answers-then-keeps-eq1 c = ap length c.put_vector.ensures ∙ simp (len
 
 pub returns-then-keeps-eq1 : goal.returns-then-keeps-eq1
 returns-then-keeps-eq1 c =
-    let kept : let a = c.args in (boundary (scene_of a.scene.now) a.j).keeps_forces ≡ true = kept_here c.requires.fact.1 c.if-keeps-eq1.true in
+    let kept : let a = c.args in (boundary (scene_of a.scene.now) a.j).keeps_forces ≡ true =
+    kept_here c.requires.fact.1 c.if-keeps-eq1.true in
     let a = c.args in
     let p = c.requires in
     let s = scene_of a.scene.now in (
@@ -102,8 +127,11 @@ returns-then-keeps-eq1 c =
 
 pub overflow_add-result-2 : goal.overflow_add-result-2
 overflow_add-result-2 c =
-    let room : let a = c.args in (a.at + width_at a.dim (scene_of a.scene.now) a.j ≤ length a.answers.now) × (length a.answers.now * 8 < 0x8000000000000000) × (length a.work.now * 8 < 0x8000000000000000) = (c.requires.fact.2, c.well_formed.1.1.1.1.1.1.1.1.0.1, c.well_formed.1.1.0.1) in
-    let first : let a = c.args in a.at < length a.answers.now = let a = c.args in omega (arith, room, width_some a.dim (scene_of a.scene.now) a.j) in
+    let room : let a = c.args in (a.at + width_at a.dim (scene_of a.scene.now) a.j ≤ length a.answers.now)
+    × (length a.answers.now * 8 < 0x8000000000000000) × (length a.work.now * 8 < 0x8000000000000000) =
+    (c.requires.fact.2, c.well_formed.1.1.1.1.1.1.1.1.0.1, c.well_formed.1.1.0.1) in
+    let first : let a = c.args in a.at < length a.answers.now = let a =
+    c.args in omega (arith, room, width_some a.dim (scene_of a.scene.now) a.j) in
     omega (arith, first, room)
 
 pub returns : goal.returns

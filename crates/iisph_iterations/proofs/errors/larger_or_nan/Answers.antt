@@ -1,5 +1,5 @@
 -- `iisph_iterations::errors::larger_or_nan` meets its contract: by whether y is a number. Assumes nothing.
-use Rattle.std.proofs.Common.{sym, ◌∙◌, rules}
+use Rattle.std.proofs.Common.{sym, ◌∙◌}
 use Rattle.iisph_iterations.proofs.errors.larger_or_nan.Goals as goal
 
 pub returns-then-is_nan : goal.returns-then-is_nan

@@ -1,9 +1,7 @@
 -- `iisph_iterations::errors::running_sum` meets its contract: term by term. Assumes nothing.
-use Rattle.std.proofs.Common.{◌≡◌, ◌-◌, ◌≤◌, refl, arith, rules}
-use Rattle.math.specs.Real.{+0, total}
+use Rattle.std.proofs.Common.{◌-◌, refl, arith}
 use Rattle.lists.specs.Lists.{fold, table}
 use Rattle.iisph_rows.proofs.Volumes.{sum_next, sum_all}
-use Rattle.iisph_iterations.specs.Errors.{terms_from}
 use Rattle.iisph_iterations.proofs.Averages.{term_at}
 use Rattle.iisph_iterations.proofs.errors.running_sum.Goals as goal
 

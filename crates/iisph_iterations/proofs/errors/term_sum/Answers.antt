@@ -1,6 +1,6 @@
 -- `iisph_iterations::errors::term_sum` meets its contract: by the summation; by halves the part of the list that is
 -- handed on is the fluid's terms. Assumes nothing.
-use Rattle.std.proofs.Common.{ap, ◌∙◌, rules}
+use Rattle.std.proofs.Common.{ap, ◌∙◌}
 use Rattle.sums.specs.Halves.{sum_by_halves}
 use Rattle.iisph_rules.specs.Iteration.{term_sum}
 use Rattle.iisph_iterations.proofs.Averages.{terms_part}

@@ -1,6 +1,5 @@
 -- `iisph_iterations::errors::with_average` meets its contract: by the criterion; under the Rust's, by whether an
 -- average was passed over before, and under Ihmsen's, by whether the average is the first. Assumes nothing.
-use Rattle.std.proofs.Common.{rules}
 use Rattle.iisph_rules.specs.Iteration.{with_average}
 use Rattle.iisph_iterations.specs.Errors.{joined}
 use Rattle.iisph_iterations.proofs.errors.with_average.Goals as goal

@@ -1,5 +1,5 @@
 -- `iisph_iterations::errors::with_fluid` meets its contract: by whether the fluid has particles. Assumes nothing.
-use Rattle.std.proofs.Common.{refl, arith, rules}
+use Rattle.std.proofs.Common.{refl, arith}
 use Rattle.iisph_iterations.proofs.Averages.{with_none, with_some}
 use Rattle.iisph_iterations.proofs.errors.with_fluid.Goals as goal
 

@@ -1,6 +1,6 @@
 -- `iisph_iterations::pressure_solve::iterate` meets its contract: each pass finds what it needs, which the earlier ones
 -- stored, and the error is that of the terms in their column. Assumes nothing.
-use Rattle.std.proofs.Common.{arith, rules}
+use Rattle.std.proofs.Common.{arith}
 use Rattle.iisph_pressures.proofs.IterationTerms.{axes-are}
 use Rattle.iisph_passes.specs.Traverse.{Ready}
 use Rattle.iisph_iterations.proofs.Iterated.{quotients_there, dij_there, next_room, iterated_ready}
@@ -31,19 +31,29 @@ traverse-requires-3 c =
 pub traverse-requires-4 : goal.traverse-requires-4
 unfolding Ready
 traverse-requires-4 c =
-    let p = c.requires in record { driven_pass = p.driven_pass; room = (
+    let p = c.requires in record {
+      driven_pass = p.driven_pass;
+      room = (
         next_room c.args.scene.now p.driven_pass.timed.over.axes p.driven_pass.timed.over.size _ p.passed.1
             c.traverse.ensures c.traverse-2.ensures
             c.traverse-3.ensures,
         tt,
-      ) }
+      );
+    }
 
 pub max_error-requires : goal.max_error-requires
 max_error-requires c =
     let p = c.requires in
     let q = iterated_ready c.args.scene.now p.driven_pass.timed.over.axes p.driven_pass.timed.over.size _ p.passed.1
     c.traverse.ensures c.traverse-2.ensures
-    c.traverse-3.ensures c.traverse-4.ensures in record { passed = p.passed.0; axes = (axes-are c.args.scene.now p.driven_pass.timed.over.axes, p.driven_pass.timed.over.size, omega (arith, q.room)) }
+    c.traverse-3.ensures c.traverse-4.ensures in record {
+      passed = p.passed.0;
+      axes = (
+        axes-are c.args.scene.now p.driven_pass.timed.over.axes,
+        p.driven_pass.timed.over.size,
+        omega (arith, q.room),
+      );
+    }
 
 pub returns : goal.returns
 returns c =

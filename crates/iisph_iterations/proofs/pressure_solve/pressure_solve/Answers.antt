@@ -1,9 +1,9 @@
 -- `iisph_iterations::pressure_solve::pressure_solve` meets its contract. The invariant: what remains from this
 -- iteration on is the whole; the measure is the number of iterations left. Assumes nothing.
-use Rattle.std.proofs.Common.{◌-◌, ◌<◌, sym, refl, ap, ◌∙◌, arith, rules}
+use Rattle.std.proofs.Common.{◌-◌, ◌<◌, sym, refl, ap, ◌∙◌, arith}
 use lib.Ieee
 use Rattle.scene_format.specs.SceneOf.{scene_of}
-use Rattle.iisph_iterations.proofs.Solving.{Solving, none_solved, next_solved, solved_early, solved, is_last_lem}
+use Rattle.iisph_iterations.proofs.Solving.{none_solved, next_solved, solved_early, solved, is_last_lem}
 use Rattle.iisph_iterations.proofs.Solving.{not_least, not_small}
 use Rattle.iisph_iterations.proofs.pressure_solve.pressure_solve.Goals as goal
 
@@ -20,17 +20,20 @@ iterate-error-requires c =
 
 pub overflow_add-i : goal.overflow_add-i
 overflow_add-i c =
-    let few : c.loop-i.i < 256 = let stopping = c.requires.driven_pass.1 in omega (arith, c.loop-i.invariant.within, stopping.most, stopping.few) in
+    let few : c.loop-i.i < 256 = let stopping = c.requires.driven_pass.1 in
+    omega (arith, c.loop-i.invariant.within, stopping.most, stopping.few) in
     omega (arith, few)
 
 pub overflow_cast-result : goal.overflow_cast-result
 overflow_cast-result c =
-    let few : c.loop-i.i < 256 = let stopping = c.requires.driven_pass.1 in omega (arith, c.loop-i.invariant.within, stopping.most, stopping.few) in
+    let few : c.loop-i.i < 256 = let stopping = c.requires.driven_pass.1 in
+    omega (arith, c.loop-i.invariant.within, stopping.most, stopping.few) in
     omega (arith, few)
 
 pub returns-then-number-least : goal.returns-then-number-least
 returns-then-number-least c =
-    let below : c.loop-i.i < (scene_of c.args.scene.now).header.max_pressure_iter = omega (arith, c.loop-i-test.true, c.requires.driven_pass.1.most) in
+    let below : c.loop-i.i < (scene_of c.args.scene.now).header.max_pressure_iter =
+    omega (arith, c.loop-i-test.true, c.requires.driven_pass.1.most) in
     let p = c.requires in
     solved_early c.args.scene.now p.driven_pass.0.timed.over.axes p.driven_pass.0.timed.over.size _
     c.loop-i.invariant below c.iterate-error.ensures
@@ -42,7 +45,8 @@ returns-then-number-least c =
 
 pub loop-i-preserved-else-number-least : goal.loop-i-preserved-else-number-least
 loop-i-preserved-else-number-least c =
-    let below : c.loop-i.i < (scene_of c.args.scene.now).header.max_pressure_iter = omega (arith, c.loop-i-test.true, c.requires.driven_pass.1.most) in
+    let below : c.loop-i.i < (scene_of c.args.scene.now).header.max_pressure_iter =
+    omega (arith, c.loop-i-test.true, c.requires.driven_pass.1.most) in
     let p = c.requires in
     next_solved c.args.scene.now p.driven_pass.0.timed.over.axes p.driven_pass.0.timed.over.size _
     c.loop-i.invariant below c.iterate-error.ensures
@@ -51,7 +55,8 @@ loop-i-preserved-else-number-least c =
 
 pub loop-i-preserved : goal.loop-i-preserved
 loop-i-preserved c =
-    let below : c.loop-i.i < (scene_of c.args.scene.now).header.max_pressure_iter = omega (arith, c.loop-i-test.true, c.requires.driven_pass.1.most) in
+    let below : c.loop-i.i < (scene_of c.args.scene.now).header.max_pressure_iter =
+    omega (arith, c.loop-i-test.true, c.requires.driven_pass.1.most) in
     let p = c.requires in
     next_solved c.args.scene.now p.driven_pass.0.timed.over.axes p.driven_pass.0.timed.over.size _
     c.loop-i.invariant below c.iterate-error.ensures
@@ -60,7 +65,8 @@ loop-i-preserved c =
 
 pub overflow_cast-result-2 : goal.overflow_cast-result-2
 overflow_cast-result-2 c =
-    let few : c.loop-i.i < 256 = let stopping = c.requires.driven_pass.1 in omega (arith, c.loop-i.invariant.within, stopping.most, stopping.few) in
+    let few : c.loop-i.i < 256 = let stopping = c.requires.driven_pass.1 in
+    omega (arith, c.loop-i.invariant.within, stopping.most, stopping.few) in
     omega (arith, few)
 
 pub returns : goal.returns

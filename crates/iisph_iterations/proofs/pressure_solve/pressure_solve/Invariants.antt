@@ -1,10 +1,7 @@
 -- `iisph_iterations::pressure_solve::pressure_solve` meets its contract. The invariant: what remains from this
 -- iteration on is the whole; the measure is the number of iterations left. Assumes nothing.
-use Rattle.std.proofs.Common.{◌-◌, ◌<◌, sym, refl, ap, ◌∙◌, arith, rules}
-use lib.Ieee
-use Rattle.scene_format.specs.SceneOf.{scene_of}
-use Rattle.iisph_iterations.proofs.Solving.{Solving, none_solved, next_solved, solved_early, solved, is_last_lem}
-use Rattle.iisph_iterations.proofs.Solving.{not_least, not_small}
+use Rattle.std.proofs.Common.{◌-◌}
+use Rattle.iisph_iterations.proofs.Solving.{Solving}
 use Rattle.iisph_iterations.proofs.pressure_solve.pressure_solve.Given as goal
 
 abbrev pub invariant-loop-i : goal.invariant-loop-i

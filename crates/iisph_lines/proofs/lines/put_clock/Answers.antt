@@ -4,7 +4,6 @@ use Rattle.lists.proofs.Writing.{◌then◌}
 use Rattle.iisph_lines.specs.Lines.{clock_line}
 use Rattle.iisph_words.proofs.WordWidths.{double_ends}
 use Rattle.iisph_lines.proofs.Widths.{length_clock}
-use borrow.Author.Rules.{rules}
 use Rattle.iisph_lines.proofs.lines.put_clock.Goals as goal
 
 pub put_word-dt-requires : goal.put_word-dt-requires

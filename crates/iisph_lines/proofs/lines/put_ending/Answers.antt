@@ -3,7 +3,6 @@
 use native.Mathlib.Omega.{arith}
 use Rattle.lists.proofs.Writing.{◌then◌}
 use Rattle.iisph_lines.proofs.Widths.{unswept_text, swept_text, ending_room_lem, swept_room}
-use borrow.Author.Rules.{rules}
 use Rattle.iisph_lines.proofs.lines.put_ending.Goals as goal
 
 pub put_ending_word-count-requires : goal.put_ending_word-count-requires

@@ -4,7 +4,6 @@ use Rattle.lists.proofs.Writing.{◌then◌}
 use Rattle.iisph_lines.specs.Lines.{error_words}
 use Rattle.iisph_words.proofs.WordWidths.{double_ends}
 use Rattle.iisph_lines.proofs.Widths.{length_error}
-use borrow.Author.Rules.{rules}
 use Rattle.iisph_lines.proofs.lines.put_error.Goals as goal
 
 pub put_double-gap-requires : goal.put_double-gap-requires

@@ -1,14 +1,10 @@
 -- `iisph_lines::lines::put_model` meets its contract. The loop's invariant: the lines of the first i particles are
 -- written. Assumes nothing.
-use Prim.Native.Nat.{◌+◌, ◌-◌, ◌*◌, ◌≤◌}
-use mathlib.Core.Path.{◌≡◌}
+use Prim.Native.Nat.{◌-◌}
 use native.Mathlib.Nat.{le_antisymm, mul-zero, mul-suc}
 use native.Mathlib.Numerals.{add-one}
 use native.Mathlib.Omega.{arith}
-use Rattle.lists.specs.Stores.{Writes}
-use Rattle.iisph_lines.specs.Lines.{model_text}
 use Rattle.iisph_lines.proofs.ModelLines.{turn_fits, none_lined, line_fits, line_written}
-use borrow.Author.Rules.{rules}
 use Rattle.iisph_lines.proofs.lines.put_model.Goals as goal
 
 pub loop-i-init : goal.loop-i-init
@@ -19,7 +15,11 @@ pub put_particle-next-requires : goal.put_particle-next-requires
 put_particle-next-requires c =
     let t = c.loop-i-test.true in
     let l = c.loop-i in
-    record { w_in_bounds = turn_fits _ _ t l.invariant.1 c.requires.n_in_bounds; w_in_bounds_2 = line_fits _ _ _ _ _ l.i l.invariant.1 l.invariant.2 t c.requires.xs_in_bounds }
+    record {
+      w_in_bounds = turn_fits _ _ t l.invariant.1 c.requires.n_in_bounds;
+      w_in_bounds_2 =
+          line_fits _ _ _ _ _ l.i l.invariant.1 l.invariant.2 t c.requires.xs_in_bounds;
+    }
 
 pub overflow_add-from : goal.overflow_add-from
 overflow_add-from c =

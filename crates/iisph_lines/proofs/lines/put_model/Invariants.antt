@@ -2,18 +2,14 @@
 -- written. Assumes nothing.
 use Prim.Native.Nat.{◌+◌, ◌-◌, ◌*◌, ◌≤◌}
 use mathlib.Core.Path.{◌≡◌}
-use native.Mathlib.Nat.{le_antisymm, mul-zero, mul-suc}
-use native.Mathlib.Numerals.{add-one}
-use native.Mathlib.Omega.{arith}
 use Rattle.lists.specs.Stores.{Writes}
 use Rattle.iisph_lines.specs.Lines.{model_text}
-use Rattle.iisph_lines.proofs.ModelLines.{turn_fits, none_lined, line_fits, line_written}
-use borrow.Author.Rules.{rules}
 use Rattle.iisph_lines.proofs.lines.put_model.Given as goal
 
 abbrev pub invariant-loop-i : goal.invariant-loop-i
 invariant-loop-i l =
-    (l.i ≤ l.n) × (l.from ≡ l.k + l.w * l.i) × Writes l.initial.out l.at (model_text l.kind l.m l.i l.w l.k l.xs) l.out l.next
+    (l.i ≤ l.n) × (l.from ≡ l.k + l.w * l.i) × Writes l.initial.out l.at (model_text l.kind l.m l.i l.w l.k l.xs)
+    l.out l.next
 
 abbrev pub decreases-loop-i : goal.decreases-loop-i
 decreases-loop-i l = l.n - l.i

@@ -4,7 +4,6 @@ use native.Mathlib.Omega.{arith}
 use Rattle.lists.proofs.Writing.{◌then◌}
 use Rattle.iisph_lines.specs.Lines.{refused_line}
 use Rattle.iisph_words.proofs.WordWidths.{pair_most}
-use borrow.Author.Rules.{rules}
 use Rattle.iisph_lines.proofs.lines.put_refused.Goals as goal
 
 pub put_pair-next-requires : goal.put_pair-next-requires

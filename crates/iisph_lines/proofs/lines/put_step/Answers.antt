@@ -3,7 +3,6 @@ use native.Mathlib.Omega.{arith}
 use Rattle.lists.proofs.Writing.{◌then◌}
 use Rattle.iisph_lines.specs.Lines.{step_line}
 use Rattle.iisph_lines.proofs.Widths.{length_step}
-use borrow.Author.Rules.{rules}
 use Rattle.iisph_lines.proofs.lines.put_step.Goals as goal
 
 pub put_word-first-requires : goal.put_word-first-requires

@@ -3,7 +3,6 @@
 use Prim.Native.Nat.{◌<◌}
 use mathlib.Core.Path.{refl}
 use native.Mathlib.Omega.{arith}
-use borrow.Author.Rules.{rules}
 use Rattle.scene_format.specs.Scene.{boundary_size}
 use Rattle.scene_format.specs.SceneOf.{scene_of}
 use Rattle.scene_index.proofs.ContactLists.{contact-room, target_ready}
@@ -18,7 +17,8 @@ target_of-j-requires c =
 
 pub volume_at-requires : goal.volume_at-requires
 volume_at-requires c =
-    let below : c.target_of-j.result < boundary_size (scene_of c.args.scene.now) = boundary_named c.requires.contact_ready.target c.target_of-j.ensures refl in
+    let below : c.target_of-j.result < boundary_size (scene_of c.args.scene.now) =
+    boundary_named c.requires.contact_ready.target c.target_of-j.ensures refl in
     omega (arith, below, c.requires.pass_over.1.room)
 
 pub offset_bounds-work-volume_at : goal.offset_bounds-work-volume_at

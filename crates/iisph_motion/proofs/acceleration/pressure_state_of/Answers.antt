@@ -4,7 +4,6 @@ use Prim.Native.Nat.{◌+◌, ◌<◌}
 use mathlib.Core.Path.{refl}
 use native.Mathlib.Omega.{arith}
 use lib.ListN.{length}
-use borrow.Author.Rules.{rules}
 use Rattle.scene_check.specs.Accepted.{FluidParticleOk}
 use Rattle.iisph_rows.proofs.Particles.{head_asked, over_here}
 use Rattle.iisph_rows.proofs.RowStores.{row_within}
@@ -18,12 +17,16 @@ head_of-head-requires c = let p = c.requires in head_asked p.pass_over.0 p.pass_
 
 pub overflow_add-head : goal.overflow_add-head
 overflow_add-head c =
-    let here : let a = c.args in FluidParticleOk a.scene.now (record { head = c.head_of-head.result; at = (location_of Fluid a.scene.now a.i).at }) a.i = over_here c.requires.pass_over.0 c.requires.pass_over.1 refl c.head_of-head.ensures in
+    let here : let a = c.args in FluidParticleOk a.scene.now
+    (record { head = c.head_of-head.result; at = (location_of Fluid a.scene.now a.i).at }) a.i =
+    over_here c.requires.pass_over.0 c.requires.pass_over.1 refl c.head_of-head.ensures in
     omega (arith, here.density0.present)
 
 pub double-density0-requires : goal.double-density0-requires
 double-density0-requires c =
-    let here : let a = c.args in FluidParticleOk a.scene.now (record { head = c.head_of-head.result; at = (location_of Fluid a.scene.now a.i).at }) a.i = over_here c.requires.pass_over.0 c.requires.pass_over.1 refl c.head_of-head.ensures in
+    let here : let a = c.args in FluidParticleOk a.scene.now
+    (record { head = c.head_of-head.result; at = (location_of Fluid a.scene.now a.i).at }) a.i =
+    over_here c.requires.pass_over.0 c.requires.pass_over.1 refl c.head_of-head.ensures in
     here.density0
 
 pub row_at-row-requires : goal.row_at-row-requires
@@ -43,38 +46,46 @@ bounds-work-column_at c = omega (arith, c.column_at.ensures.1)
 
 pub overflow_add-pressure : goal.overflow_add-pressure
 overflow_add-pressure c =
-    let within : c.row_at-row.result + c.pressure_slot.result < length c.args.work.now = omega (arith, c.row_at-row.ensures.1, c.pressure_slot.ensures) in
+    let within : c.row_at-row.result + c.pressure_slot.result < length c.args.work.now =
+    omega (arith, c.row_at-row.ensures.1, c.pressure_slot.ensures) in
     omega (arith, within)
 
 pub offset_bounds-work-row : goal.offset_bounds-work-row
 offset_bounds-work-row c =
-    let within : c.row_at-row.result + c.pressure_slot.result < length c.args.work.now = omega (arith, c.row_at-row.ensures.1, c.pressure_slot.ensures) in
+    let within : c.row_at-row.result + c.pressure_slot.result < length c.args.work.now =
+    omega (arith, c.row_at-row.ensures.1, c.pressure_slot.ensures) in
     omega (arith, within)
 
 pub bounds-work-row : goal.bounds-work-row
 bounds-work-row c =
-    let within : c.row_at-row.result + c.pressure_slot.result < length c.args.work.now = omega (arith, c.row_at-row.ensures.1, c.pressure_slot.ensures) in
+    let within : c.row_at-row.result + c.pressure_slot.result < length c.args.work.now =
+    omega (arith, c.row_at-row.ensures.1, c.pressure_slot.ensures) in
     omega (arith, within)
 
 -- and the mass in front of it
 pub overflow_add-mass : goal.overflow_add-mass
 overflow_add-mass c =
-    let within : c.row_at-row.result + c.pressure_slot.result < length c.args.work.now = omega (arith, c.row_at-row.ensures.1, c.pressure_slot.ensures) in
+    let within : c.row_at-row.result + c.pressure_slot.result < length c.args.work.now =
+    omega (arith, c.row_at-row.ensures.1, c.pressure_slot.ensures) in
     omega (arith, within)
 
 pub offset_bounds-work-row-2 : goal.offset_bounds-work-row-2
 offset_bounds-work-row-2 c =
-    let within : c.row_at-row.result + c.pressure_slot.result < length c.args.work.now = omega (arith, c.row_at-row.ensures.1, c.pressure_slot.ensures) in
+    let within : c.row_at-row.result + c.pressure_slot.result < length c.args.work.now =
+    omega (arith, c.row_at-row.ensures.1, c.pressure_slot.ensures) in
     omega (arith, within)
 
 pub bounds-work-row-2 : goal.bounds-work-row-2
 bounds-work-row-2 c =
-    let within : c.row_at-row.result + c.pressure_slot.result < length c.args.work.now = omega (arith, c.row_at-row.ensures.1, c.pressure_slot.ensures) in
+    let within : c.row_at-row.result + c.pressure_slot.result < length c.args.work.now =
+    omega (arith, c.row_at-row.ensures.1, c.pressure_slot.ensures) in
     omega (arith, within)
 
 pub returns : goal.returns
 returns c =
-    let here : let a = c.args in FluidParticleOk a.scene.now (record { head = c.head_of-head.result; at = (location_of Fluid a.scene.now a.i).at }) a.i = over_here c.requires.pass_over.0 c.requires.pass_over.1 refl c.head_of-head.ensures in
+    let here : let a = c.args in FluidParticleOk a.scene.now
+    (record { head = c.head_of-head.result; at = (location_of Fluid a.scene.now a.i).at }) a.i =
+    over_here c.requires.pass_over.0 c.requires.pass_over.1 refl c.head_of-head.ensures in
     let p = c.requires in
     state_made p.pass_over.0 p.iterating here p.pass_over.1 c.double-density0.ensures c.row_at-row.ensures.0
     c.pressure_slot.ensures

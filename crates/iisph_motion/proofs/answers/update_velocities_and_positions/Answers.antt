@@ -1,10 +1,9 @@
 -- `iisph_motion::answers::update_velocities_and_positions` meets its contract. The loop's invariant: the list is as at
 -- entry but for the answers of the first i particles. The measure is the number of particles left. Assumes nothing.
-use Prim.Native.Nat.{ℕ, ◌≤◌, ◌-◌}
-use mathlib.Core.Path.{◌≡◌, refl, ap, ◌∙◌}
+use Prim.Native.Nat.{ℕ, ◌-◌}
+use mathlib.Core.Path.{refl, ap, ◌∙◌}
 use native.Mathlib.Nat.{le_antisymm}
 use native.Mathlib.Omega.{arith}
-use borrow.Author.Rules.{rules}
 use lib.Ieee.{nan}
 use lib.ListN.{length}
 use lib.Seq.{length-sets}
@@ -26,7 +25,11 @@ pub put_answer-requires : goal.put_answer-requires
 put_answer-requires c =
     let p = c.requires in
     let h = c.loop-i-test.true in
-    record { driven_pass = p.driven_pass; i_lt_n = (h, omega (arith, rows_apart (fluid_answer_width c.args.dim) h, p.n_in_bounds, c.loop-i.invariant.1)) }
+    record {
+      driven_pass = p.driven_pass;
+      i_lt_n =
+          (h, omega (arith, rows_apart (fluid_answer_width c.args.dim) h, p.n_in_bounds, c.loop-i.invariant.1));
+    }
 
 pub loop-i-preserved : goal.loop-i-preserved
 loop-i-preserved c =

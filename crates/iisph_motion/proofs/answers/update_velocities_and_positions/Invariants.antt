@@ -1,22 +1,14 @@
 -- `iisph_motion::answers::update_velocities_and_positions` meets its contract. The loop's invariant: the list is as at
 -- entry but for the answers of the first i particles. The measure is the number of particles left. Assumes nothing.
-use Prim.Native.Nat.{ℕ, ◌≤◌, ◌-◌}
-use mathlib.Core.Path.{◌≡◌, refl, ap, ◌∙◌}
-use native.Mathlib.Nat.{le_antisymm}
-use native.Mathlib.Omega.{arith}
-use borrow.Author.Rules.{rules}
-use lib.Ieee.{nan}
+use Prim.Native.Nat.{◌≤◌, ◌-◌}
+use mathlib.Core.Path.{◌≡◌}
 use lib.ListN.{length}
-use lib.Seq.{length-sets}
 use Rattle.scene_format.specs.SceneOf.{scene_of}
 use Rattle.iisph_rules.specs.Coefficients.{coefficients}
 use Rattle.iisph_rules.specs.Step.{fluid_answer}
 use Rattle.iisph_pressures.specs.IterationRows.{pressures_in}
-use Rattle.lists.specs.Stores.{in_rows, stored}
-use Rattle.lists.proofs.Addressings.{rows_apart}
-use Rattle.lists.proofs.Stores.{stored_none}
+use Rattle.lists.specs.Stores.{stored}
 use Rattle.scene_lengths.specs.Lengths.{fluid_answer_width}
-use Rattle.iisph_motion.proofs.Motions.{answers_next}
 use Rattle.iisph_motion.proofs.answers.update_velocities_and_positions.Given as goal
 
 abbrev pub invariant-loop-i : goal.invariant-loop-i
@@ -25,7 +17,8 @@ invariant-loop-i l =
     × (length l.answers ≡ length l.initial.answers)
     × (l.answers
     ≡ stored (fluid_answer_width l.dim) l.i 0
-    (fluid_answer (scene_of l.scene) (coefficients (scene_of l.scene)) (pressures_in l.dim l.n l.work)) l.initial.answers)
+    (fluid_answer (scene_of l.scene) (coefficients (scene_of l.scene)) (pressures_in l.dim l.n l.work))
+    l.initial.answers)
 
 abbrev pub decreases-loop-i : goal.decreases-loop-i
 decreases-loop-i l = l.n - l.i

@@ -1,17 +1,15 @@
 -- `iisph_motion::changes::boundary_changes` meets its contract. The invariant: the change is what the rule leaves of it
 -- after the contacts passed; a turn takes off one more. The measure is the number of contacts left. Assumes nothing.
-use Prim.Native.Nat.{◌+◌, ◌*◌, ◌-◌, ◌≤◌}
-use mathlib.Core.Path.{◌≡◌, refl}
+use Prim.Native.Nat.{◌+◌, ◌*◌, ◌-◌}
+use mathlib.Core.Path.{refl}
 use native.Mathlib.Nat.{le_antisymm}
 use native.Mathlib.Omega.{arith}
-use borrow.Author.Rules.{rules}
 use Rattle.lists.specs.Lists.{fold, table}
-use Rattle.math.specs.Vector.{coordinates}
 use Rattle.scene_format.specs.SceneOf.{contact_list, scene_of}
 use Rattle.scene_format.specs.declared.Kind.TheVariants.{Boundary}
-use Rattle.scene_index.specs.Contacts.{ContactReady, over_first}
+use Rattle.scene_index.specs.Contacts.{ContactReady}
 use Rattle.scene_index.proofs.ContactLists.{contact_here, contact-room}
-use Rattle.iisph_motion.specs.Changes.{boundary_change, less_by}
+use Rattle.iisph_motion.specs.Changes.{boundary_change}
 use Rattle.iisph_motion.proofs.PressureChanges.{boundary_change_lem, change_next}
 use Rattle.iisph_motion.proofs.changes.boundary_changes.Goals as goal
 
@@ -21,17 +19,23 @@ loop-k-init c = (omega arith, refl)
 
 pub overflow_mul-c : goal.overflow_mul-c
 overflow_mul-c c =
-    let here : let a = c.args in ContactReady Boundary a.dim a.scene.now (a.list.at + c.contact_width-width.result * c.loop-k.k) = contact_here c.requires.contacts_ready c.loop-k.k c.contact_width-width.ensures.0 c.loop-k-test.true in
+    let here : let a = c.args in ContactReady Boundary a.dim a.scene.now
+    (a.list.at + c.contact_width-width.result * c.loop-k.k) =
+    contact_here c.requires.contacts_ready c.loop-k.k c.contact_width-width.ensures.0 c.loop-k-test.true in
     omega (arith, contact-room c.requires.contacts_ready.axes here)
 
 pub overflow_add-c : goal.overflow_add-c
 overflow_add-c c =
-    let here : let a = c.args in ContactReady Boundary a.dim a.scene.now (a.list.at + c.contact_width-width.result * c.loop-k.k) = contact_here c.requires.contacts_ready c.loop-k.k c.contact_width-width.ensures.0 c.loop-k-test.true in
+    let here : let a = c.args in ContactReady Boundary a.dim a.scene.now
+    (a.list.at + c.contact_width-width.result * c.loop-k.k) =
+    contact_here c.requires.contacts_ready c.loop-k.k c.contact_width-width.ensures.0 c.loop-k-test.true in
     omega (arith, contact-room c.requires.contacts_ready.axes here)
 
 pub boundary_acceleration-requires : goal.boundary_acceleration-requires
 boundary_acceleration-requires c =
-    let here : let a = c.args in ContactReady Boundary a.dim a.scene.now (a.list.at + c.contact_width-width.result * c.loop-k.k) = contact_here c.requires.contacts_ready c.loop-k.k c.contact_width-width.ensures.0 c.loop-k-test.true in
+    let here : let a = c.args in ContactReady Boundary a.dim a.scene.now
+    (a.list.at + c.contact_width-width.result * c.loop-k.k) =
+    contact_here c.requires.contacts_ready c.loop-k.k c.contact_width-width.ensures.0 c.loop-k-test.true in
     record { pass_over = c.requires.pass_over; contact_ready = here }
 
 pub overflow_add-k : goal.overflow_add-k

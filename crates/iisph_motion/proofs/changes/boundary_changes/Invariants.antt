@@ -1,25 +1,20 @@
 -- `iisph_motion::changes::boundary_changes` meets its contract. The invariant: the change is what the rule leaves of it
 -- after the contacts passed; a turn takes off one more. The measure is the number of contacts left. Assumes nothing.
-use Prim.Native.Nat.{◌+◌, ◌*◌, ◌-◌, ◌≤◌}
-use mathlib.Core.Path.{◌≡◌, refl}
-use native.Mathlib.Nat.{le_antisymm}
-use native.Mathlib.Omega.{arith}
-use borrow.Author.Rules.{rules}
-use Rattle.lists.specs.Lists.{fold, table}
+use Prim.Native.Nat.{◌-◌, ◌≤◌}
+use mathlib.Core.Path.{◌≡◌}
 use Rattle.math.specs.Vector.{coordinates}
-use Rattle.scene_format.specs.SceneOf.{contact_list, scene_of}
+use Rattle.scene_format.specs.SceneOf.{scene_of}
 use Rattle.scene_format.specs.declared.Kind.TheVariants.{Boundary}
-use Rattle.scene_index.specs.Contacts.{ContactReady, over_first}
-use Rattle.scene_index.proofs.ContactLists.{contact_here, contact-room}
+use Rattle.scene_index.specs.Contacts.{over_first}
 use Rattle.iisph_motion.specs.Changes.{boundary_change, less_by}
-use Rattle.iisph_motion.proofs.PressureChanges.{boundary_change_lem, change_next}
 use Rattle.iisph_motion.proofs.changes.boundary_changes.Given as goal
 
 abbrev pub invariant-loop-k : goal.invariant-loop-k
 invariant-loop-k l =
     (l.k ≤ l.count)
     × (coordinates l.dim l.change
-    ≡ over_first Boundary l.dim l.scene l.at (less_by (boundary_change (scene_of l.scene) l.dt l.state)) (coordinates l.dim l.initial.change) l.k)
+    ≡ over_first Boundary l.dim l.scene l.at (less_by (boundary_change (scene_of l.scene) l.dt l.state))
+    (coordinates l.dim l.initial.change) l.k)
 
 abbrev pub decreases-loop-k : goal.decreases-loop-k
 decreases-loop-k l = l.count - l.k

@@ -3,7 +3,6 @@
 use Prim.Native.Nat.{◌<◌}
 use native.Mathlib.Omega.{arith}
 use lib.ListN.{length}
-use borrow.Author.Rules.{rules}
 use Rattle.scene_format.specs.Scene.{fluid_size, particle}
 use Rattle.scene_format.specs.SceneOf.{scene_of}
 use Rattle.scene_format.specs.declared.Kind.TheVariants.{Fluid, Boundary}
@@ -14,13 +13,15 @@ use Rattle.iisph_motion.proofs.changes.final_change_of.Goals as goal
 
 pub contacts_of-fluid-requires : goal.contacts_of-fluid-requires
 contacts_of-fluid-requires c =
-    let below : c.args.i < fluid_size (scene_of c.args.scene.now) = omega (arith, c.requires.driven_pass.0.timed.over.size, c.requires.driven_pass.1) in
+    let below : c.args.i < fluid_size (scene_of c.args.scene.now) =
+    omega (arith, c.requires.driven_pass.0.timed.over.size, c.requires.driven_pass.1) in
     let p = c.requires.driven_pass.0.timed.over in
     record { indexed = (p.indexed, p.axes); i_bound = below }
 
 pub contacts_of-boundary-requires : goal.contacts_of-boundary-requires
 contacts_of-boundary-requires c =
-    let below : c.args.i < fluid_size (scene_of c.args.scene.now) = omega (arith, c.requires.driven_pass.0.timed.over.size, c.requires.driven_pass.1) in
+    let below : c.args.i < fluid_size (scene_of c.args.scene.now) =
+    omega (arith, c.requires.driven_pass.0.timed.over.size, c.requires.driven_pass.1) in
     let p = c.requires.driven_pass.0.timed.over in
     record { indexed = (p.indexed, p.axes); i_bound = below }
 
@@ -52,25 +53,36 @@ velocity_change_of-first-requires c = c.requires.driven_pass
 
 pub fluid_changes-part-requires : goal.fluid_changes-part-requires
 fluid_changes-part-requires c =
-    let below : c.args.i < fluid_size (scene_of c.args.scene.now) = omega (arith, c.requires.driven_pass.0.timed.over.size, c.requires.driven_pass.1) in
-    let fluid : let b = c.args.scene.now in ContactsAre b Fluid (particle (scene_of b) c.args.i) c.contacts_of-fluid.result = contacts_are c.requires.driven_pass.0.timed.over.indexed _ below c.contacts_of-fluid.ensures in
+    let below : c.args.i < fluid_size (scene_of c.args.scene.now) =
+    omega (arith, c.requires.driven_pass.0.timed.over.size, c.requires.driven_pass.1) in
+    let fluid : let b = c.args.scene.now in ContactsAre b Fluid (particle (scene_of b) c.args.i)
+    c.contacts_of-fluid.result = contacts_are c.requires.driven_pass.0.timed.over.indexed _ below
+    c.contacts_of-fluid.ensures in
     let p = c.requires in
     let over = p.driven_pass.0.timed.over in
     record { pass_over = (over, p.changes_ready); contacts_ready = list_ready over.axes fluid }
 
 pub boundary_changes-requires : goal.boundary_changes-requires
 boundary_changes-requires c =
-    let below : c.args.i < fluid_size (scene_of c.args.scene.now) = omega (arith, c.requires.driven_pass.0.timed.over.size, c.requires.driven_pass.1) in
-    let boundary : let b = c.args.scene.now in ContactsAre b Boundary (particle (scene_of b) c.args.i) c.contacts_of-boundary.result = contacts_are c.requires.driven_pass.0.timed.over.indexed _ below c.contacts_of-boundary.ensures in
+    let below : c.args.i < fluid_size (scene_of c.args.scene.now) =
+    omega (arith, c.requires.driven_pass.0.timed.over.size, c.requires.driven_pass.1) in
+    let boundary : let b = c.args.scene.now in ContactsAre b Boundary (particle (scene_of b) c.args.i)
+    c.contacts_of-boundary.result = contacts_are c.requires.driven_pass.0.timed.over.indexed _ below
+    c.contacts_of-boundary.ensures in
     let p = c.requires in
     let over = p.driven_pass.0.timed.over in
     record { pass_over = (over, p.changes_ready.iteration); contacts_ready = list_ready over.axes boundary }
 
 pub returns : goal.returns
 returns c =
-    let below : c.args.i < fluid_size (scene_of c.args.scene.now) = omega (arith, c.requires.driven_pass.0.timed.over.size, c.requires.driven_pass.1) in
-    let boundary : let b = c.args.scene.now in ContactsAre b Boundary (particle (scene_of b) c.args.i) c.contacts_of-boundary.result = contacts_are c.requires.driven_pass.0.timed.over.indexed _ below c.contacts_of-boundary.ensures in
-    let fluid : let b = c.args.scene.now in ContactsAre b Fluid (particle (scene_of b) c.args.i) c.contacts_of-fluid.result = contacts_are c.requires.driven_pass.0.timed.over.indexed _ below c.contacts_of-fluid.ensures in
+    let below : c.args.i < fluid_size (scene_of c.args.scene.now) =
+    omega (arith, c.requires.driven_pass.0.timed.over.size, c.requires.driven_pass.1) in
+    let boundary : let b = c.args.scene.now in ContactsAre b Boundary (particle (scene_of b) c.args.i)
+    c.contacts_of-boundary.result = contacts_are c.requires.driven_pass.0.timed.over.indexed _ below
+    c.contacts_of-boundary.ensures in
+    let fluid : let b = c.args.scene.now in ContactsAre b Fluid (particle (scene_of b) c.args.i)
+    c.contacts_of-fluid.result = contacts_are c.requires.driven_pass.0.timed.over.indexed _ below
+    c.contacts_of-fluid.ensures in
     let p = c.requires in
     change_made p.driven_pass.0.timed.over.axes _ fluid boundary _ _ p.driven_pass.0.timed.dt_is _
     c.pressure_state_of-state.ensures

@@ -1,22 +1,20 @@
 -- `iisph_motion::changes::fluid_changes` meets its contract. The invariant: the change is what the rule leaves of it
 -- after the contacts passed; a turn takes off one more. The measure is the number of contacts left. Assumes nothing.
 use Prim.Native.Nat.{◌+◌, ◌*◌, ◌-◌, ◌<◌, ◌≤◌}
-use mathlib.Core.Path.{◌≡◌, refl}
+use mathlib.Core.Path.{refl}
 use native.Mathlib.Nat.{le_antisymm}
 use native.Mathlib.Omega.{arith}
 use lib.ListN.{length}
-use borrow.Author.Rules.{rules}
 use Rattle.iisph_pressures.specs.IterationRows.{pressures_in}
 use Rattle.iisph_rows.proofs.RowStores.{row_within}
 use Rattle.lists.specs.Lists.{fold, table}
-use Rattle.math.specs.Vector.{coordinates}
 use Rattle.scene_format.specs.Format.{contact_width}
 use Rattle.scene_format.specs.SceneOf.{contact_list, scene_of}
 use Rattle.scene_format.specs.declared.Kind.TheVariants.{Fluid}
-use Rattle.scene_index.specs.Contacts.{ContactReady, over_first}
+use Rattle.scene_index.specs.Contacts.{ContactReady}
 use Rattle.scene_index.proofs.ContactLists.{contact_here, contact-room, target_ready}
 use Rattle.scene_index.proofs.Targets.{fluid_named}
-use Rattle.iisph_motion.specs.Changes.{fluid_change, less_by}
+use Rattle.iisph_motion.specs.Changes.{fluid_change}
 use Rattle.iisph_motion.proofs.PressureChanges.{fluid_change_lem, change_next}
 use Rattle.iisph_motion.proofs.changes.fluid_changes.Goals as goal
 
@@ -26,25 +24,36 @@ loop-k-init c = (omega arith, refl)
 
 pub overflow_mul-c : goal.overflow_mul-c
 overflow_mul-c c =
-    let here : let a = c.args in ContactReady Fluid a.dim a.scene.now (a.list.at + c.contact_width-width.result * c.loop-k.k) = contact_here c.requires.contacts_ready c.loop-k.k c.contact_width-width.ensures.0 c.loop-k-test.true in
-    let within : let a = c.args in a.list.at + c.contact_width-width.result * c.loop-k.k + contact_width a.dim ≤ length a.scene.now = contact-room c.requires.contacts_ready.axes here in
+    let here : let a = c.args in ContactReady Fluid a.dim a.scene.now
+    (a.list.at + c.contact_width-width.result * c.loop-k.k) =
+    contact_here c.requires.contacts_ready c.loop-k.k c.contact_width-width.ensures.0 c.loop-k-test.true in
+    let within : let a = c.args in a.list.at + c.contact_width-width.result * c.loop-k.k + contact_width a.dim
+    ≤ length a.scene.now = contact-room c.requires.contacts_ready.axes here in
     omega (arith, within)
 
 pub overflow_add-c : goal.overflow_add-c
 overflow_add-c c =
-    let here : let a = c.args in ContactReady Fluid a.dim a.scene.now (a.list.at + c.contact_width-width.result * c.loop-k.k) = contact_here c.requires.contacts_ready c.loop-k.k c.contact_width-width.ensures.0 c.loop-k-test.true in
-    let within : let a = c.args in a.list.at + c.contact_width-width.result * c.loop-k.k + contact_width a.dim ≤ length a.scene.now = contact-room c.requires.contacts_ready.axes here in
+    let here : let a = c.args in ContactReady Fluid a.dim a.scene.now
+    (a.list.at + c.contact_width-width.result * c.loop-k.k) =
+    contact_here c.requires.contacts_ready c.loop-k.k c.contact_width-width.ensures.0 c.loop-k-test.true in
+    let within : let a = c.args in a.list.at + c.contact_width-width.result * c.loop-k.k + contact_width a.dim
+    ≤ length a.scene.now = contact-room c.requires.contacts_ready.axes here in
     omega (arith, within)
 
 pub target_of-j-requires : goal.target_of-j-requires
 target_of-j-requires c =
-    let here : let a = c.args in ContactReady Fluid a.dim a.scene.now (a.list.at + c.contact_width-width.result * c.loop-k.k) = contact_here c.requires.contacts_ready c.loop-k.k c.contact_width-width.ensures.0 c.loop-k-test.true in
+    let here : let a = c.args in ContactReady Fluid a.dim a.scene.now
+    (a.list.at + c.contact_width-width.result * c.loop-k.k) =
+    contact_here c.requires.contacts_ready c.loop-k.k c.contact_width-width.ensures.0 c.loop-k-test.true in
     record { indexed = c.requires.pass_over.0.indexed; target_ready = target_ready here }
 
 pub row_at-requires : goal.row_at-requires
 row_at-requires c =
-    let here : let a = c.args in ContactReady Fluid a.dim a.scene.now (a.list.at + c.contact_width-width.result * c.loop-k.k) = contact_here c.requires.contacts_ready c.loop-k.k c.contact_width-width.ensures.0 c.loop-k-test.true in
-    let below : c.target_of-j.result < c.args.n = omega (arith, c.requires.pass_over.0.size, fluid_named here.target c.target_of-j.ensures refl) in
+    let here : let a = c.args in ContactReady Fluid a.dim a.scene.now
+    (a.list.at + c.contact_width-width.result * c.loop-k.k) =
+    contact_here c.requires.contacts_ready c.loop-k.k c.contact_width-width.ensures.0 c.loop-k-test.true in
+    let below : c.target_of-j.result < c.args.n = omega
+    (arith, c.requires.pass_over.0.size, fluid_named here.target c.target_of-j.ensures refl) in
     omega (arith, row_within c.args.dim below, c.requires.pass_over.1.iteration.room)
 
 pub overflow_add-m : goal.overflow_add-m
@@ -58,8 +67,11 @@ bounds-work-row_at c = omega (arith, c.row_at.ensures.1)
 
 pub column_at-requires : goal.column_at-requires
 column_at-requires c =
-    let here : let a = c.args in ContactReady Fluid a.dim a.scene.now (a.list.at + c.contact_width-width.result * c.loop-k.k) = contact_here c.requires.contacts_ready c.loop-k.k c.contact_width-width.ensures.0 c.loop-k-test.true in
-    let below : c.target_of-j.result < c.args.n = omega (arith, c.requires.pass_over.0.size, fluid_named here.target c.target_of-j.ensures refl) in
+    let here : let a = c.args in ContactReady Fluid a.dim a.scene.now
+    (a.list.at + c.contact_width-width.result * c.loop-k.k) =
+    contact_here c.requires.contacts_ready c.loop-k.k c.contact_width-width.ensures.0 c.loop-k-test.true in
+    let below : c.target_of-j.result < c.args.n = omega
+    (arith, c.requires.pass_over.0.size, fluid_named here.target c.target_of-j.ensures refl) in
     let p = c.requires in (
       omega (arith, c.quotient_column-shares.ensures, p.contacts_ready.axes.least),
       below,
@@ -74,13 +86,18 @@ bounds-work-column_at c = omega (arith, c.column_at.ensures.1)
 
 pub overflow_add-c-in-loop-k : goal.overflow_add-c-in-loop-k
 overflow_add-c-in-loop-k c =
-    let here : let a = c.args in ContactReady Fluid a.dim a.scene.now (a.list.at + c.contact_width-width.result * c.loop-k.k) = contact_here c.requires.contacts_ready c.loop-k.k c.contact_width-width.ensures.0 c.loop-k-test.true in
-    let within : let a = c.args in a.list.at + c.contact_width-width.result * c.loop-k.k + contact_width a.dim ≤ length a.scene.now = contact-room c.requires.contacts_ready.axes here in
+    let here : let a = c.args in ContactReady Fluid a.dim a.scene.now
+    (a.list.at + c.contact_width-width.result * c.loop-k.k) =
+    contact_here c.requires.contacts_ready c.loop-k.k c.contact_width-width.ensures.0 c.loop-k-test.true in
+    let within : let a = c.args in a.list.at + c.contact_width-width.result * c.loop-k.k + contact_width a.dim
+    ≤ length a.scene.now = contact-room c.requires.contacts_ready.axes here in
     omega (arith, within)
 
 pub vector-requires : goal.vector-requires
 vector-requires c =
-    let here : let a = c.args in ContactReady Fluid a.dim a.scene.now (a.list.at + c.contact_width-width.result * c.loop-k.k) = contact_here c.requires.contacts_ready c.loop-k.k c.contact_width-width.ensures.0 c.loop-k-test.true in
+    let here : let a = c.args in ContactReady Fluid a.dim a.scene.now
+    (a.list.at + c.contact_width-width.result * c.loop-k.k) =
+    contact_here c.requires.contacts_ready c.loop-k.k c.contact_width-width.ensures.0 c.loop-k-test.true in
     (c.requires.contacts_ready.axes, here.doubles.gradient)
 
 pub overflow_add-k : goal.overflow_add-k
@@ -89,7 +106,9 @@ overflow_add-k c =
 
 pub loop-k-preserved : goal.loop-k-preserved
 loop-k-preserved c =
-    let here : let a = c.args in ContactReady Fluid a.dim a.scene.now (a.list.at + c.contact_width-width.result * c.loop-k.k) = contact_here c.requires.contacts_ready c.loop-k.k c.contact_width-width.ensures.0 c.loop-k-test.true in
+    let here : let a = c.args in ContactReady Fluid a.dim a.scene.now
+    (a.list.at + c.contact_width-width.result * c.loop-k.k) =
+    contact_here c.requires.contacts_ready c.loop-k.k c.contact_width-width.ensures.0 c.loop-k-test.true in
     let l = c.loop-k in
     let a = c.args in
     let p = c.requires in

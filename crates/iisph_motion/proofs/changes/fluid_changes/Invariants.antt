@@ -1,30 +1,21 @@
 -- `iisph_motion::changes::fluid_changes` meets its contract. The invariant: the change is what the rule leaves of it
 -- after the contacts passed; a turn takes off one more. The measure is the number of contacts left. Assumes nothing.
-use Prim.Native.Nat.{◌+◌, ◌*◌, ◌-◌, ◌<◌, ◌≤◌}
-use mathlib.Core.Path.{◌≡◌, refl}
-use native.Mathlib.Nat.{le_antisymm}
-use native.Mathlib.Omega.{arith}
-use lib.ListN.{length}
-use borrow.Author.Rules.{rules}
+use Prim.Native.Nat.{◌-◌, ◌≤◌}
+use mathlib.Core.Path.{◌≡◌}
 use Rattle.iisph_pressures.specs.IterationRows.{pressures_in}
-use Rattle.iisph_rows.proofs.RowStores.{row_within}
-use Rattle.lists.specs.Lists.{fold, table}
 use Rattle.math.specs.Vector.{coordinates}
-use Rattle.scene_format.specs.Format.{contact_width}
-use Rattle.scene_format.specs.SceneOf.{contact_list, scene_of}
+use Rattle.scene_format.specs.SceneOf.{scene_of}
 use Rattle.scene_format.specs.declared.Kind.TheVariants.{Fluid}
-use Rattle.scene_index.specs.Contacts.{ContactReady, over_first}
-use Rattle.scene_index.proofs.ContactLists.{contact_here, contact-room, target_ready}
-use Rattle.scene_index.proofs.Targets.{fluid_named}
+use Rattle.scene_index.specs.Contacts.{over_first}
 use Rattle.iisph_motion.specs.Changes.{fluid_change, less_by}
-use Rattle.iisph_motion.proofs.PressureChanges.{fluid_change_lem, change_next}
 use Rattle.iisph_motion.proofs.changes.fluid_changes.Given as goal
 
 abbrev pub invariant-loop-k : goal.invariant-loop-k
 invariant-loop-k l =
     (l.k ≤ l.count)
     × (coordinates l.dim l.change
-    ≡ over_first Fluid l.dim l.scene l.at (less_by (fluid_change (scene_of l.scene) (pressures_in l.dim l.n l.work) l.dt l.own))
+    ≡ over_first Fluid l.dim l.scene l.at (less_by
+    (fluid_change (scene_of l.scene) (pressures_in l.dim l.n l.work) l.dt l.own))
     (coordinates l.dim l.initial.change) l.k)
 
 abbrev pub decreases-loop-k : goal.decreases-loop-k

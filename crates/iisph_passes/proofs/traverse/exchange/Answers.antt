@@ -2,12 +2,11 @@
 -- row.
 -- Assumes nothing.
 use Prim.Native.Nat.{ℕ, ◌+◌, ◌*◌, ◌≤◌, ◌<◌}
-use mathlib.Core.Path.{◌≡◌, ap, ◌∙◌}
+use mathlib.Core.Path.{◌≡◌}
 use mathlib.Core.List.{List}
 use native.Mathlib.Omega.{arith}
 use lib.Ieee.{Float}
-use lib.ListN.{length, set}
-use borrow.Author.Rules.{rules}
+use lib.ListN.{set}
 use Rattle.iisph_rows.specs.Rows.{element_at, row_at, row_width, pressure_slot, next_pressure_slot}
 use Rattle.iisph_rows.proofs.RowStores.{row_within}
 use Rattle.iisph_passes.specs.Traverse.{row_next}

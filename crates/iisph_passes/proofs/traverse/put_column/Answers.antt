@@ -1,9 +1,7 @@
 -- `iisph_passes::traverse::put_column` meets its contract: the element stands at its place. Assumes nothing.
 use Prim.Native.Nat.{ℕ}
 use mathlib.Core.Path.{ap}
-use native.Mathlib.Omega.{arith}
 use lib.ListN.{set}
-use borrow.Author.Rules.{rules}
 use Rattle.iisph_passes.proofs.traverse.put_column.Goals as goal
 
 pub bounds-work-at : goal.bounds-work-at

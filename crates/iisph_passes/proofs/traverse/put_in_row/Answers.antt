@@ -5,7 +5,6 @@ use mathlib.Core.Path.{ap, ◌∙◌}
 use native.Mathlib.Omega.{arith}
 use lib.ListN.{length, set, length-set}
 use lib.Seq.{sets, length-sets}
-use borrow.Author.Rules.{rules}
 use Rattle.math.specs.Vector.{coordinates}
 use Rattle.iisph_rows.proofs.RowStores.{row_within}
 use Rattle.iisph_passes.proofs.traverse.put_in_row.Goals as goal

@@ -1,25 +1,18 @@
 -- `iisph_passes::traverse::traverse` meets its contract. The loop's invariant: the list is as at entry but for the
 -- slots of the first i particles. Assumes nothing.
-use Prim.Native.Nat.{ℕ, ◌≤◌, ◌-◌}
-use mathlib.Core.Path.{◌≡◌, refl, ap, ◌∙◌}
-use native.Mathlib.Nat.{le_antisymm}
-use native.Mathlib.Omega.{arith}
-use lib.Ieee.{nan}
+use Prim.Native.Nat.{◌≤◌, ◌-◌}
+use mathlib.Core.Path.{◌≡◌}
 use lib.ListN.{length}
-use Rattle.math.specs.Vector.{Axes}
 use Rattle.scene_format.specs.SceneOf.{scene_of}
-use Rattle.iisph_pressures.proofs.IterationTerms.{axes-are}
 use Rattle.iisph_rows.specs.Rows.{slot_at}
 use Rattle.lists.specs.Stores.{stored_at}
 use Rattle.iisph_passes.specs.Traverse.{slot_of, row_of}
-use Rattle.lists.proofs.Stores.{length_slots, stored_none, stored_next}
-use Rattle.iisph_passes.proofs.Traversal.{ready_kept, row_again}
-use borrow.Author.Rules.{rules}
 use Rattle.iisph_passes.proofs.traverse.traverse.Given as goal
 
 abbrev pub invariant-loop-i : goal.invariant-loop-i
 invariant-loop-i l = (l.i ≤ l.n) × (length l.work ≡ length l.initial.work)
-    × (l.work ≡ stored_at (slot_at l.dim l.n) l.i (slot_of l.dim l.pass) (row_of l.dim (scene_of l.scene) l.initial.work l.pass) l.initial.work)
+    × (l.work ≡ stored_at (slot_at l.dim l.n) l.i (slot_of l.dim l.pass)
+    (row_of l.dim (scene_of l.scene) l.initial.work l.pass) l.initial.work)
 
 abbrev pub decreases-loop-i : goal.decreases-loop-i
 decreases-loop-i l = l.n - l.i

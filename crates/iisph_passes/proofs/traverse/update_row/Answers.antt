@@ -15,7 +15,6 @@ use Rattle.iisph_passes.proofs.Turns.{advection_stored, coefficients-stored, quo
 use Rattle.iisph_passes.proofs.Turns.{quotient_within, next_within}
 use Rattle.iisph_passes.proofs.Turns.{dij-stored, next_stored, exchange_stored, share_stored}
 use Rattle.iisph_passes.proofs.Passes.{coefficients_ready, dij_ready, next_ready}
-use borrow.Author.Rules.{rules}
 use Rattle.iisph_passes.proofs.traverse.update_row.Goals as goal
 
 pub put_in_row-requires : goal.put_in_row-requires
@@ -26,7 +25,11 @@ put_in_row-requires c =
 
 pub coefficients_of-c-requires : goal.coefficients_of-c-requires
 coefficients_of-c-requires c =
-    record { timed_pass = (c.requires.driven_pass.0.timed, c.requires.driven_pass.1); coefficients_ready = coefficients_ready _ _ _ _ c.requires.room.1 c.in-Coefficients.is }
+    record {
+      timed_pass = (c.requires.driven_pass.0.timed, c.requires.driven_pass.1);
+      coefficients_ready =
+          coefficients_ready _ _ _ _ c.requires.room.1 c.in-Coefficients.is;
+    }
 
 pub put_coefficients-requires : goal.put_coefficients-requires
 put_coefficients-requires c =
@@ -47,7 +50,11 @@ put_column-requires c =
 
 pub dij_pjl_of-d-requires : goal.dij_pjl_of-d-requires
 dij_pjl_of-d-requires c =
-    record { timed_pass = (c.requires.driven_pass.0.timed, c.requires.driven_pass.1); dij_ready = dij_ready _ _ _ _ c.requires.room.1 c.in-DijPjl.is }
+    record {
+      timed_pass = (c.requires.driven_pass.0.timed, c.requires.driven_pass.1);
+      dij_ready =
+          dij_ready _ _ _ _ c.requires.room.1 c.in-DijPjl.is;
+    }
 
 pub row_at-row-requires : goal.row_at-row-requires
 row_at-row-requires c =
@@ -59,16 +66,19 @@ overflow_add-row c = omega (arith, c.row_at-row.ensures.1)
 
 pub put_vector-requires : goal.put_vector-requires
 put_vector-requires c =
-    let axes : Axes c.args.dim = axes-are c.args.scene.now c.requires.driven_pass.0.timed.over.axes in
-    (
-  axes,
-  omega
-      (arith, c.row_at-row.ensures.1),
-)
+    let axes : Axes c.args.dim = axes-are c.args.scene.now c.requires.driven_pass.0.timed.over.axes in (
+      axes,
+      omega
+          (arith, c.row_at-row.ensures.1),
+    )
 
 pub next_pressure_of-next-requires : goal.next_pressure_of-next-requires
 next_pressure_of-next-requires c =
-    record { timed_pass = (c.requires.driven_pass.0.timed, c.requires.driven_pass.1); iterating = next_ready _ _ _ _ c.requires.room.1 c.in-NextPressures.is }
+    record {
+      timed_pass = (c.requires.driven_pass.0.timed, c.requires.driven_pass.1);
+      iterating =
+          next_ready _ _ _ _ c.requires.room.1 c.in-NextPressures.is;
+    }
 
 pub put_column-requires-in-NextPressures : goal.put_column-requires-in-NextPressures
 put_column-requires-in-NextPressures c =

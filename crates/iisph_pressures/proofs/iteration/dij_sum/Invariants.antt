@@ -1,27 +1,20 @@
 -- `iisph_pressures::iteration::dij_sum` meets its contract. The invariant: the sum is the rule's over the contacts
 -- passed; a turn takes in one more. The measure is the number of contacts left. Assumes nothing.
-use Prim.Native.Nat.{◌+◌, ◌*◌, ◌-◌, ◌<◌, ◌≤◌}
-use mathlib.Core.Path.{◌≡◌, refl, ap, ◌∙◌}
-use native.Mathlib.Nat.{le_antisymm}
-use native.Mathlib.Omega.{arith}
-use borrow.Author.Rules.{rules}
-use Rattle.lists.specs.Lists.{fold, table}
+use Prim.Native.Nat.{◌-◌, ◌≤◌}
+use mathlib.Core.Path.{◌≡◌}
 use Rattle.math.specs.Vector.{coordinates, origin}
-use Rattle.scene_format.specs.SceneOf.{contact_at, contact_list, scene_of}
-use Rattle.iisph_pressures.specs.IterationRows.{pressures_in, quotient, with_dij}
-use Rattle.scene_format.specs.Format.{starts_of}
+use Rattle.scene_format.specs.SceneOf.{scene_of}
+use Rattle.iisph_pressures.specs.IterationRows.{pressures_in, with_dij}
 use Rattle.scene_format.specs.declared.Kind.TheVariants.{Fluid}
-use Rattle.scene_index.specs.Contacts.{ContactReady, over_first}
-use Rattle.iisph_pressures.proofs.IterationTerms.{dij_step, quotient_there}
-use Rattle.scene_index.proofs.ContactLists.{fold_next, contact_here, contact-room, target_ready}
-use Rattle.scene_index.proofs.Targets.{fluid_named}
+use Rattle.scene_index.specs.Contacts.{over_first}
 use Rattle.iisph_pressures.proofs.iteration.dij_sum.Given as goal
 
 abbrev pub invariant-loop-k : goal.invariant-loop-k
 invariant-loop-k l =
     (l.k ≤ l.count)
     × (coordinates l.dim l.sum
-    ≡ over_first Fluid l.dim l.scene l.at (with_dij (scene_of l.scene) (pressures_in l.dim l.n l.work)) (origin l.dim) l.k)
+    ≡ over_first Fluid l.dim l.scene l.at (with_dij (scene_of l.scene) (pressures_in l.dim l.n l.work)) (origin l.dim)
+    l.k)
 
 abbrev pub decreases-loop-k : goal.decreases-loop-k
 decreases-loop-k l = l.count - l.k

@@ -1,5 +1,4 @@
 -- `iisph_pressures::iteration::error_term` meets its contract: by the criterion. Assumes nothing.
-use borrow.Author.Rules.{rules}
 use Rattle.iisph_rules.specs.Iteration.{error_term}
 use Rattle.iisph_pressures.proofs.iteration.error_term.Goals as goal
 

@@ -1,20 +1,12 @@
 -- `iisph_pressures::iteration::fluid_pressure_sum` meets its contract. The invariant: the sum is the rule's over the
 -- contacts passed; a turn takes in one more. The measure is the number of contacts left. Assumes nothing.
-use Prim.Native.Nat.{◌+◌, ◌*◌, ◌-◌, ◌<◌, ◌≤◌}
-use mathlib.Core.Path.{◌≡◌, refl, ◌∙◌}
-use native.Mathlib.Nat.{le_antisymm}
-use native.Mathlib.Omega.{arith}
-use borrow.Author.Rules.{rules}
-use Rattle.lists.specs.Lists.{fold, table}
+use Prim.Native.Nat.{◌+◌, ◌-◌, ◌≤◌}
+use mathlib.Core.Path.{◌≡◌}
 use Rattle.math.specs.Real.{+0}
-use Rattle.scene_format.specs.SceneOf.{contact_list, scene_of}
+use Rattle.scene_format.specs.SceneOf.{scene_of}
 use Rattle.scene_format.specs.declared.Kind.TheVariants.{Fluid}
-use Rattle.scene_index.specs.Contacts.{ContactReady, over_first}
-use Rattle.scene_index.proofs.ContactLists.{contact_here, target_ready}
-use Rattle.scene_index.proofs.Targets.{fluid_named}
-use Rattle.iisph_rows.proofs.RowStores.{row_within}
+use Rattle.scene_index.specs.Contacts.{over_first}
 use Rattle.iisph_pressures.specs.IterationRows.{pressures_in, dijs_in, fluid_term, with_term}
-use Rattle.iisph_pressures.proofs.IterationTerms.{fluid_term_lem, term_next}
 use Rattle.iisph_pressures.proofs.iteration.fluid_pressure_sum.Given as goal
 
 abbrev pub invariant-loop-k : goal.invariant-loop-k
@@ -22,7 +14,8 @@ invariant-loop-k l =
     (l.k ≤ l.count)
     × (l.sum
     ≡ over_first Fluid l.dim l.scene l.at
-    (with_term (fluid_term l.dim (scene_of l.scene) (pressures_in l.dim l.n l.work) (dijs_in l.dim l.n l.work) l.owner)) +0 l.k)
+    (with_term (fluid_term l.dim (scene_of l.scene) (pressures_in l.dim l.n l.work) (dijs_in l.dim l.n l.work)
+    l.owner)) +0 l.k)
 
 abbrev pub decreases-loop-k : goal.decreases-loop-k
 decreases-loop-k l = l.count - l.k

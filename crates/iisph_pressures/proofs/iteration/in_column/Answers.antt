@@ -1,5 +1,4 @@
 -- `iisph_pressures::iteration::in_column` meets its contract: the element stands at its place. Assumes nothing.
-use borrow.Author.Rules.{rules}
 use Rattle.iisph_pressures.proofs.iteration.in_column.Goals as goal
 
 pub returns : goal.returns

@@ -1,5 +1,4 @@
 -- `iisph_pressures::iteration::next_from` meets its contract: each branch is the definition's. Assumes nothing.
-use borrow.Author.Rules.{rules}
 use Rattle.iisph_pressures.proofs.IterationTerms.{next_kept, next_clamped, next_none}
 use Rattle.iisph_pressures.proofs.iteration.next_from.Goals as goal
 

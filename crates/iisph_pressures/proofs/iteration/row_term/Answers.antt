@@ -1,7 +1,6 @@
 -- `iisph_pressures::iteration::row_term` meets its contract: the definition is the code. Assumes nothing.
 use mathlib.Core.Path.{ap, ◌∙◌}
 use native.Mathlib.Omega.{arith}
-use borrow.Author.Rules.{rules}
 use Rattle.math.specs.Vector.{Vector, coordinates, ◌⊟◌}
 use Rattle.iisph_pressures.proofs.IterationTerms.{row_term_made}
 use Rattle.iisph_pressures.proofs.iteration.row_term.Goals as goal

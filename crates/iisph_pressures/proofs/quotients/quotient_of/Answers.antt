@@ -2,7 +2,6 @@
 -- density
 -- in a column. Assumes nothing.
 use native.Mathlib.Omega.{arith}
-use borrow.Author.Rules.{rules}
 use Rattle.iisph_rows.proofs.RowStores.{row_within}
 use Rattle.iisph_pressures.proofs.quotients.quotient_of.Goals as goal
 

@@ -1,7 +1,6 @@
 -- `iisph_pressures::quotients::share_of` meets its contract: mass and pressure stand in the particle's row, its density
 -- in a column. Assumes nothing.
 use native.Mathlib.Omega.{arith}
-use borrow.Author.Rules.{rules}
 use Rattle.iisph_rows.proofs.RowStores.{row_within}
 use Rattle.iisph_pressures.proofs.quotients.share_of.Goals as goal
 

@@ -1,13 +1,9 @@
 -- `iisph_rows::boundary_volumes::put_volumes` meets its contract: particle by particle. Assumes nothing.
 use Prim.Native.Nat.{◌+◌, ◌-◌}
-use mathlib.Core.Path.{refl, ◌∙◌}
-use native.Mathlib.Omega.{arith}
-use borrow.Author.Rules.{rules}
 use Rattle.iisph_rules.specs.Coefficients.{boundary_volume}
-use Rattle.lists.proofs.Fills.{Filling, none_stored, one_more_stored, all_stored}
+use Rattle.lists.proofs.Fills.{Filling}
 use Rattle.scene_format.specs.Scene.{boundary}
 use Rattle.scene_format.specs.SceneOf.{scene_of}
-use Rattle.iisph_rows.proofs.Volumes.{run_asked, record_ok, volume_here}
 use Rattle.iisph_rows.proofs.boundary_volumes.put_volumes.Given as goal
 
 abbrev pub invariant-loop-p : goal.invariant-loop-p

@@ -1,12 +1,10 @@
 -- `iisph_rows::boundary_volumes::weight_sum` meets its contract: weight by weight. Assumes nothing.
-use Prim.Native.Nat.{◌+◌, ◌*◌, ◌-◌, ◌≤◌}
+use Prim.Native.Nat.{◌+◌, ◌*◌, ◌-◌}
 use native.Mathlib.Omega.{arith}
-use mathlib.Core.Path.{◌≡◌, refl}
-use Rattle.math.specs.Real.{+0, total}
+use mathlib.Core.Path.{refl}
 use Rattle.lists.specs.Lists.{fold, table}
-use Rattle.scene_format.specs.Bytes.{double_at, FiniteAt}
+use Rattle.scene_format.specs.Bytes.{FiniteAt}
 use Rattle.iisph_rows.proofs.Volumes.{sum_next, sum_all}
-use borrow.Author.Rules.{rules}
 use Rattle.iisph_rows.proofs.boundary_volumes.weight_sum.Goals as goal
 
 pub loop-j-init : goal.loop-j-init

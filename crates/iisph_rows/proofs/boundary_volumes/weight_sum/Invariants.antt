@@ -1,12 +1,9 @@
 -- `iisph_rows::boundary_volumes::weight_sum` meets its contract: weight by weight. Assumes nothing.
 use Prim.Native.Nat.{◌+◌, ◌*◌, ◌-◌, ◌≤◌}
-use native.Mathlib.Omega.{arith}
-use mathlib.Core.Path.{◌≡◌, refl}
+use mathlib.Core.Path.{◌≡◌}
 use Rattle.math.specs.Real.{+0, total}
-use Rattle.lists.specs.Lists.{fold, table}
-use Rattle.scene_format.specs.Bytes.{double_at, FiniteAt}
-use Rattle.iisph_rows.proofs.Volumes.{sum_next, sum_all}
-use borrow.Author.Rules.{rules}
+use Rattle.lists.specs.Lists.{table}
+use Rattle.scene_format.specs.Bytes.{double_at}
 use Rattle.iisph_rows.proofs.boundary_volumes.weight_sum.Given as goal
 
 abbrev pub invariant-loop-j : goal.invariant-loop-j

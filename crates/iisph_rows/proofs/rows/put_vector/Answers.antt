@@ -8,7 +8,6 @@ use native.Mathlib.Omega.{arith}
 use lib.Ieee.{Float}
 use lib.ListN.{set, length-set}
 use lib.Seq.{sets, set-set, set_comm}
-use borrow.Author.Rules.{rules}
 use Rattle.math.specs.Vector.{Axes, coordinates}
 use Rattle.math.specs.declared.Vec3.{Vec3}
 use Rattle.math.proofs.Vectors.{plane_or_space}

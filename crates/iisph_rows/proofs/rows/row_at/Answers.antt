@@ -1,6 +1,5 @@
 -- `iisph_rows::rows::row_at` meets its contract: the row is there, so its start is a small number. Assumes nothing.
 use native.Mathlib.Omega.{arith}
-use borrow.Author.Rules.{rules}
 use Rattle.iisph_rows.proofs.rows.row_at.Goals as goal
 
 pub overflow_mul-result : goal.overflow_mul-result

@@ -4,7 +4,6 @@ use Prim.Native.Nat.{◌+◌}
 use mathlib.Core.Path.{refl}
 use native.Mathlib.Nat.{add-zero}
 use native.Mathlib.Omega.{arith}
-use borrow.Author.Rules.{rules}
 use Rattle.math.proofs.Vectors.{coordinates-table}
 use Rattle.iisph_rows.specs.Rows.{element_at}
 use Rattle.iisph_rows.proofs.rows.vector_at.Goals as goal

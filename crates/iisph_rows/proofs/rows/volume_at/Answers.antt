@@ -1,7 +1,6 @@
 -- `iisph_rows::rows::volume_at` meets its contract: the volume is there, so its place is a small number. Assumes
 -- nothing.
 use native.Mathlib.Omega.{arith}
-use borrow.Author.Rules.{rules}
 use Rattle.iisph_rows.proofs.rows.volume_at.Goals as goal
 
 pub overflow_mul-result : goal.overflow_mul-result

@@ -1,16 +1,15 @@
 -- `iisph_rows::zeros::clear` meets its contract. The loop's invariant: the first i elements are +0, all others as
 -- before. Assumes nothing.
-use Prim.Native.Nat.{ℕ, ◌≤◌, ◌-◌}
+use Prim.Native.Nat.{ℕ, ◌-◌}
 use mathlib.Core.Path.{◌≡◌, ap, ◌∙◌, subst}
 use mathlib.Core.List.{List, ◌++◌}
 use native.Mathlib.Nat.{le_antisymm}
 use native.Mathlib.Numerals.{add-one}
 use native.Mathlib.Omega.{arith}
 use lib.Ieee.{Float}
-use lib.ListN.{length, set, replicate, drop, length-set}
+use lib.ListN.{set, replicate, drop, length-set}
 use Rattle.math.specs.Real.{+0}
 use Rattle.lists.proofs.Fills.{cleared}
-use borrow.Author.Rules.{rules}
 use Rattle.iisph_rows.proofs.zeros.clear.Goals as goal
 
 pub loop-i-preserved : goal.loop-i-preserved

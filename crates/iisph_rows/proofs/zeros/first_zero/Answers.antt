@@ -9,8 +9,7 @@ use lib.Ieee.{nan}
 use lib.ListN.{get_or}
 use Rattle.iisph_rows.specs.Rows.{volumes_at}
 use Rattle.iisph_rows.proofs.RowStores.{column_within}
-use Rattle.iisph_rows.proofs.FirstZero.{NoZero, found_at, found_none}
-use borrow.Author.Rules.{rules}
+use Rattle.iisph_rows.proofs.FirstZero.{found_at, found_none}
 use Rattle.iisph_rows.proofs.zeros.first_zero.Goals as goal
 
 pub loop-i-init : goal.loop-i-init
@@ -18,22 +17,26 @@ loop-i-init c = (omega arith, λ j h. absurd (not-suc-le-zero h))
 
 pub overflow_mul-number : goal.overflow_mul-number
 overflow_mul-number c =
-    let within : let a = c.args in a.number * a.n + a.n ≤ volumes_at a.dim a.n = column_within c.args.dim c.args.n c.args.number c.requires.0 in
+    let within : let a = c.args in a.number * a.n + a.n ≤ volumes_at a.dim a.n =
+    column_within c.args.dim c.args.n c.args.number c.requires.0 in
     omega (arith, within, c.requires.1)
 
 pub overflow_add-number : goal.overflow_add-number
 overflow_add-number c =
-    let within : let a = c.args in a.number * a.n + a.n ≤ volumes_at a.dim a.n = column_within c.args.dim c.args.n c.args.number c.requires.0 in
+    let within : let a = c.args in a.number * a.n + a.n ≤ volumes_at a.dim a.n =
+    column_within c.args.dim c.args.n c.args.number c.requires.0 in
     omega (arith, within, c.requires.1)
 
 pub offset_bounds-work-number : goal.offset_bounds-work-number
 offset_bounds-work-number c =
-    let within : let a = c.args in a.number * a.n + a.n ≤ volumes_at a.dim a.n = column_within c.args.dim c.args.n c.args.number c.requires.0 in
+    let within : let a = c.args in a.number * a.n + a.n ≤ volumes_at a.dim a.n =
+    column_within c.args.dim c.args.n c.args.number c.requires.0 in
     omega (arith, within, c.requires.1)
 
 pub bounds-work-number : goal.bounds-work-number
 bounds-work-number c =
-    let within : let a = c.args in a.number * a.n + a.n ≤ volumes_at a.dim a.n = column_within c.args.dim c.args.n c.args.number c.requires.0 in
+    let within : let a = c.args in a.number * a.n + a.n ≤ volumes_at a.dim a.n =
+    column_within c.args.dim c.args.n c.args.number c.requires.0 in
     omega (arith, within, c.requires.1)
 
 pub returns-then-is_zero : goal.returns-then-is_zero

@@ -1,16 +1,9 @@
 -- `iisph_rows::zeros::first_zero` meets its contract. The loop's invariant: no particle before i has a zero in the
 -- column. Assumes nothing.
 use Prim.Native.Nat.{◌+◌, ◌*◌, ◌≤◌, ◌-◌}
-use mathlib.Core.Path.{sym, ◌∙◌}
-use native.Mathlib.Nat.{not-suc-le-zero}
-use native.Mathlib.Omega.{arith}
-use borrow.Author.Count.{below_more}
 use lib.Ieee.{nan}
 use lib.ListN.{get_or}
-use Rattle.iisph_rows.specs.Rows.{volumes_at}
-use Rattle.iisph_rows.proofs.RowStores.{column_within}
-use Rattle.iisph_rows.proofs.FirstZero.{NoZero, found_at, found_none}
-use borrow.Author.Rules.{rules}
+use Rattle.iisph_rows.proofs.FirstZero.{NoZero}
 use Rattle.iisph_rows.proofs.zeros.first_zero.Given as goal
 
 abbrev pub invariant-loop-i : goal.invariant-loop-i

@@ -1,5 +1,4 @@
 -- `iisph_rules::endings::tell` meets its contract: by the three endings. Assumes nothing.
-use borrow.Author.Rules.{rules}
 use Rattle.iisph_rules.specs.Endings.{ending_number, ending_values, ending_error, told_of}
 use Rattle.iisph_rules.proofs.endings.tell.Goals as goal
 

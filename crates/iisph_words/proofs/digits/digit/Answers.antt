@@ -1,5 +1,4 @@
 -- `iisph_words::digits::digit` meets its contract: each branch is the definition's. Assumes nothing.
-use borrow.Author.Rules.{rules}
 use borrow.Author.Tests.{lt-ltb, le-ltb}
 use Rattle.iisph_words.proofs.digits.digit.Goals as goal
 

@@ -1,11 +1,7 @@
 -- `iisph_words::digits::places` meets its contract. The loop's invariant: the digits counted and the rest's digits are
 -- the number's, with one counted ahead. Assumes nothing.
-use Prim.Native.Nat.{◌+◌, ◌≤◌}
-use mathlib.Core.Path.{◌≡◌}
 use native.Mathlib.Omega.{arith}
-use Rattle.iisph_words.specs.Digits.{places_of}
 use Rattle.iisph_words.proofs.Numbers.{one_place, more_places}
-use borrow.Author.Rules.{rules}
 use Rattle.iisph_words.proofs.digits.places.Goals as goal
 
 pub loop-rest-init : goal.loop-rest-init

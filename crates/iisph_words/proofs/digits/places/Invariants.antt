@@ -2,10 +2,7 @@
 -- the number's, with one counted ahead. Assumes nothing.
 use Prim.Native.Nat.{◌+◌, ◌≤◌}
 use mathlib.Core.Path.{◌≡◌}
-use native.Mathlib.Omega.{arith}
 use Rattle.iisph_words.specs.Digits.{places_of}
-use Rattle.iisph_words.proofs.Numbers.{one_place, more_places}
-use borrow.Author.Rules.{rules}
 use Rattle.iisph_words.proofs.digits.places.Given as goal
 
 abbrev pub invariant-loop-rest : goal.invariant-loop-rest

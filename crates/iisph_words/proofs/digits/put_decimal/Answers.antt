@@ -1,6 +1,5 @@
 -- `iisph_words::digits::put_decimal` meets its contract: as many digits as the number has. Assumes nothing.
 use native.Mathlib.Omega.{arith}
-use borrow.Author.Rules.{rules}
 use Rattle.iisph_words.specs.Digits.{decimal_of}
 use Rattle.iisph_words.proofs.Numbers.{length_decimal}
 use Rattle.iisph_words.proofs.digits.put_decimal.Goals as goal

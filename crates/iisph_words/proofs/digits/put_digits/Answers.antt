@@ -1,15 +1,12 @@
 -- `iisph_words::digits::put_digits` meets its contract. The loop's invariant: the digits that are left, stored over
 -- what is there, are all of them. Assumes nothing.
-use Prim.Native.Nat.{◌≤◌}
 use mathlib.Core.Path.{◌≡◌, refl, sym, ◌∙◌}
 use native.Mathlib.Nat.{mod-lt}
 use native.Mathlib.Omega.{arith}
-use lib.ListN.{length, length-set}
-use lib.Seq.{sets}
+use lib.ListN.{length-set}
 use Rattle.iisph_words.specs.Digits.{digits}
 use Rattle.lists.proofs.Writing.{stores}
 use Rattle.iisph_words.proofs.Numbers.{length_digits, digit_stored}
-use borrow.Author.Rules.{rules}
 use Rattle.iisph_words.proofs.digits.put_digits.Goals as goal
 
 pub loop-i-init : goal.loop-i-init

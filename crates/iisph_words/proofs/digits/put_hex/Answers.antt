@@ -1,5 +1,4 @@
 -- `iisph_words::digits::put_hex` meets its contract: 16 digits of the bits. Assumes nothing.
-use borrow.Author.Rules.{rules}
 use Rattle.iisph_words.specs.Digits.{hex_of}
 use Rattle.iisph_words.proofs.digits.put_hex.Goals as goal
 

@@ -2,7 +2,6 @@
 use mathlib.Core.Path.{refl}
 use native.Mathlib.Omega.{arith}
 use Rattle.lists.proofs.Writing.{stores}
-use borrow.Author.Rules.{rules}
 use Rattle.iisph_words.proofs.words.put_byte.Goals as goal
 
 pub returns : goal.returns

@@ -1,7 +1,6 @@
 -- `iisph_words::words::put_double` meets its contract: the space, then the digits. Assumes nothing.
 use Rattle.lists.proofs.Writing.{◌then◌}
 use Rattle.iisph_words.specs.Words.{double_text}
-use borrow.Author.Rules.{rules}
 use Rattle.iisph_words.proofs.words.put_double.Goals as goal
 
 pub returns : goal.returns

@@ -1,17 +1,8 @@
 -- `iisph_words::words::put_doubles` meets its contract. The loop's invariant: the first e doubles are written.
 -- Assumes nothing.
-use Prim.Native.Nat.{◌+◌, ◌≤◌, ◌-◌}
-use mathlib.Core.List.{flatten}
-use native.Mathlib.Nat.{le_antisymm}
-use native.Mathlib.Omega.{arith}
-use lib.ListN.{get_or}
-use lib.Ieee.{nan}
-use Rattle.lists.specs.Lists.{table}
+use Prim.Native.Nat.{◌≤◌, ◌-◌}
 use Rattle.lists.specs.Stores.{Writes}
-use Rattle.lists.proofs.Writing.{none_written, next_written}
-use Rattle.iisph_words.specs.Words.{double_text, doubles_text}
-use Rattle.iisph_words.proofs.WordWidths.{length-doubles}
-use borrow.Author.Rules.{rules}
+use Rattle.iisph_words.specs.Words.{doubles_text}
 use Rattle.iisph_words.proofs.words.put_doubles.Given as goal
 
 abbrev pub invariant-loop-e : goal.invariant-loop-e

@@ -1,5 +1,4 @@
 -- `iisph_words::words::put_ending_word` meets its contract: each branch writes the word of its number. Assumes nothing.
-use borrow.Author.Rules.{rules}
 use borrow.Author.Tests.{ne_eqb}
 use Rattle.lists.specs.Lists.{choose}
 use Rattle.iisph_words.specs.Words.{ending_word}
@@ -33,4 +32,5 @@ returns-in-1 c =
 pub returns-in_default : goal.returns-in_default
 unfolding ending_word choose
 returns-in_default c =
-    rw (ne_eqb _ _ c.in_default.in_default-own.rest.0.1, ne_eqb _ _ c.in_default.in_default-own.rest.1) c.put_word-in_default.ensures
+    rw (ne_eqb _ _ c.in_default.in_default-own.rest.0.1, ne_eqb _ _ c.in_default.in_default-own.rest.1)
+    c.put_word-in_default.ensures

@@ -1,6 +1,5 @@
 -- `iisph_words::words::put_kind` meets its contract: each branch writes the word of its kind. Assumes nothing.
 use Rattle.iisph_words.specs.Words.{kind_word}
-use borrow.Author.Rules.{rules}
 use Rattle.iisph_words.proofs.words.put_kind.Goals as goal
 
 pub put_word-requires : goal.put_word-requires

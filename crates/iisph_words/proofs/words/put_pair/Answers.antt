@@ -3,7 +3,6 @@ use native.Mathlib.Omega.{arith}
 use Rattle.lists.proofs.Writing.{◌then◌}
 use Rattle.iisph_words.specs.Words.{pair_text}
 use Rattle.iisph_words.proofs.WordWidths.{length-pair}
-use borrow.Author.Rules.{rules}
 use Rattle.iisph_words.proofs.words.put_pair.Goals as goal
 
 pub put_decimal-gap-requires : goal.put_decimal-gap-requires

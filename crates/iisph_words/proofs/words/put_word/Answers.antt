@@ -1,13 +1,12 @@
 -- `iisph_words::words::put_word` meets its contract. The loop's invariant: the first i bytes of the word are stored.
 -- Assumes nothing.
-use Prim.Native.Nat.{◌≤◌, ◌-◌}
+use Prim.Native.Nat.{◌-◌}
 use mathlib.Core.Path.{◌≡◌, refl, ◌∙◌}
 use native.Mathlib.Nat.{le_antisymm}
 use native.Mathlib.Omega.{arith}
-use lib.ListN.{length, take, length-set}
-use lib.Seq.{sets, take-length}
+use lib.ListN.{length, length-set}
+use lib.Seq.{take-length}
 use Rattle.lists.proofs.Writing.{stores, one_more_set}
-use borrow.Author.Rules.{rules}
 use Rattle.iisph_words.proofs.words.put_word.Goals as goal
 
 pub loop-i-init : goal.loop-i-init

@@ -7,11 +7,11 @@ use lib.ListN.{take, replicate}
 use Rattle.math.specs.Vector.{coordinates}
 use Rattle.math.proofs.Vec3.zero.Goals as goal
 
-take-replicate : {A : Type 0} (x : A) (d n : ℕ) → d ≤ n → take d (replicate n x) ≡ replicate d x
-take-replicate x zero n h = refl
-take-replicate x (suc d) zero h = absurd (not-suc-le-zero h)
-take-replicate x (suc d) (suc n) h = ap (◌∷◌ x) (take-replicate x d n (le_of_suc-le-suc h))
+take_replicate : {A : Type 0} (x : A) (d n : ℕ) → d ≤ n → take d (replicate n x) ≡ replicate d x
+take_replicate x zero n h = refl
+take_replicate x (suc d) zero h = absurd (not-suc-le-zero h)
+take_replicate x (suc d) (suc n) h = ap (◌∷◌ x) (take_replicate x d n (le_of_suc-le-suc h))
 
 pub returns : goal.returns
 unfolding coordinates
-returns c d h = take-replicate _ d _ h
+returns c d h = take_replicate _ d _ h

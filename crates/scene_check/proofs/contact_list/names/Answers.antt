@@ -5,25 +5,25 @@ use mathlib.Core.Path.{◌≡◌, refl}
 use native.Mathlib.Nat.{sub-zero, add-zero, one-mul, mul-zero, mul-suc, mul-le-mul_right}
 use native.Mathlib.Omega.{arith}
 use lib.ListN.{length}
-use borrow.Author.Rules.{rules}
 use borrow.Author.Tests.{le-leb, lt-leb}
 use Rattle.lists.specs.Lists.{choose}
 use Rattle.scene_fields.specs.Fields.{refused_if}
 use Rattle.scene_check.specs.Walk.{name, names}
-use Rattle.scene_fields.proofs.Walks.{Remains, none_done, one_more_done, turn_refused, all_done}
+use Rattle.scene_fields.proofs.Walks.{none_done, one_more_done, turn_refused, all_done}
 use Rattle.scene_check.proofs.Looks.{all_looked, looked_up_to}
 use Rattle.scene_check.proofs.contact_list.names.Goals as goal
 
 -- one contact and the rest
-one-and-rest : (w n i : ℕ) → i < n → w * (n - i) ≡ w * (n - (i + 1)) + w
-one-and-rest w n i h = let e : n - i ≡ suc (n - (i + 1)) = omega arith in rw (e, mul-suc)
+one_and_rest : (w n i : ℕ) → i < n → w * (n - i) ≡ w * (n - (i + 1)) + w
+one_and_rest w n i h = let e : n - i ≡ suc (n - (i + 1)) = omega arith in rw (e, mul-suc)
 
 pub loop-i-init : goal.loop-i-init
 loop-i-init c = (none_done, rw sub-zero c.requires.1, rw (mul-zero, add-zero), refl)
 
 pub look-seen-requires : goal.look-seen-requires
 look-seen-requires c =
-    let within : let a = c.args in let l = c.loop-i in l.at + a.w + a.w * (a.n - (l.i + 1)) ≤ length a.s.now = let a = c.args in omega (arith, c.loop-i.invariant.1, one-and-rest a.w a.n c.loop-i.i c.loop-i-test.true) in
+    let within : let a = c.args in let l = c.loop-i in l.at + a.w + a.w * (a.n - (l.i + 1)) ≤ length a.s.now = let a =
+    c.args in omega (arith, c.loop-i.invariant.1, one_and_rest a.w a.n c.loop-i.i c.loop-i-test.true) in
     let p = c.requires in
     let a = c.args in
     let few : 1 * a.n ≤ a.w * a.n = mul-le-mul_right a.n (omega (arith, p.0)) in
@@ -41,13 +41,15 @@ returns-then-counts-model c =
 
 pub overflow_add-at : goal.overflow_add-at
 overflow_add-at c =
-    let within : let a = c.args in let l = c.loop-i in l.at + a.w + a.w * (a.n - (l.i + 1)) ≤ length a.s.now = let a = c.args in omega (arith, c.loop-i.invariant.1, one-and-rest a.w a.n c.loop-i.i c.loop-i-test.true) in
+    let within : let a = c.args in let l = c.loop-i in l.at + a.w + a.w * (a.n - (l.i + 1)) ≤ length a.s.now = let a =
+    c.args in omega (arith, c.loop-i.invariant.1, one_and_rest a.w a.n c.loop-i.i c.loop-i-test.true) in
     omega (arith, within)
 
 pub loop-i-preserved : goal.loop-i-preserved
 unfolding name refused_if choose
 loop-i-preserved c =
-    let within : let a = c.args in let l = c.loop-i in l.at + a.w + a.w * (a.n - (l.i + 1)) ≤ length a.s.now = let a = c.args in omega (arith, c.loop-i.invariant.1, one-and-rest a.w a.n c.loop-i.i c.loop-i-test.true) in
+    let within : let a = c.args in let l = c.loop-i in l.at + a.w + a.w * (a.n - (l.i + 1)) ≤ length a.s.now = let a =
+    c.args in omega (arith, c.loop-i.invariant.1, one_and_rest a.w a.n c.loop-i.i c.loop-i-test.true) in
     let l = c.loop-i in
     let e = c.look-seen.ensures in (
       one_more_done l.invariant.0 c.loop-i-test.true

@@ -4,7 +4,6 @@ use Prim.Native.Nat.{ℕ, ◌≤◌}
 use mathlib.Core.Path.{◌≡◌, sym, ap, ◌∙◌}
 use native.Mathlib.Omega.{arith}
 use lib.ListN.{length, replicate, length-replicate}
-use borrow.Author.Rules.{rules}
 use Rattle.scene_fields.specs.Fields.{◌▹◌}
 use Rattle.scene_format.specs.Format.{most_models, nameable_models, axes_of, header_width, first_head}
 use mathlib.Core.List.{List}
@@ -40,8 +39,10 @@ fill_counts-requires-2 c =
 pub models_names-w-requires : goal.models_names-w-requires
 unfolding first_head
 models_names-w-requires c =
-    let known : CountsAre c.args.s.now c.fill_counts.new.counts c.fill_counts-2.new.counts = counts-are _ (within c.args.s.now c.requires.0) c.fill_counts.ensures c.fill_counts-2.ensures in
-    let start_is : c.header_width-first.result ≡ header_width (axes_of c.args.s.now) = c.header_width-first.ensures ∙ ap header_width c.axes.ensures.0 in
+    let known : CountsAre c.args.s.now c.fill_counts.new.counts c.fill_counts-2.new.counts =
+    counts-are _ (within c.args.s.now c.requires.0) c.fill_counts.ensures c.fill_counts-2.ensures in
+    let start_is : c.header_width-first.result ≡ header_width (axes_of c.args.s.now) =
+    c.header_width-first.ensures ∙ ap header_width c.axes.ensures.0 in
     record {
       counts_are = known;
       models_within = within c.args.s.now c.requires.0 Fluid;
@@ -51,24 +52,29 @@ models_names-w-requires c =
 pub returns-in_default : goal.returns-in_default
 unfolding all_names ◌▹◌
 returns-in_default c =
-    let start_is : c.header_width-first.result ≡ header_width (axes_of c.args.s.now) = c.header_width-first.ensures ∙ ap header_width c.axes.ensures.0 in
+    let start_is : c.header_width-first.result ≡ header_width (axes_of c.args.s.now) =
+    c.header_width-first.ensures ∙ ap header_width c.axes.ensures.0 in
     let q = c.in_default.is in
     rw (← start_is, sym c.models_names-w.ensures ∙ q) q
 
 pub models_names-requires : goal.models_names-requires
 unfolding first_head
 models_names-requires c =
-    let start_is : c.header_width-first.result ≡ header_width (axes_of c.args.s.now) = c.header_width-first.ensures ∙ ap header_width c.axes.ensures.0 in
-    let fluids-end : c.in-At.at ≡ first_head Boundary c.args.s.now = rw (← start_is) (models_names-steps c.args.s.now Fluid _ _ (sym c.models_names-w.ensures ∙ c.in-At.is)).0 in
-    let known : CountsAre c.args.s.now c.fill_counts.new.counts c.fill_counts-2.new.counts = counts-are _ (within c.args.s.now c.requires.0) c.fill_counts.ensures c.fill_counts-2.ensures in
+    let start_is : c.header_width-first.result ≡ header_width (axes_of c.args.s.now) =
+    c.header_width-first.ensures ∙ ap header_width c.axes.ensures.0 in
+    let fluids_end : c.in-At.at ≡ first_head Boundary c.args.s.now =
+    rw (← start_is) (models_names-steps c.args.s.now Fluid _ _ (sym c.models_names-w.ensures ∙ c.in-At.is)).0 in
+    let known : CountsAre c.args.s.now c.fill_counts.new.counts c.fill_counts-2.new.counts =
+    counts-are _ (within c.args.s.now c.requires.0) c.fill_counts.ensures c.fill_counts-2.ensures in
     record {
       counts_are = known;
       models_within = within c.args.s.now c.requires.0 Boundary;
-      n_value = (boundary-number _ c.requires.1, fluids-end);
+      n_value = (boundary-number _ c.requires.1, fluids_end);
     }
 
 pub returns : goal.returns
 unfolding all_names ◌▹◌
 returns c =
-    let start_is : c.header_width-first.result ≡ header_width (axes_of c.args.s.now) = c.header_width-first.ensures ∙ ap header_width c.axes.ensures.0 in
+    let start_is : c.header_width-first.result ≡ header_width (axes_of c.args.s.now) =
+    c.header_width-first.ensures ∙ ap header_width c.axes.ensures.0 in
     rw (← start_is, sym c.models_names-w.ensures ∙ c.in-At.is) c.models_names.ensures

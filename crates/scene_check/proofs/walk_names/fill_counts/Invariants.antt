@@ -1,16 +1,11 @@
 -- `scene_check::walk_names::fill_counts` meets its contract: model by model, each count read at the head that the
 -- layout has. Assumes nothing.
 use Prim.Native.Nat.{ℕ, ◌-◌}
-use mathlib.Core.Path.{◌∙◌}
 use mathlib.Core.List.{List}
-use native.Mathlib.Omega.{arith}
 use lib.ListN.{get_or}
-use borrow.Author.Rules.{rules}
-use Rattle.lists.proofs.Fills.{Filling, none_stored, one_more_in_front, all_stored, table_list}
+use Rattle.lists.proofs.Fills.{Filling}
 use Rattle.scene_format.specs.Format.{model_number, counts_of}
 use Rattle.scene_format.specs.declared.Kind.{Kind}
-use Rattle.scene_layout.proofs.Locations.{length_counts}
-use Rattle.scene_layout.proofs.Turns.{Turn, this_turn, number_is}
 use Rattle.scene_check.proofs.walk_names.fill_counts.Given as goal
 
 abbrev count : Kind → List ℕ → ℕ → ℕ

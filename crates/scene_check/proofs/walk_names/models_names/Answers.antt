@@ -1,12 +1,9 @@
 -- `scene_check::walk_names::models_names` meets its contract: what remains from here is the whole, model by model, with
 -- the models that are left within the bytes. Assumes nothing.
 use Prim.Native.Nat.{◌-◌}
-use mathlib.Core.Path.{◌≡◌, sym, ◌∙◌}
-use borrow.Author.Rules.{rules}
-use Rattle.scene_format.specs.Format.{model_number, model_end}
-use Rattle.scene_check.specs.Walk.{model_names_of, models_names_of}
-use Rattle.scene_format.specs.Within.{ModelWithin}
-use Rattle.scene_fields.proofs.Walks.{Remains, none_done, one_more_done, turn_refused, all_done, Ahead, none_stepped}
+use mathlib.Core.Path.{sym, ◌∙◌}
+use Rattle.scene_check.specs.Walk.{models_names_of}
+use Rattle.scene_fields.proofs.Walks.{none_done, one_more_done, turn_refused, all_done, none_stepped}
 use Rattle.scene_fields.proofs.Walks.{one_more_stepped, holds_here}
 use Rattle.scene_check.proofs.Accepted.{model_names-steps}
 use Rattle.scene_check.proofs.walk_names.models_names.Goals as goal

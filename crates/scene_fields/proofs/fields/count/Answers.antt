@@ -1,6 +1,5 @@
 -- `scene_fields::fields::count` meets its contract: present or not, then over 4,096 or not. Assumes nothing.
 use mathlib.Core.Path.{sym, ◌∙◌}
-use borrow.Author.Rules.{rules}
 use borrow.Author.Tests.{lt-ltb, le-ltb}
 use Rattle.lists.specs.Lists.{choose}
 use Rattle.scene_fields.specs.Fields.{refused_if, count}

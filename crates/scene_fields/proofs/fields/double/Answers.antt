@@ -1,6 +1,5 @@
 -- `scene_fields::fields::double` meets its contract: present or not, then finite or not. Assumes nothing.
 use mathlib.Core.Path.{sym, ◌∙◌}
-use borrow.Author.Rules.{rules}
 use Rattle.lists.specs.Lists.{choose}
 use Rattle.scene_fields.specs.Fields.{refused_if, double}
 use Rattle.scene_fields.proofs.Reached.{plain-steps}

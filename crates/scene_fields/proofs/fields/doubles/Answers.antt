@@ -1,9 +1,7 @@
 -- `scene_fields::fields::doubles` meets its contract: what remains from here is the whole, turn by turn. Assumes
 -- nothing.
 use Prim.Native.Nat.{◌-◌}
-use borrow.Author.Rules.{rules}
-use Rattle.scene_fields.specs.Fields.{double}
-use Rattle.scene_fields.proofs.Walks.{Remains, none_done, one_more_done, turn_refused, all_done}
+use Rattle.scene_fields.proofs.Walks.{none_done, one_more_done, turn_refused, all_done}
 use Rattle.scene_fields.proofs.fields.doubles.Goals as goal
 
 pub loop-i-init : goal.loop-i-init

@@ -1,6 +1,5 @@
 -- `scene_fields::fields::half_byte` meets its contract: by the rule, and by whether the half keeps it. Assumes nothing.
 use borrow.Author.Tests.{lt-ltb, le-ltb}
-use borrow.Author.Rules.{rules}
 use Rattle.lists.specs.Lists.{choose}
 use Rattle.scene_fields.specs.Fields.{refused_if, half_byte}
 use Rattle.scene_fields.proofs.fields.half_byte.Goals as goal

@@ -1,7 +1,6 @@
 -- `scene_fields::fields::halves` meets its contract: present or not, then half by half. Assumes nothing.
 use mathlib.Core.Path.{sym, ◌∙◌}
 use native.Mathlib.Omega.{arith}
-use borrow.Author.Rules.{rules}
 use Rattle.scene_fields.specs.Fields.{halves}
 use Rattle.scene_fields.proofs.Reached.{plain-steps}
 use Rattle.scene_fields.proofs.Walks.{field_there, field_refused}

@@ -3,7 +3,6 @@ use Prim.Native.Nat.{◌+◌, ◌≤◌, ◌<◌}
 use mathlib.Core.Path.{sym}
 use native.Mathlib.Omega.{arith}
 use lib.ListN.{length}
-use borrow.Author.Rules.{rules}
 use Rattle.scene_fields.specs.Fields.{plain}
 use Rattle.scene_fields.proofs.Walks.{field_there, field_missing}
 use Rattle.scene_fields.proofs.fields.plain.Goals as goal

@@ -9,7 +9,10 @@ returns-then-version-eq-FIRST_VERSION c = rw (eq-eqb _ _ c.if-version-eq-FIRST_V
 
 pub returns-then-version-eq-RULED_VERSION : goal.returns-then-version-eq-RULED_VERSION
 unfolding version_known
-returns-then-version-eq-RULED_VERSION c = rw (ne_eqb _ _ c.if-version-eq-FIRST_VERSION.false, eq-eqb _ _ c.if-version-eq-RULED_VERSION.true)
+returns-then-version-eq-RULED_VERSION c = rw (
+  ne_eqb _ _ c.if-version-eq-FIRST_VERSION.false,
+  eq-eqb _ _ c.if-version-eq-RULED_VERSION.true,
+)
 
 pub returns : goal.returns
 unfolding version_known

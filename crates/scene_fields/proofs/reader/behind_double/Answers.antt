@@ -1,7 +1,6 @@
 -- `scene_fields::reader::behind_double` meets its contract: by whether the walk passes the double or refuses it.
 -- Assumes nothing.
 use mathlib.Core.Path.{sym, ◌∙◌}
-use borrow.Author.Rules.{rules}
 use Rattle.scene_fields.specs.Reading.{reached}
 use Rattle.scene_fields.proofs.reader.behind_double.Goals as goal
 

@@ -1,7 +1,6 @@
 -- `scene_fields::reader::double_at` meets its contract: by whether the walk passes the double or refuses it. Assumes
 -- nothing.
 use mathlib.Core.Path.{sym, ◌∙◌}
-use borrow.Author.Rules.{rules}
 use Rattle.scene_fields.specs.Reading.{read_as}
 use Rattle.scene_fields.proofs.Reached.{double-steps}
 use Rattle.scene_fields.proofs.reader.double_at.Goals as goal

@@ -1,4 +1,5 @@
--- `scene_fields::reader::header_numbers` meets its contract: each reader begins where the one before it has read to, and
+-- `scene_fields::reader::header_numbers` meets its contract: each reader begins where the one before it has read to,
+-- and
 -- reads in turn find what the definition says. Assumes nothing.
 use Rattle.std.proofs.Common.{◌≡◌, ◌∙◌, List, ℕ}
 use Rattle.std.specs.Borrow.{Bor}

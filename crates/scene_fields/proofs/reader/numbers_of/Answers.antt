@@ -1,5 +1,4 @@
 -- `scene_fields::reader::numbers_of` meets its contract: by the first read that is refused, or none. Assumes nothing.
-use borrow.Author.Rules.{rules}
 use Rattle.scene_fields.specs.Reading.{numbers_of}
 use Rattle.scene_fields.proofs.reader.numbers_of.Goals as goal
 

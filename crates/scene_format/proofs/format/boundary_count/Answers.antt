@@ -2,7 +2,6 @@
 -- Assumes
 -- nothing.
 use native.Mathlib.Omega.{arith}
-use borrow.Author.Rules.{rules}
 use Rattle.scene_format.proofs.Forms.{kept_fits}
 use Rattle.scene_format.proofs.format.boundary_count.Goals as goal
 

@@ -1,6 +1,5 @@
 -- `scene_format::read::axes` meets its contract: by whether there are bytes, and by the version. Assumes nothing.
 use mathlib.Core.Path.{sym, ap, ◌∙◌}
-use borrow.Author.Rules.{rules}
 use Rattle.scene_format.specs.Format.{upper_half}
 use Rattle.scene_format.proofs.Forms.{flat-axes, other-axes, no_axes, in_plane, in_space}
 use Rattle.scene_format.proofs.read.axes.Goals as goal

@@ -1,5 +1,4 @@
 -- `scene_format::read::criterion` meets its contract: by the lowest bit of the rule. Assumes nothing.
-use borrow.Author.Rules.{rules}
 use borrow.Author.Tests.{eq-eqb, ne_eqb}
 use Rattle.scene_format.specs.Format.{criterion_of}
 use Rattle.scene_format.proofs.read.criterion.Goals as goal

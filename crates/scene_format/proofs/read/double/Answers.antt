@@ -5,7 +5,6 @@ use mathlib.Core.Bool.{Bool, true, false, not}
 use native.Mathlib.Omega.{arith}
 use lib.Ieee.{binary64, nan_bits}
 use lib.Dec.{T, leb}
-use borrow.Author.Rules.{rules}
 use borrow.Author.Tests.{leb-true, leb-false}
 use Rattle.math.specs.Real.{bits}
 use Rattle.math.proofs.Doubles.{number_pattern}
@@ -13,7 +12,8 @@ use Rattle.scene_format.specs.Bytes.{double_at, exponent_modulus, fraction_modul
 use Rattle.scene_format.proofs.read.double.Goals as goal
 
 -- a finite exponent is below infinity's
-finite_number : (n : ℕ) → (n / fraction_modulus % exponent_modulus ≡ non_finite_exponent → ⊥) → T (not (nan_bits binary64 n))
+finite_number : (n : ℕ) → (n / fraction_modulus % exponent_modulus ≡ non_finite_exponent → ⊥) →
+    T (not (nan_bits binary64 n))
 finite_number n h = number_pattern n (below (leb (n % 0x8000_0000_0000_0000) 0x7FF0_0000_0000_0000) refl)
   where
     below : (t : Bool) → leb (n % 0x8000_0000_0000_0000) 0x7FF0_0000_0000_0000 ≡ t

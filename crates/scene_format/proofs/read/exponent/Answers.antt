@@ -2,7 +2,6 @@
 use Prim.Native.Nat.{ℕ, ◌/◌, ◌%◌}
 use mathlib.Core.Path.{◌≡◌, ap, ◌∙◌}
 use native.Mathlib.Omega.{arith}
-use borrow.Author.Rules.{rules}
 use Rattle.scene_format.specs.Bytes.{be16_at, exponent_modulus}
 use Rattle.scene_format.proofs.Exponents.{front_modulus, exponent_front}
 use Rattle.scene_format.proofs.read.exponent.Goals as goal

@@ -1,5 +1,4 @@
 -- `scene_format::read::first_record` meets its contract: by the kind. Assumes nothing.
-use borrow.Author.Rules.{rules}
 use Rattle.scene_format.proofs.read.first_record.Goals as goal
 
 pub returns-in-Fluid : goal.returns-in-Fluid

@@ -1,6 +1,5 @@
 -- `scene_format::read::model_number` meets its contract: by the kind. Assumes nothing.
 use mathlib.Core.Path.{ap}
-use borrow.Author.Rules.{rules}
 use Rattle.scene_format.specs.Format.{upper_half, lower_half}
 use Rattle.scene_format.proofs.read.model_number.Goals as goal
 

@@ -1,7 +1,6 @@
 -- `scene_format::read::next_record` meets its contract: by the kind; the counts are there, since the record is. Assumes
 -- nothing.
 use native.Mathlib.Omega.{arith}
-use borrow.Author.Rules.{rules}
 use Rattle.scene_format.specs.Format.{own_width, contacts_width, next_record}
 use Rattle.scene_format.proofs.Forms.{two_bytes, contacts_fit}
 use Rattle.scene_format.proofs.read.next_record.Goals as goal

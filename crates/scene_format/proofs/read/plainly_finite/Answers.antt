@@ -1,5 +1,4 @@
 -- `scene_format::read::plainly_finite` meets its contract: the definition is the code. Assumes nothing.
-use borrow.Author.Rules.{rules}
 use Rattle.scene_format.specs.Bytes.{plainly_finite}
 use Rattle.scene_format.proofs.read.plainly_finite.Goals as goal
 

@@ -1,5 +1,4 @@
 -- `scene_format::read::summation` meets its contract: by whether the rule has a bit above its lowest. Assumes nothing.
-use borrow.Author.Rules.{rules}
 use borrow.Author.Tests.{eq-eqb, ne_eqb}
 use Rattle.scene_format.specs.Format.{summation_of}
 use Rattle.scene_format.proofs.read.summation.Goals as goal

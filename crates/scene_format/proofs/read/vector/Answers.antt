@@ -1,19 +1,19 @@
--- `scene_format::read::vector` meets its contract: what is read is a table of as many doubles as there are axes. Assumes
+-- `scene_format::read::vector` meets its contract: what is read is a table of as many doubles as there are axes.
+-- Assumes
 -- nothing.
 use Prim.Native.Nat.{ℕ, ◌+◌, ◌-◌, ◌*◌}
 use mathlib.Core.Path.{◌≡◌}
 use mathlib.Core.List.{List}
 use native.Mathlib.Nat.{add-zero}
 use native.Mathlib.Omega.{arith}
-use borrow.Author.Rules.{rules}
 use Rattle.math.specs.Vector.{Axes}
 use Rattle.math.proofs.Vectors.{coordinates-table}
 use Rattle.scene_format.specs.Bytes.{double_width, double_at, vector_at, FiniteAt, AllFinite}
 use Rattle.scene_format.proofs.read.vector.Goals as goal
 
 -- the last of d doubles stands before the end of all
-last-finite : (b : List ℕ) (at d w : ℕ) → Axes d → AllFinite b at d → w ≡ d → FiniteAt b (at + double_width * (w - 1))
-last-finite b at d w axes finite e = finite.each (w - 1) (omega (arith, axes.least))
+last_finite : (b : List ℕ) (at d w : ℕ) → Axes d → AllFinite b at d → w ≡ d → FiniteAt b (at + double_width * (w - 1))
+last_finite b at d w axes finite e = finite.each (w - 1) (omega (arith, axes.least))
 
 pub double-requires : goal.double-requires
 double-requires c = let p = c.requires in rw add-zero at (p.1.each 0 (omega (arith, p.0.least)))
@@ -30,12 +30,12 @@ overflow_sub-wide c = omega (arith, c.requires.0.least)
 pub overflow_add-at-2 : goal.overflow_add-at-2
 overflow_add-at-2 c =
     let p = c.requires in
-    omega (arith, (last-finite _ _ _ _ p.0 p.1 c.wide.ensures.0).present)
+    omega (arith, (last_finite _ _ _ _ p.0 p.1 c.wide.ensures.0).present)
 
 pub double-requires-3 : goal.double-requires-3
 double-requires-3 c =
     let p = c.requires in
-    last-finite _ _ _ _ p.0 p.1 c.wide.ensures.0
+    last_finite _ _ _ _ p.0 p.1 c.wide.ensures.0
 
 pub returns : goal.returns
 unfolding vector_at

@@ -4,7 +4,6 @@ use Prim.Native.Nat.{◌+◌, ◌*◌, ◌/◌, ◌%◌, ◌<◌}
 use mathlib.Core.Path.{◌≡◌, sym, ap, ◌∙◌}
 use native.Mathlib.Omega.{arith}
 use lib.ListN.{length, get_or}
-use borrow.Author.Rules.{rules}
 use Rattle.scene_format.specs.Format.{starts_of}
 use Rattle.scene_format.specs.SceneOf.{target_at}
 use Rattle.scene_format.specs.declared.Kind.TheVariants.{Fluid}
@@ -15,17 +14,29 @@ use Rattle.scene_index.proofs.contacts.target_of.Goals as goal
 
 pub bounds-index-block : goal.bounds-index-block
 bounds-index-block c =
-    let fluid : let a = c.args in let p = c.contact_name-name.result.particle.0 in let x = bases_at Fluid a.scene.now + (model_blocks * c.contact_name-name.result.model.0 + p / block_size) in (x < length a.index.now) × (get_or a.index.now x 0 + p % block_size ≡ target_at (starts_of a.kind a.scene.now) a.scene.now a.at) = base_found c.requires.indexed c.args.kind _ c.contact_name-name.ensures c.requires.target_ready.0 (sym (ap (λ κ. bases_at κ c.args.scene.now) c.in-Fluid.is)) in
+    let fluid : let a = c.args in let p = c.contact_name-name.result.particle.0 in let x =
+    bases_at Fluid a.scene.now + (model_blocks * c.contact_name-name.result.model.0 + p / block_size) in
+    (x < length a.index.now) × (get_or a.index.now x 0 + p % block_size ≡ target_at (starts_of a.kind a.scene.now)
+    a.scene.now a.at) = base_found c.requires.indexed c.args.kind _ c.contact_name-name.ensures
+    c.requires.target_ready.0 (sym (ap (λ κ. bases_at κ c.args.scene.now) c.in-Fluid.is)) in
     omega (arith, fluid.0)
 
 pub returns-in-Fluid : goal.returns-in-Fluid
 returns-in-Fluid c =
-    let fluid : let a = c.args in let p = c.contact_name-name.result.particle.0 in let x = bases_at Fluid a.scene.now + (model_blocks * c.contact_name-name.result.model.0 + p / block_size) in (x < length a.index.now) × (get_or a.index.now x 0 + p % block_size ≡ target_at (starts_of a.kind a.scene.now) a.scene.now a.at) = base_found c.requires.indexed c.args.kind _ c.contact_name-name.ensures c.requires.target_ready.0 (sym (ap (λ κ. bases_at κ c.args.scene.now) c.in-Fluid.is)) in
+    let fluid : let a = c.args in let p = c.contact_name-name.result.particle.0 in let x =
+    bases_at Fluid a.scene.now + (model_blocks * c.contact_name-name.result.model.0 + p / block_size) in
+    (x < length a.index.now) × (get_or a.index.now x 0 + p % block_size ≡ target_at (starts_of a.kind a.scene.now)
+    a.scene.now a.at) = base_found c.requires.indexed c.args.kind _ c.contact_name-name.ensures
+    c.requires.target_ready.0 (sym (ap (λ κ. bases_at κ c.args.scene.now) c.in-Fluid.is)) in
     fluid.1
 
 pub overflow_add-result-in-Fluid : goal.overflow_add-result-in-Fluid
 overflow_add-result-in-Fluid c =
-    let fluid : let a = c.args in let p = c.contact_name-name.result.particle.0 in let x = bases_at Fluid a.scene.now + (model_blocks * c.contact_name-name.result.model.0 + p / block_size) in (x < length a.index.now) × (get_or a.index.now x 0 + p % block_size ≡ target_at (starts_of a.kind a.scene.now) a.scene.now a.at) = base_found c.requires.indexed c.args.kind _ c.contact_name-name.ensures c.requires.target_ready.0 (sym (ap (λ κ. bases_at κ c.args.scene.now) c.in-Fluid.is)) in
+    let fluid : let a = c.args in let p = c.contact_name-name.result.particle.0 in let x =
+    bases_at Fluid a.scene.now + (model_blocks * c.contact_name-name.result.model.0 + p / block_size) in
+    (x < length a.index.now) × (get_or a.index.now x 0 + p % block_size ≡ target_at (starts_of a.kind a.scene.now)
+    a.scene.now a.at) = base_found c.requires.indexed c.args.kind _ c.contact_name-name.ensures
+    c.requires.target_ready.0 (sym (ap (λ κ. bases_at κ c.args.scene.now) c.in-Fluid.is)) in
     let p = c.requires in
     omega (arith, fluid.1, target_few p.indexed _ _ p.target_ready.0)
 
@@ -34,26 +45,51 @@ bounds-index-0 c = omega (arith, c.requires.indexed.room)
 
 pub overflow_add-result-in-Boundary : goal.overflow_add-result-in-Boundary
 overflow_add-result-in-Boundary c =
-    let boundary : let a = c.args in let p = c.contact_name-name.result.particle.0 in let x = get_or a.index.now 0 0 + (model_blocks * c.contact_name-name.result.model.0 + p / block_size) in (x < length a.index.now) × (get_or a.index.now x 0 + p % block_size ≡ target_at (starts_of a.kind a.scene.now) a.scene.now a.at) = base_found c.requires.indexed c.args.kind _ c.contact_name-name.ensures c.requires.target_ready.0 (bases_begin c.requires.indexed ∙ sym (ap (λ κ. bases_at κ c.args.scene.now) c.in-Boundary.is)) in
+    let boundary : let a = c.args in let p = c.contact_name-name.result.particle.0 in let x =
+    get_or a.index.now 0 0 + (model_blocks * c.contact_name-name.result.model.0 + p / block_size) in
+    (x < length a.index.now) × (get_or a.index.now x 0 + p % block_size ≡ target_at (starts_of a.kind a.scene.now)
+    a.scene.now a.at) = base_found c.requires.indexed c.args.kind _ c.contact_name-name.ensures
+    c.requires.target_ready.0 (bases_begin c.requires.indexed
+    ∙ sym (ap (λ κ. bases_at κ c.args.scene.now) c.in-Boundary.is)) in
     omega (arith, boundary.0)
 
 pub offset_bounds-index-bases : goal.offset_bounds-index-bases
 offset_bounds-index-bases c =
-    let boundary : let a = c.args in let p = c.contact_name-name.result.particle.0 in let x = get_or a.index.now 0 0 + (model_blocks * c.contact_name-name.result.model.0 + p / block_size) in (x < length a.index.now) × (get_or a.index.now x 0 + p % block_size ≡ target_at (starts_of a.kind a.scene.now) a.scene.now a.at) = base_found c.requires.indexed c.args.kind _ c.contact_name-name.ensures c.requires.target_ready.0 (bases_begin c.requires.indexed ∙ sym (ap (λ κ. bases_at κ c.args.scene.now) c.in-Boundary.is)) in
+    let boundary : let a = c.args in let p = c.contact_name-name.result.particle.0 in let x =
+    get_or a.index.now 0 0 + (model_blocks * c.contact_name-name.result.model.0 + p / block_size) in
+    (x < length a.index.now) × (get_or a.index.now x 0 + p % block_size ≡ target_at (starts_of a.kind a.scene.now)
+    a.scene.now a.at) = base_found c.requires.indexed c.args.kind _ c.contact_name-name.ensures
+    c.requires.target_ready.0 (bases_begin c.requires.indexed
+    ∙ sym (ap (λ κ. bases_at κ c.args.scene.now) c.in-Boundary.is)) in
     omega (arith, boundary.0)
 
 pub bounds-index-bases : goal.bounds-index-bases
 bounds-index-bases c =
-    let boundary : let a = c.args in let p = c.contact_name-name.result.particle.0 in let x = get_or a.index.now 0 0 + (model_blocks * c.contact_name-name.result.model.0 + p / block_size) in (x < length a.index.now) × (get_or a.index.now x 0 + p % block_size ≡ target_at (starts_of a.kind a.scene.now) a.scene.now a.at) = base_found c.requires.indexed c.args.kind _ c.contact_name-name.ensures c.requires.target_ready.0 (bases_begin c.requires.indexed ∙ sym (ap (λ κ. bases_at κ c.args.scene.now) c.in-Boundary.is)) in
+    let boundary : let a = c.args in let p = c.contact_name-name.result.particle.0 in let x =
+    get_or a.index.now 0 0 + (model_blocks * c.contact_name-name.result.model.0 + p / block_size) in
+    (x < length a.index.now) × (get_or a.index.now x 0 + p % block_size ≡ target_at (starts_of a.kind a.scene.now)
+    a.scene.now a.at) = base_found c.requires.indexed c.args.kind _ c.contact_name-name.ensures
+    c.requires.target_ready.0 (bases_begin c.requires.indexed
+    ∙ sym (ap (λ κ. bases_at κ c.args.scene.now) c.in-Boundary.is)) in
     omega (arith, boundary.0)
 
 pub returns-in-Boundary : goal.returns-in-Boundary
 returns-in-Boundary c =
-    let boundary : let a = c.args in let p = c.contact_name-name.result.particle.0 in let x = get_or a.index.now 0 0 + (model_blocks * c.contact_name-name.result.model.0 + p / block_size) in (x < length a.index.now) × (get_or a.index.now x 0 + p % block_size ≡ target_at (starts_of a.kind a.scene.now) a.scene.now a.at) = base_found c.requires.indexed c.args.kind _ c.contact_name-name.ensures c.requires.target_ready.0 (bases_begin c.requires.indexed ∙ sym (ap (λ κ. bases_at κ c.args.scene.now) c.in-Boundary.is)) in
+    let boundary : let a = c.args in let p = c.contact_name-name.result.particle.0 in let x =
+    get_or a.index.now 0 0 + (model_blocks * c.contact_name-name.result.model.0 + p / block_size) in
+    (x < length a.index.now) × (get_or a.index.now x 0 + p % block_size ≡ target_at (starts_of a.kind a.scene.now)
+    a.scene.now a.at) = base_found c.requires.indexed c.args.kind _ c.contact_name-name.ensures
+    c.requires.target_ready.0 (bases_begin c.requires.indexed
+    ∙ sym (ap (λ κ. bases_at κ c.args.scene.now) c.in-Boundary.is)) in
     boundary.1
 
 pub overflow_add-result-in-Boundary-2 : goal.overflow_add-result-in-Boundary-2
 overflow_add-result-in-Boundary-2 c =
-    let boundary : let a = c.args in let p = c.contact_name-name.result.particle.0 in let x = get_or a.index.now 0 0 + (model_blocks * c.contact_name-name.result.model.0 + p / block_size) in (x < length a.index.now) × (get_or a.index.now x 0 + p % block_size ≡ target_at (starts_of a.kind a.scene.now) a.scene.now a.at) = base_found c.requires.indexed c.args.kind _ c.contact_name-name.ensures c.requires.target_ready.0 (bases_begin c.requires.indexed ∙ sym (ap (λ κ. bases_at κ c.args.scene.now) c.in-Boundary.is)) in
+    let boundary : let a = c.args in let p = c.contact_name-name.result.particle.0 in let x =
+    get_or a.index.now 0 0 + (model_blocks * c.contact_name-name.result.model.0 + p / block_size) in
+    (x < length a.index.now) × (get_or a.index.now x 0 + p % block_size ≡ target_at (starts_of a.kind a.scene.now)
+    a.scene.now a.at) = base_found c.requires.indexed c.args.kind _ c.contact_name-name.ensures
+    c.requires.target_ready.0 (bases_begin c.requires.indexed
+    ∙ sym (ap (λ κ. bases_at κ c.args.scene.now) c.in-Boundary.is)) in
     let p = c.requires in
     omega (arith, boundary.1, target_few p.indexed _ _ p.target_ready.0)

@@ -1,13 +1,7 @@
 -- `scene_index::index::fill_bases` meets its contract: model by model, each from the number of the particles before it
 -- on. Assumes nothing.
-use Prim.Native.Nat.{◌+◌, ◌-◌, ◌≤◌}
-use mathlib.Core.Path.{◌≡◌, ◌∙◌}
-use native.Mathlib.Omega.{arith}
-use lib.ListN.{get_or}
-use borrow.Author.Rules.{rules}
-use Rattle.scene_format.specs.Format.{most_of_a_kind, counts_of}
-use Rattle.scene_layout.proofs.Turns.{Turn, this_turn, number_is}
-use Rattle.scene_index.proofs.Bases.{Based, none_based, blocks_room, start_few, one_more_based, all_based}
+use Prim.Native.Nat.{◌-◌}
+use Rattle.scene_index.proofs.Bases.{Based}
 use Rattle.scene_index.proofs.index.fill_bases.Given as goal
 
 abbrev pub invariant-loop-m : goal.invariant-loop-m

@@ -2,9 +2,8 @@
 use Prim.Native.Nat.{ℕ, ◌+◌, ◌*◌, ◌-◌}
 use mathlib.Core.Path.{refl}
 use native.Mathlib.Omega.{arith}
-use borrow.Author.Rules.{rules}
-use Rattle.lists.proofs.Fills.{Filling, none_stored, one_more_stored, all_stored}
-use Rattle.scene_index.specs.Index.{block_size, model_blocks, blocks_from}
+use Rattle.lists.proofs.Fills.{none_stored, one_more_stored, all_stored}
+use Rattle.scene_index.specs.Index.{block_size, blocks_from}
 use Rattle.scene_index.proofs.index.fill_blocks.Goals as goal
 
 abbrev base : ℕ → ℕ → ℕ

@@ -1,10 +1,7 @@
 -- `scene_index::index::fill_blocks` meets its contract: block by block. Assumes nothing.
 use Prim.Native.Nat.{ℕ, ◌+◌, ◌*◌, ◌-◌}
-use mathlib.Core.Path.{refl}
-use native.Mathlib.Omega.{arith}
-use borrow.Author.Rules.{rules}
-use Rattle.lists.proofs.Fills.{Filling, none_stored, one_more_stored, all_stored}
-use Rattle.scene_index.specs.Index.{block_size, model_blocks, blocks_from}
+use Rattle.lists.proofs.Fills.{Filling}
+use Rattle.scene_index.specs.Index.{block_size, model_blocks}
 use Rattle.scene_index.proofs.index.fill_blocks.Given as goal
 
 abbrev base : ℕ → ℕ → ℕ

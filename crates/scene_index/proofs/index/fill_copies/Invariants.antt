@@ -1,8 +1,6 @@
 -- `scene_index::index::fill_copies` meets its contract: copy by copy. Assumes nothing.
 use Prim.Native.Nat.{◌-◌}
-use mathlib.Core.Path.{refl}
-use Rattle.lists.proofs.Fills.{Filling, none_stored, one_more_stored, all_stored, table_copies}
-use borrow.Author.Rules.{rules}
+use Rattle.lists.proofs.Fills.{Filling}
 use Rattle.scene_index.proofs.index.fill_copies.Given as goal
 
 abbrev pub invariant-loop-i : goal.invariant-loop-i

@@ -1,6 +1,5 @@
 -- `scene_index::index::fill_model` meets its contract: by the entry. Assumes nothing.
 use Rattle.scene_index.proofs.Indexes.{heads_copied}
-use borrow.Author.Rules.{rules}
 use Rattle.scene_index.proofs.index.fill_model.Goals as goal
 
 pub returns-in-Offset : goal.returns-in-Offset

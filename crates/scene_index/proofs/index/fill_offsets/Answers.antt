@@ -1,14 +1,12 @@
 -- `scene_index::index::fill_offsets` meets its contract: record by record. Assumes nothing.
 use Prim.Native.Nat.{◌-◌}
-use mathlib.Core.Path.{◌≡◌, sym, ◌∙◌}
+use mathlib.Core.Path.{sym, ◌∙◌}
 use native.Mathlib.Omega.{arith}
 use Rattle.lists.specs.Lists.{iter}
-use Rattle.scene_format.specs.Format.{record_at}
 use Rattle.scene_index.specs.Index.{entry_of}
-use Rattle.lists.proofs.Fills.{Filling, none_stored, one_more_stored, all_stored}
+use Rattle.lists.proofs.Fills.{none_stored, one_more_stored, all_stored}
 use Rattle.lists.proofs.Numbering.{iter_next}
 use Rattle.scene_index.proofs.Traversals.{model_table}
-use borrow.Author.Rules.{rules}
 use Rattle.scene_index.proofs.index.fill_offsets.Goals as goal
 
 pub loop-i-init : goal.loop-i-init

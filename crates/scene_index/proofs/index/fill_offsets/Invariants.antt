@@ -1,19 +1,14 @@
 -- `scene_index::index::fill_offsets` meets its contract: record by record. Assumes nothing.
 use Prim.Native.Nat.{◌-◌}
-use mathlib.Core.Path.{◌≡◌, sym, ◌∙◌}
-use native.Mathlib.Omega.{arith}
-use Rattle.lists.specs.Lists.{iter}
+use mathlib.Core.Path.{◌≡◌}
 use Rattle.scene_format.specs.Format.{record_at}
-use Rattle.scene_index.specs.Index.{entry_of}
-use Rattle.lists.proofs.Fills.{Filling, none_stored, one_more_stored, all_stored}
-use Rattle.lists.proofs.Numbering.{iter_next}
-use Rattle.scene_index.proofs.Traversals.{model_table}
-use borrow.Author.Rules.{rules}
+use Rattle.lists.proofs.Fills.{Filling}
 use Rattle.scene_index.proofs.index.fill_offsets.Given as goal
 
 abbrev pub invariant-loop-i : goal.invariant-loop-i
 invariant-loop-i l =
-    (l.at ≡ (record_at l.kind l.scene l.head l.i).at) × Filling l.initial.index l.k (λ j. (record_at l.kind l.scene l.head j).at) l.n l.i l.index
+    (l.at ≡ (record_at l.kind l.scene l.head l.i).at) × Filling l.initial.index l.k
+    (λ j. (record_at l.kind l.scene l.head j).at) l.n l.i l.index
 
 abbrev pub decreases-loop-i : goal.decreases-loop-i
 decreases-loop-i l = l.n - l.i

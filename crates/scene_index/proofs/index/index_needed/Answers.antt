@@ -1,6 +1,5 @@
 -- `scene_index::index::index_needed` meets its contract: the sections end where the index does. Assumes nothing.
 use mathlib.Core.Path.{ap}
-use borrow.Author.Rules.{rules}
 use Rattle.scene_index.specs.Index.{sections_of}
 use Rattle.scene_index.specs.declared.index.Sections.{Sections}
 use Rattle.scene_index.proofs.index.index_needed.Goals as goal

@@ -2,7 +2,6 @@
 use mathlib.Core.Path.{refl}
 use native.Mathlib.Omega.{arith}
 use lib.ListN.{length-set}
-use borrow.Author.Rules.{rules}
 use Rattle.scene_index.specs.Index.{start_numbers}
 use Rattle.scene_index.proofs.index.put_starts.Goals as goal
 

@@ -1,7 +1,6 @@
 -- `scene_index::records::record_of` meets its contract: by the kind, whose section begins where the index says. Assumes
 -- nothing.
 use native.Mathlib.Omega.{arith}
-use borrow.Author.Rules.{rules}
 use Rattle.scene_index.proofs.Targets.{fluid_record_found, boundary_record_found}
 use Rattle.scene_index.proofs.records.record_of.Goals as goal
 
