@@ -3,11 +3,13 @@
 #![tactic(auto)]
 
 use iisph_print::print_from;
-use libc::STDIN_FILENO;
+use std::fs::File;
+use std::io;
 
-fn main() {
-    print_from(STDIN_FILENO);
-    let fd = os::open_read(b"longest");
-    print_from(fd);
-    libc::close(fd);
+fn main(rt: HostRuntime) -> io::Result<()> {
+    let mut input = rt.reader();
+    print_from(&rt, &mut input)?;
+    let mut longest = File::open(&rt, "longest")?;
+    print_from(&rt, &mut longest)?;
+    Ok(())
 }

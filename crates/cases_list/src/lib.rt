@@ -1,11 +1,14 @@
 // Reads a list of packed scenes, one after the other: of each its length in four bytes, the most significant first, and
-// its bytes. No contract can say what is read.
+// its bytes. No contract can say what is read. The only errors are those of a read.
 #![tactic(auto)]
 
-ghost use Rattle.std.specs.Prelude.{length};
+ghost use Rattle.std.specs.Prelude.{◌≡◌, length, IfOk};
 ghost use Rattle.cases_list.specs.Next.{Fits};
 
+use full_reads::read_full;
 use scene_format::read::be16;
+use std::io;
+use std::io::Read;
 
 // What comes next: a scene of so many bytes, or nothing, where the list ends, or where a scene is cut short or too long
 // to be kept.
@@ -16,27 +19,30 @@ pub enum Next {
 }
 
 // A scene of as many bytes as `scene` has.
-fn read_scene(fd: i32, scene: &mut [u8]) -> Next
-    ensures { Fits result (length scene.new) }
+fn read_scene<R: Read>(reader: &mut R, scene: &mut [u8]) -> io::Result<Next>
+    ensures { IfOk result (λ next. Fits next (length scene.new)) }
 {
     let n = scene.len();
-    if io::read_full(fd, scene) < n {
-        return Next::Nothing;
+    let got = read_full(reader, scene)?;
+    if got < n {
+        return Ok(Next::Nothing);
     }
-    Next::Scene(n)
+    Ok(Next::Scene(n))
 }
 
-// The next scene, in front of `room`.
-pub fn read_next(fd: i32, room: &mut [u8]) -> Next
-    ensures { Fits result (length room.new) }
+// The next scene, in front of `room`. After an error some of `room` may have been written.
+pub fn read_next<R: Read>(reader: &mut R, room: &mut [u8]) -> io::Result<Next>
+    ensures fits { IfOk result (λ next. Fits next (length room.new)) }
+    ensures same_length { length room.new ≡ length room.old }
 {
     let mut head = [0u8; 4];
-    if io::read_full(fd, &mut head) < 4 {
-        return Next::Nothing;
+    let got = read_full(reader, &mut head)?;
+    if got < 4 {
+        return Ok(Next::Nothing);
     }
     let n = be16(&head, 0) * 65536 + be16(&head, 2);
     if n > room.len() {
-        return Next::Nothing;
+        return Ok(Next::Nothing);
     }
-    read_scene(fd, &mut room[..n])
+    read_scene(reader, &mut room[..n])
 }

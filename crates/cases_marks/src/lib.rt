@@ -1,10 +1,10 @@
-// Lists that are full of a mark, to see whether a call has written to them.
+// Lists that are full of a mark, to see whether a call has written to them. The only errors are those of a write.
 #![tactic(auto)]
 
-ghost use Rattle.std.specs.Prelude.{◌≤◌, ◌≡◌, length};
+ghost use Rattle.std.specs.Prelude.{◌≤◌, ◌≡◌, length, IfOk};
 ghost use Rattle.cases_marks.specs.Marks.{other, others};
 
-use libc::STDOUT_FILENO;
+use std::io;
 
 pub const MARK: f64 = 1.5;
 
@@ -33,13 +33,13 @@ fn count_others(list: &[f64]) -> usize
     n
 }
 
-// Writes a line if an element is not the mark, and hands back how many are not.
-pub fn print_others(list: &[f64]) -> usize
-    ensures { result ≡ others list.now (length list.now) }
+// Writes a line if an element is not the mark, and hands back how many are not. After an error the line may be cut short.
+pub fn print_others(rt: &impl Print, list: &[f64]) -> io::Result<usize>
+    ensures { IfOk result (λ n. n ≡ others list.now (length list.now)) }
 {
     let n = count_others(list);
     if n > 0 {
-        io::write_all(STDOUT_FILENO, b"a list was written to\n");
+        println!(rt; "a list was written to")?;
     }
-    n
+    Ok(n)
 }

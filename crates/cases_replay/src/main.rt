@@ -3,8 +3,12 @@
 // does not have, the first line is that of the reading of the specification in checks/.
 #![tactic(auto)]
 
-fn main() {
-    let fd = os::open_read(b"scenes");
-    cases_texts::print_all(fd);
-    libc::close(fd);
+use cases_texts::print_all;
+use std::fs::File;
+use std::io;
+
+fn main(rt: HostRuntime) -> io::Result<()> {
+    let mut list = File::open(&rt, "scenes")?;
+    print_all(&rt, &mut list)?;
+    Ok(())
 }

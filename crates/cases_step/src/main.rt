@@ -2,8 +2,12 @@
 // checks/cases_step.py, which works them out from the rules.
 #![tactic(auto)]
 
-fn main() {
-    let fd = os::open_read(b"scenes");
-    cases_texts::print_all(fd);
-    libc::close(fd);
+use cases_texts::print_all;
+use std::fs::File;
+use std::io;
+
+fn main(rt: HostRuntime) -> io::Result<()> {
+    let mut list = File::open(&rt, "scenes")?;
+    print_all(&rt, &mut list)?;
+    Ok(())
 }

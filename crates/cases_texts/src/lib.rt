@@ -1,31 +1,34 @@
-// Writes the text of each packed scene of a list, one after the other.
+// Writes the text of each packed scene of a list, one after the other. The only errors are those of a read or a write.
 #![tactic(auto)]
 
-ghost use Rattle.std.specs.Prelude.{◌≤◌};
+ghost use Rattle.std.specs.Prelude.{◌≤◌, IfOk};
 ghost use Rattle.cases_list.specs.Next.{FromNext};
 ghost use Rattle.cases_texts.specs.Written.{room, written};
 
 use cases_list::{Next, read_next};
 use iisph_print::{INPUT_ROOM, print_text};
+use std::io;
+use std::io::Read;
 
 // Writes the text of the next scene and hands back its length, or 0 where there is none.
-fn print_next(fd: i32) -> usize
-    ensures { FromNext room written 0 result }
+fn print_next<R: Read>(rt: &impl Print, reader: &mut R) -> io::Result<usize>
+    ensures { IfOk result (FromNext room written 0) }
 {
     let mut scene = [0u8; INPUT_ROOM];
-    match read_next(fd, &mut scene) {
-        Next::Scene(n) => print_text(&scene[..n]),
-        Next::Nothing => 0,
+    match read_next(reader, &mut scene)? {
+        Next::Scene(n) => print_text(rt, &scene[..n]),
+        Next::Nothing => Ok(0),
     }
 }
 
-// Writes the texts of a list, of 65,536 scenes at most, and answers how many.
-pub fn print_all(fd: i32) -> usize
-    ensures { result ≤ 65536 }
+// Writes the texts of a list, of 65,536 scenes at most, and answers how many. After an error the texts of the scenes
+// before are written whole.
+pub fn print_all<R: Read>(rt: &impl Print, reader: &mut R) -> io::Result<usize>
+    ensures { IfOk result (λ scenes. scenes ≤ 65536) }
 {
     let mut scenes = 0;
-    while scenes < 65536 && print_next(fd) > 0 {
+    while scenes < 65536 && print_next(rt, reader)? > 0 {
         scenes += 1;
     }
-    scenes
+    Ok(scenes)
 }

@@ -1,6 +1,11 @@
 // Reads a packed scene from standard input and writes its text.
 #![tactic(auto)]
 
-fn main() {
-    iisph_print::print_from(libc::STDIN_FILENO);
+use iisph_print::print_from;
+use std::io;
+
+fn main(rt: HostRuntime) -> io::Result<()> {
+    let mut input = rt.reader();
+    print_from(&rt, &mut input)?;
+    Ok(())
 }

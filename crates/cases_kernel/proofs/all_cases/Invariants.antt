@@ -4,7 +4,7 @@ use borrow.Author.Rules.{rules}
 use Rattle.cases_kernel.proofs.all_cases.Given as goal
 
 abbrev pub invariant-loop-i : goal.invariant-loop-i
-invariant-loop-i l = l.i ≤ 94
+invariant-loop-i g l = l.i ≤ 94
 
 abbrev pub decreases-loop-i : goal.decreases-loop-i
-decreases-loop-i l = 94 - l.i
+decreases-loop-i g l = 94 - l.i

@@ -4,4 +4,4 @@ use borrow.Author.Rules.{rules}
 use Rattle.cases_kernel.proofs.print_answer.Goals as goal
 
 pub returns-in-Value : goal.returns-in-Value
-returns-in-Value c = rw c.in-Value.is c.print_bits.ensures
+returns-in-Value g c = rw c.in-Value.is c.print_bits.ensures

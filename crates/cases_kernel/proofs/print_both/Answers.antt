@@ -5,7 +5,7 @@ use Rattle.cases_kernel.proofs.print_both.Goals as goal
 
 pub returns : goal.returns
 unfolding shown
-returns c =
+returns g c =
     rw (
       c.print_kernel-s.ensures,
       c.scalar_apply_diff.ensures.answer,

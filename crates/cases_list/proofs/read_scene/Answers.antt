@@ -3,10 +3,10 @@ use borrow.Author.Rules.{rules}
 use Rattle.cases_list.specs.Next.{Fits}
 use Rattle.cases_list.proofs.read_scene.Goals as goal
 
-pub returns-then-read_full-n : goal.returns-then-read_full-n
+pub returns-then-got-n : goal.returns-then-got-n
 unfolding Fits
-returns-then-read_full-n c = tt
+returns-then-got-n g c = tt
 
 pub returns : goal.returns
 unfolding Fits
-returns c = search rules
+returns g c = search rules

@@ -1,6 +1,5 @@
 -- `cases_marks::count_others` meets its contract: after i turns the count is that of the first i elements, and at
 -- most i. Assumes nothing.
-use Prim.Native.Nat.{◌-◌, ◌≤◌}
 use mathlib.Core.Path.{◌≡◌, refl, ap, ◌∙◌}
 use native.Mathlib.Numerals.{add-one}
 use native.Mathlib.Omega.{arith}

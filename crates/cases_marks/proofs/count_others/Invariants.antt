@@ -1,11 +1,8 @@
 -- `cases_marks::count_others` meets its contract: after i turns the count is that of the first i elements, and at
 -- most i. Assumes nothing.
 use Prim.Native.Nat.{◌-◌, ◌≤◌}
-use mathlib.Core.Path.{◌≡◌, refl, ap, ◌∙◌}
-use native.Mathlib.Numerals.{add-one}
-use native.Mathlib.Omega.{arith}
+use mathlib.Core.Path.{◌≡◌}
 use lib.ListN.{length}
-use borrow.Author.Rules.{rules}
 use Rattle.cases_marks.specs.Marks.{others}
 use Rattle.cases_marks.proofs.count_others.Given as goal
 

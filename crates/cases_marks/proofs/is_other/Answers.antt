@@ -1,6 +1,5 @@
 -- `cases_marks::is_other` meets its contract: by the test. Assumes nothing.
 use native.Mathlib.Omega.{arith}
-use borrow.Author.Rules.{rules}
 use borrow.Author.Tests.{eq-eqb, ne_eqb}
 use Rattle.lists.specs.Lists.{choose}
 use Rattle.cases_marks.specs.Marks.{other}

@@ -1,10 +1,9 @@
 -- `cases_texts::print_all` meets its contract: the count stays at most 65,536, and what is left falls. Assumes nothing.
 use Prim.Native.Nat.{◌≤◌, ◌-◌}
-use borrow.Author.Rules.{rules}
 use Rattle.cases_texts.proofs.print_all.Given as goal
 
 abbrev pub invariant-loop-scenes : goal.invariant-loop-scenes
-invariant-loop-scenes l = l.scenes ≤ 65536
+invariant-loop-scenes g l = l.scenes ≤ 65536
 
 abbrev pub decreases-loop-scenes : goal.decreases-loop-scenes
-decreases-loop-scenes l = 65536 - l.scenes
+decreases-loop-scenes g l = 65536 - l.scenes

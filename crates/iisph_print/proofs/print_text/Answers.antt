@@ -13,10 +13,10 @@ long : (n : ℕ) → n ≤ length (replicate {A = ℕ} n 0)
 long n = omega (arith, length-replicate {A = ℕ} n 0)
 
 pub slice_bounds-write_all-end : goal.slice_bounds-write_all-end
-slice_bounds-write_all-end c =
+slice_bounds-write_all-end g c =
     let t = c.text-n.ensures in
     sym (length-take-le _ _ t.within)
 
 pub returns : goal.returns
-returns c = (text_in_front c.args.scene.now _ (long text_room)
+returns g c = (text_in_front c.args.scene.now _ (long text_room)
     c.text-n.ensures).0
