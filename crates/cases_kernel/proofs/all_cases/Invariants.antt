@@ -1,6 +1,5 @@
 -- `cases_kernel::all_cases` meets its contract: the count stays at most 94, and what is left falls. Assumes nothing.
 use Prim.Native.Nat.{◌≤◌, ◌-◌}
-use borrow.Author.Rules.{rules}
 use Rattle.cases_kernel.proofs.all_cases.Given as goal
 
 abbrev pub invariant-loop-i : goal.invariant-loop-i

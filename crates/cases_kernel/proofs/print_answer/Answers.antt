@@ -1,6 +1,5 @@
 -- `cases_kernel::print_answer` meets its contract: in each arm the answer is the arm's constructor, and the callee
 -- hands back what it shows. Assumes nothing.
-use borrow.Author.Rules.{rules}
 use Rattle.cases_kernel.proofs.print_answer.Goals as goal
 
 pub returns-in-Value : goal.returns-in-Value
