@@ -1,6 +1,7 @@
 -- `cases_clock::steps_from` meets its contract: no step changes a clock's step length. Assumes nothing.
 use mathlib.Core.Path.{◌≡◌, refl, ap, ◌∙◌}
 use borrow.Author.Rules.{rules}
+use Rattle.std.proofs.lemmas.Result.{IfOk-weaker}
 use Rattle.timestep_manager.specs.declared.Clock.{Clock}
 use Rattle.timestep_manager.specs.Clock.{advanced}
 use Rattle.iisph_rules.specs.declared.StepAnswer.{StepAnswer}
@@ -14,10 +15,13 @@ unfolding clock_after advanced
 length-kept (Done r) c = refl
 length-kept (Refused r) c = refl
 
-same : {c c' : Clock} → FromScene c c' → c'.total_step_size ≡ c.total_step_size
-same {c} s = ap (λ (x : Clock). x.total_step_size) s.clock ∙ length-kept _ c
+same : (c c' : Clock) → FromScene c c' → c'.total_step_size ≡ c.total_step_size
+same c c' s = ap (λ (x : Clock). x.total_step_size) s.clock ∙ length-kept _ c
 
 pub returns : goal.returns
-returns c =
-    same c.step_on.ensures ∙ same c.step_on-empty.ensures ∙ same c.step_on-crowd.ensures ∙ same
-    c.step_on-idle.ensures ∙ same c.step_on-b.ensures ∙ same c.step_on-a.ensures ∙ same c.step_on-cut.ensures
+returns g c =
+    let empty = c.in_ok-empty.empty in
+    let so_far : empty.total_step_size ≡ c.args.total_step_size =
+    same _ _ c.in_ok-empty.ensures ∙ same _ _ c.in_ok-crowd.ensures ∙ same _ _ c.in_ok-idle.ensures
+      ∙ same _ _ c.in_ok-b.ensures ∙ same _ _ c.in_ok-a.ensures ∙ same _ _ c.in_ok-cut.ensures in
+    IfOk-weaker c.step_on-7.result (FromScene empty) _ (λ clock s. same empty clock s ∙ so_far) c.step_on-7.ensures
