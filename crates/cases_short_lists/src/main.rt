@@ -4,54 +4,77 @@
 // are full of a mark before; refusal 8 leaves it, and a line tells if an element is another.
 #![tactic(auto)]
 
+ghost use Rattle.std.specs.Prelude.{ℕ, IfOk, OnErr};
 ghost use Rattle.cases_short_lists.specs.Printed.{Prints};
 
 use cases_marks::{MARK, print_others};
+use full_reads::read_full;
 use iisph_run::TEXT_ROOM;
-use libc::STDOUT_FILENO;
+use std::fs::File;
+use std::io;
 
-// Writes the text of a scene with these lists and hands back its length.
-fn print_run(scene: &[u8], answers: &mut [f64], work: &mut [f64]) -> usize
-    ensures { Prints scene.now answers.old work.old result answers.new
-        work.new }
+// Writes the text of a scene with these lists and hands back its length. After an error the lists are what the step
+// left, and the text may be cut short.
+fn print_run(
+    rt: &impl Print,
+    scene: &[u8],
+    answers: &mut [f64],
+    work: &mut [f64],
+) -> io::Result<usize>
+    ensures ok { IfOk result (λ n. Prints scene.now answers.old work.old n answers.new work.new) }
+    ensures err { OnErr result ((n : ℕ) × Prints scene.now answers.old work.old n answers.new work.new) }
 {
     let mut out = [0u8; TEXT_ROOM];
     let n = iisph_run::run(scene, answers, work, &mut out);
-    io::write_all(STDOUT_FILENO, &out[..n]);
-    n
+    rt.write_all(&out[..n])?;
+    Ok(n)
 }
 
 // Writes the text of a scene with these lists, and a line for each of them that is then not all marks; hands back the
-// text's length.
-fn print_short(scene: &[u8], answers: &mut [f64], work: &mut [f64]) -> usize
-    ensures { Prints scene.now answers.old work.old result answers.new
-        work.new }
+// text's length. After an error the lists are what the step left, and what is written may be cut short.
+fn print_short(
+    rt: &impl Print,
+    scene: &[u8],
+    answers: &mut [f64],
+    work: &mut [f64],
+) -> io::Result<usize>
+    ensures ok { IfOk result (λ n. Prints scene.now answers.old work.old n answers.new work.new) }
+    ensures err { OnErr result ((n : ℕ) × Prints scene.now answers.old work.old n answers.new work.new) }
 {
-    let n = print_run(scene, answers, work);
-    print_others(answers);
-    print_others(work);
-    n
+    let n = print_run(rt, scene, answers, work)?;
+    print_others(rt, answers)?;
+    print_others(rt, work)?;
+    Ok(n)
 }
 
-fn main() {
+fn main(rt: HostRuntime) -> io::Result<()> {
     let mut scene = [0u8; 186];
     let mut six_answers = [MARK; 6];
     let mut answers = [MARK; 7];
     let mut thirteen_work = [MARK; 13];
     let mut work = [MARK; 14];
-    let fd = os::open_read(b"scene");
-    let got = io::read_full(fd, &mut scene);
-    libc::close(fd);
-    print_short(&scene[..got], &mut six_answers, &mut work);
-    print_short(&scene[..got], &mut answers, &mut thirteen_work);
-    print_run(&scene[..got], &mut answers, &mut work);
+    let mut file = File::open(&rt, "scene")?;
+    let got = read_full(&mut file, &mut scene)?;
+    print_short(&rt, &scene[..got], &mut six_answers, &mut work)?;
+    print_short(&rt, &scene[..got], &mut answers, &mut thirteen_work)?;
+    print_run(&rt, &scene[..got], &mut answers, &mut work)?;
     let mut by_halves = [0u8; 186];
     let mut new_answers = [MARK; 7];
     let mut fourteen_work = [MARK; 14];
     let mut fifteen_work = [MARK; 15];
-    let other = os::open_read(b"by_halves");
-    let length = io::read_full(other, &mut by_halves);
-    libc::close(other);
-    print_short(&by_halves[..length], &mut new_answers, &mut fourteen_work);
-    print_run(&by_halves[..length], &mut new_answers, &mut fifteen_work);
+    let mut other = File::open(&rt, "by_halves")?;
+    let length = read_full(&mut other, &mut by_halves)?;
+    print_short(
+        &rt,
+        &by_halves[..length],
+        &mut new_answers,
+        &mut fourteen_work,
+    )?;
+    print_run(
+        &rt,
+        &by_halves[..length],
+        &mut new_answers,
+        &mut fifteen_work,
+    )?;
+    Ok(())
 }

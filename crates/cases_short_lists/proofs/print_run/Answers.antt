@@ -7,7 +7,7 @@ use native.Mathlib.Omega.{arith}
 use lib.ListN.{length, replicate, length-replicate}
 use lib.Seq.{length-take-le}
 use lib.Ieee.{Float}
-use borrow.Author.Rules.{rules}
+use Rattle.std.specs.Prelude.{Result, Ok, Err, OnErr}
 use borrow.Author.Tests.{le-ltb}
 use Rattle.lists.specs.Lists.{choose}
 use Rattle.iisph_text.specs.Run.{text_room, written, if_stepped, Runs}
@@ -29,9 +29,16 @@ prints {out = out} room r =
       work_then = rw t at r.work_then;
     }
 
+held : {T E P : Type 0} (r : Result T E) → P → OnErr r P
+held (Ok x) p = tt
+held (Err e) p = p
+
 pub slice_bounds-write_all-end : goal.slice_bounds-write_all-end
-slice_bounds-write_all-end c =
+slice_bounds-write_all-end g c =
     sym (length-take-le _ _ c.run-n.ensures.text.within)
 
-pub returns : goal.returns
-returns c = prints (long text_room) c.run-n.ensures
+pub returns-in_err-write_all-clause-err : goal.returns-in_err-write_all-clause-err
+returns-in_err-write_all-clause-err g c = held c.from_residual.result (_, prints (long text_room) c.run-n.ensures)
+
+pub returns-clause-ok : goal.returns-clause-ok
+returns-clause-ok g c = prints (long text_room) c.run-n.ensures
