@@ -1,10 +1,9 @@
 -- `cases_check::check_all` meets its contract: the count stays at most 4,096, and what is left falls. Assumes nothing.
 use Prim.Native.Nat.{◌≤◌, ◌-◌}
-use borrow.Author.Rules.{rules}
 use Rattle.cases_check.proofs.check_all.Given as goal
 
 abbrev pub invariant-loop-scenes : goal.invariant-loop-scenes
-invariant-loop-scenes l = l.scenes ≤ 4096
+invariant-loop-scenes g l = l.scenes ≤ 4096
 
 abbrev pub decreases-loop-scenes : goal.decreases-loop-scenes
-decreases-loop-scenes l = 4096 - l.scenes
+decreases-loop-scenes g l = 4096 - l.scenes

@@ -4,28 +4,25 @@ use Prim.Native.Nat.{ℕ, ◌≤◌}
 use mathlib.Core.Path.{sym, ap, ◌∙◌}
 use lib.ListN.{length, length-replicate}
 use lib.Seq.{length-take-le}
-use borrow.Author.Rules.{rules}
 use Rattle.cases_list.proofs.Fitting.{scene_fits, nothing_came, scene_came}
 use Rattle.cases_check.specs.Printed.{room, line_of}
 use Rattle.cases_check.specs.declared.Line.TheVariants.{Number}
 use Rattle.cases_check.proofs.check_next.Goals as goal
 
 pub slice_bounds-scene-end : goal.slice_bounds-scene-end
-slice_bounds-scene-end c =
-    let fits : c.in-Scene.n ≤ length c.read_next.new.room = scene_fits c.read_next.ensures c.in-Scene.is in
-    fits
+slice_bounds-scene-end g c = scene_fits c.in_ok-n.ensures.fits c.in-Scene.is
 
 pub slice_bounds-print_check-end : goal.slice_bounds-print_check-end
-slice_bounds-print_check-end c =
-    let fits : c.in-Scene.n ≤ length c.read_next.new.room = scene_fits c.read_next.ensures c.in-Scene.is in
+slice_bounds-print_check-end g c =
+    let fits : c.in-Scene.n ≤ length c.read_next.new.room = scene_fits c.in_ok-n.ensures.fits c.in-Scene.is in
     sym (length-take-le _ _ fits)
 
-pub returns-in-Scene : goal.returns-in-Scene
+pub returns-in_ok-print_check-in-Scene : goal.returns-in_ok-print_check-in-Scene
 unfolding line_of
-returns-in-Scene c =
-    let fits : c.in-Scene.n ≤ length c.read_next.new.room = scene_fits c.read_next.ensures c.in-Scene.is in
+returns-in_ok-print_check-in-Scene g c =
+    let fits : c.in-Scene.n ≤ length c.read_next.new.room = scene_fits c.in_ok-n.ensures.fits c.in-Scene.is in
     scene_came _ _ _ _ _ fits (c.read_next.auto.room ∙ length-replicate {A = ℕ} room 0)
-    (ap Number c.print_check.ensures)
+    (ap Number c.in_ok-print_check-in-Scene.ensures)
 
 pub returns-in-Nothing : goal.returns-in-Nothing
-returns-in-Nothing c = nothing_came _ _ _
+returns-in-Nothing g c = nothing_came _ _ _

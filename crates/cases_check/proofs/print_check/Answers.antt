@@ -1,10 +1,8 @@
 -- `cases_check::print_check` meets its contract: what is handed back is that of the check's verdict, which is the
 -- walk's. Assumes nothing.
 use mathlib.Core.Path.{ap, ◌∙◌}
-use borrow.Author.Rules.{rules}
 use Rattle.cases_check.specs.Printed.{printed}
 use Rattle.cases_check.proofs.print_check.Goals as goal
 
 pub returns : goal.returns
-returns c =
-    c.print_verdict-n.ensures ∙ ap printed c.check-answer.ensures.verdict
+returns g c = c.in_ok-n.ensures ∙ ap printed c.check-answer.ensures.verdict
