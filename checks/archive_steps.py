@@ -10,7 +10,7 @@ if the needed part of the work list is not all +0 after a step or refusal 9 or 1
 has changed a list otherwise. Scenes of up to 4,096 particles a fluid:
 
   checks/compare.py --only many --scenes 300 \\
-      --subject "checks/archive_steps.py target/staticlib/libiisph_c.a --any-length"
+      --subject "checks/archive_steps.py crates/iisph_c/out/libiisph_c.a --any-length"
 """
 import ctypes
 import pathlib

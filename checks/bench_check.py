@@ -2,8 +2,8 @@
 """Times the check of a packed scene of about 4.5 MB. A benchmark, not a test: it prints
 milliseconds and judges nothing.
 
-  checks/bench_check.py                  builds libiisph_c.a (rt staticlib iisph_c, which proves
-                                         what changed) and calls it
+  checks/bench_check.py                  builds libiisph_c.a (rt lib in crates/iisph_c, which
+                                         proves what changed) and calls it
   checks/bench_check.py BEFORE AFTER     calls two such archives in turn, and prints AFTER's times
                                          over BEFORE's
 
@@ -20,7 +20,8 @@ import tempfile
 import time
 
 ROOT = pathlib.Path(__file__).resolve().parent.parent
-BUILT = ROOT / "target" / "staticlib" / "libiisph_c.a"
+CRATE = ROOT / "crates" / "iisph_c"
+BUILT = CRATE / "out" / "libiisph_c.a"
 ROUNDS = 201
 SHORT_LIST = 108
 
@@ -35,7 +36,7 @@ def scene(particles=4096, contacts=30):
 
 
 def build():
-    subprocess.run(["rt", "staticlib", "iisph_c"], cwd=ROOT, check=True, stdout=subprocess.DEVNULL)
+    subprocess.run(["rt", "lib"], cwd=CRATE, check=True, stdout=subprocess.DEVNULL)
     return [BUILT]
 
 

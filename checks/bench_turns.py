@@ -5,7 +5,7 @@ not a test: it prints times and judges nothing, but that all archives give the s
 
   checks/bench_turns.py FIRST.a OTHER.a... --scenes FILE... [--rounds N]
 
-  FIRST.a, OTHER.a   archives that `rt staticlib iisph_c` made
+  FIRST.a, OTHER.a   archives that `rt lib` made in crates/iisph_c
   --scenes FILE...   packed scenes, such as `bench scenes FOLDER` writes (oracle/src/bin/bench)
   --rounds N         each archive steps each scene so many times (300), on one core
 

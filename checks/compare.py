@@ -17,7 +17,7 @@ checks/parts/step_rules.py, and the others against the Rust's step with as many 
                     then never `too long` to the oracle; checks/archive_steps.py is a subject that
                     steps them too
   --subject COMMAND the program to compare; it is run in a folder with the file `scenes` and prints
-                    the lines of all its scenes (target/bin/cases_step)
+                    the lines of all its scenes (crates/cases_step/out/cases_step)
   --reference       compare checks/parts/step_rules.py instead (of rules 1 to 3 then all but first
                     lines)
   --stdin           run the command once for each scene, which it reads from standard input, as the
@@ -193,7 +193,7 @@ def main():
         if not options.oracle.is_file():
             raise Stop("%s is not there: run oracle/prepare.py FOLDER, then cargo build --release --offline in oracle/"
                        % options.oracle)
-        default = ROOT / "target/bin/cases_step"
+        default = ROOT / "crates/cases_step/out/cases_step"
         options.command = command_of(options.subject) if options.subject is not None else None
         if options.kernel is not None:
             return kernel_run(options)
@@ -201,7 +201,8 @@ def main():
             options.command = [sys.executable, str(ROOT / "checks/reference.py")]
             options.command += ["--any-length"] * (options.only in LARGE)
         elif options.command is None and not default.is_file():
-            raise Stop("%s is not there: build it, or give --subject COMMAND or --reference" % default)
+            raise Stop("%s is not there: build it by rt run in crates/cases_step, or give --subject COMMAND or "
+                       "--reference" % default)
         options.command = options.command or [str(default)]
         return scenes_run(options)
     except (Stop, Failed) as e:

@@ -2,8 +2,8 @@
 """Counts the loads of the solver's inner loops in the built archive: each double of a contact is to
 be one 8-byte load and one byte swap.
 
-  checks/count_loads.py    builds libiisph_c.a (rt staticlib iisph_c), disassembles it with objdump
-                           and compares
+  checks/count_loads.py    builds libiisph_c.a (rt lib in crates/iisph_c), disassembles it with
+                           objdump and compares
 
 Per function: how many byte swaps there are, one for each double that is read from the packed scene,
 and how many single bytes are loaded at most (a contact's name and a model's count are two each; a
@@ -19,7 +19,8 @@ import subprocess
 import sys
 
 ROOT = pathlib.Path(__file__).resolve().parent.parent
-ARCHIVE = ROOT / "target" / "staticlib" / "libiisph_c.a"
+CRATE = ROOT / "crates" / "iisph_c"
+ARCHIVE = CRATE / "out" / "libiisph_c.a"
 
 # function, with the sums over contacts that are inlined in it: doubles read, single bytes loaded at most
 EXPECTED = {
@@ -46,7 +47,7 @@ def counted(text):
 
 def main():
     argparse.ArgumentParser(description=__doc__, formatter_class=argparse.RawDescriptionHelpFormatter).parse_args()
-    subprocess.run(["rt", "staticlib", "iisph_c"], cwd=ROOT, check=True, stdout=subprocess.DEVNULL)
+    subprocess.run(["rt", "lib"], cwd=CRATE, check=True, stdout=subprocess.DEVNULL)
     text = subprocess.run(["objdump", "-d", str(ARCHIVE)], check=True, capture_output=True, text=True).stdout
     swaps, singles = counted(text)
     wrong = 0

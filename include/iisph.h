@@ -1,11 +1,11 @@
 /* The C interface: one proved IISPH pressure step over a packed scene, and the smoothing kernel.
 
    Build and link (x86-64 Linux; the archive needs no other library):
-       rt staticlib iisph_c
-       gcc -Iinclude program.c target/staticlib/libiisph_c.a -o program
+       (cd crates/iisph_c && rt lib)
+       gcc -Iinclude program.c crates/iisph_c/out/libiisph_c.a -o program
    iisph_check_list and iisph_board_weight have an archive each, made and linked likewise:
-       rt staticlib iisph_c_lists
-       rt staticlib iisph_c_board
+       (cd crates/iisph_c_lists && rt lib)
+       (cd crates/iisph_c_board && rt lib)
 
    Every function is total: it takes any bytes, any numbers and any lengths, and ends. A list of n
    elements is passed as a pointer and n; the pointer may be null if n is 0, and is aligned for its

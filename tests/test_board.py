@@ -212,11 +212,12 @@ def archive():
     if folder is None:
         if not shutil.which("rt"):
             raise unittest.SkipTest(NO_ARCHIVE)
-        made = subprocess.run(["rt", "staticlib", "iisph_c_board"], cwd=ROOT, capture_output=True, text=True)
+        crate = ROOT / "crates/iisph_c_board"
+        made = subprocess.run(["rt", "lib"], cwd=crate, capture_output=True, text=True)
         if made.returncode:
-            raise AssertionError("`rt staticlib iisph_c_board` makes no archive; mend what it tells\n"
+            raise AssertionError("`rt lib` makes no archive in crates/iisph_c_board; mend what it tells\n"
                                  + made.stdout + made.stderr)
-        folder = ROOT / "target/staticlib"
+        folder = crate / "out"
     return pathlib.Path(folder).resolve() / "libiisph_c_board.a"
 
 

@@ -60,7 +60,7 @@ class Examples(unittest.TestCase):
             packed, notes = scene.pack((EXAMPLES / (name + ".json")).read_text())
             self.assertEqual((packed, len(notes)), (data, name == "lost-neighbour"))
             self.assertEqual(step_rules.lines(data), text)
-            if "IISPH" in os.environ:      # the built program: IISPH=target/bin/iisph python3 -m unittest
+            if "IISPH" in os.environ:      # the built program: IISPH=crates/iisph/out/iisph python3 -m unittest
                 done = subprocess.run([os.environ["IISPH"]], input=data, capture_output=True)
                 self.assertEqual(done.stdout.decode(), text)
 

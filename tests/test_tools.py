@@ -93,7 +93,7 @@ class Run(unittest.TestCase):
     def setUp(self):
         self.root = pathlib.Path(tempfile.mkdtemp())
         self.addCleanup(shutil.rmtree, self.root)
-        for folder in "tools", "kit", "plain", "crates", "target/bin":
+        for folder in "tools", "kit", "plain", "crates/iisph/out":
             (self.root / folder).mkdir(parents=True)
         shutil.copy(ROOT / "tools/run", self.root / "tools/run")
         # all that it needs before it looks for rt
@@ -101,8 +101,8 @@ class Run(unittest.TestCase):
         (self.root / "crates.txt").write_text("")
         (self.root / "scene.bin").write_bytes(b"the scene")
         self.script("kit/rt",
-                    "echo rt $*; [ ! -e fails ] || exit 1; printf '#!/bin/sh\\necho new; cat\\n"
-                    "' > target/bin/iisph; chmod +x target/bin/iisph")
+                    "echo rt $*; [ ! -e ../../fails ] || exit 1; printf '#!/bin/sh\\necho new; cat\\n"
+                    "' > out/iisph; chmod +x out/iisph")
 
     def script(self, name, text):
         (self.root / name).write_text("#!/bin/sh\n" + text + "\n")
@@ -115,9 +115,9 @@ class Run(unittest.TestCase):
         return done.returncode, done.stdout, done.stderr
 
     def test_an_old_program_is_never_run(self):
-        self.script("target/bin/iisph", "echo old")
+        self.script("crates/iisph/out/iisph", "echo old")
         self.assertEqual(self.ran("scene.bin"), (0, "new\nthe scene", ""))
-        self.assertEqual((self.root / "target/run.log").read_text(), "rt check iisph\n")
+        self.assertEqual((self.root / "target/run.log").read_text(), "rt run\n")
 
     def test_it_warns_of_an_average_that_is_not_a_number(self):
         for first, warning in (("step settled 2 0000000000000000 1", PASSED_OVER),
@@ -129,7 +129,7 @@ class Run(unittest.TestCase):
                                ("refused 7 1", None), ("too long", None)):
             text = first + "\nclock 1\nstep settled 1 0 1\n\n"
             (self.root / "scene.bin").write_text(text)
-            self.script("kit/rt", "printf '#!/bin/sh\\ncat; exit 3\\n' > target/bin/iisph; chmod +x target/bin/iisph")
+            self.script("kit/rt", "printf '#!/bin/sh\\ncat; exit 3\\n' > out/iisph; chmod +x out/iisph")
             status, out, err = self.ran("scene.bin")
             said = [line for line in err.splitlines() if "WARNING" in line]
             self.assertEqual((status, out, said), (3, text, ["tools/run: WARNING: " + warning] if warning else []))

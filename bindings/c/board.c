@@ -1,7 +1,8 @@
 /* The board's table and lookup, bindings/board, against the proved lookup of the archive: at every entry, and on every
    value of a uint32_t. Prints how many were compared, or the first difference. Takes some 7 seconds, without -flto 13.
+   mkdir -p target
    gcc -O2 -flto -Wall -Wextra -Iinclude -Ibindings/board bindings/c/board.c bindings/board/iisph_board.c \
-       target/staticlib/libiisph_c_board.a -o target/board && target/board */
+       crates/iisph_c_board/out/libiisph_c_board.a -o target/board && target/board */
 #include "iisph.h"
 #include "iisph_board.h"
 #include <inttypes.h>

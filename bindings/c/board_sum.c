@@ -1,5 +1,6 @@
 /* One number for all that bindings/board gives: its table, and its lookup at every q up to 2^20 and at some beyond. For
    machines that the archive is not for: compile it for the board, and hold what it prints to `tools/board.py sum`.
+   mkdir -p target
    gcc -std=c99 -Os -Ibindings/board bindings/c/board_sum.c bindings/board/iisph_board.c -o target/board_sum */
 #include "iisph_board.h"
 #include <inttypes.h>

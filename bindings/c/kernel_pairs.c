@@ -1,7 +1,8 @@
 /* For each line of standard input with a distance and a radius, 16 hex digits each: weight and slope,
    or the refusal; with --flat those of two dimensions. checks/compare.py holds it against the Rust,
    checks/shape_picture.py to the exact weight:
-     gcc -O2 -Wall -Wextra -Iinclude bindings/c/kernel_pairs.c target/staticlib/libiisph_c.a -o target/kernel_pairs
+     mkdir -p target
+     gcc -O2 -Wall -Wextra -Iinclude bindings/c/kernel_pairs.c crates/iisph_c/out/libiisph_c.a -o target/kernel_pairs
      checks/compare.py --kernel 10000 --subject target/kernel_pairs
      checks/compare.py --kernel 10000 --axes 2 --subject 'target/kernel_pairs --flat'
      checks/shape_picture.py --subject target/kernel_pairs */

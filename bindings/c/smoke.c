@@ -1,7 +1,9 @@
 /* Each function through the archives, on scene A of docs/FORMAT.md; the steps under all rules (endings.h, summation.h)
    and in the plane (flat.h); and the check of one contact list on a scene that has ten. Prints `ok`, or the line of the
    first difference.
-   gcc -O2 -Wall -Wextra -Iinclude bindings/c/smoke.c target/staticlib/libiisph_c*.a -o target/smoke && target/smoke */
+   mkdir -p target
+   gcc -O2 -Wall -Wextra -Iinclude bindings/c/smoke.c crates/iisph_c*/out/libiisph_c*.a -o target/smoke
+   target/smoke */
 #include "endings.h"
 #include "flat.h"
 #include "iisph.h"

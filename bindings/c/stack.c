@@ -1,7 +1,9 @@
 /* How many bytes of stack each function takes, the most under any rule, as a table over scenes of four sizes. Fails if
    a call is refused, or if the lent step takes 16 KiB or more. Each call has a stack of its own, painted before; it
    took what lies above the lowest byte that has changed.
-   gcc -O2 -Wall -Wextra -Iinclude bindings/c/stack.c target/staticlib/libiisph_c*.a -o target/stack && target/stack */
+   mkdir -p target
+   gcc -O2 -Wall -Wextra -Iinclude bindings/c/stack.c crates/iisph_c*/out/libiisph_c*.a -o target/stack
+   target/stack */
 #include "iisph.h"
 #include "packing.h"
 #include <stdio.h>

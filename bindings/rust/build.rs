@@ -1,5 +1,5 @@
-// Links the archives, from the folder that IISPH_ARCHIVE_DIR names or from the repository's
-// target/staticlib.
+// Links the archives, from the folder that IISPH_ARCHIVE_DIR names or from where `rt lib` makes them:
+// the folder out of each one's crate.
 use std::path::{Path, PathBuf};
 use std::{env, process};
 
@@ -10,7 +10,7 @@ fn link(folder: &Path, name: &str) {
     let archive = folder.join(format!("lib{name}.a"));
     let Ok(archive) = archive.canonicalize() else {
         eprintln!("There is no {}.", archive.display());
-        eprintln!("Run `rt staticlib {name}` in the repository,");
+        eprintln!("Run `rt lib` in the repository's folder crates/{name},");
         eprintln!("or set IISPH_ARCHIVE_DIR to the folder that has the archives.");
         process::exit(1);
     };
@@ -22,11 +22,9 @@ fn link(folder: &Path, name: &str) {
 fn main() {
     println!("cargo:rerun-if-env-changed=IISPH_ARCHIVE_DIR");
     let here = PathBuf::from(env::var_os("CARGO_MANIFEST_DIR").expect("cargo sets CARGO_MANIFEST_DIR"));
-    let folder = match env::var_os("IISPH_ARCHIVE_DIR") {
-        Some(folder) => PathBuf::from(folder),
-        None => here.join("../../target/staticlib"),
-    };
+    let given = env::var_os("IISPH_ARCHIVE_DIR").map(PathBuf::from);
     for name in ARCHIVES {
-        link(&folder, name);
+        let made = here.join("../../crates").join(name).join("out");
+        link(given.as_deref().unwrap_or(&made), name);
     }
 }

@@ -1,6 +1,6 @@
 //! Times our step and the Rust's on the same packed lattice scenes, in one process. Ours takes the
 //! packed scene, so it also checks and decodes it; the Rust's structures are filled before the clock
-//! starts. With libiisph_c.a built (`rt staticlib iisph_c`), in the folder oracle:
+//! starts. With libiisph_c.a built (`rt lib` in crates/iisph_c), in the folder oracle:
 //!   cargo run --release --offline --features bench,lent --bin bench -- \
 //!       [REPEATS [SIZES [ihmsen] [halves] [flat [solid]]]]
 //!
