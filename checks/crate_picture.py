@@ -42,6 +42,7 @@ def parsed(text):
         line = line.split("#")[0].strip()
         if line:
             crate, colon, others = (part.strip() for part in line.partition(":"))
+            crate = crate.removesuffix(" staticlib").rstrip()      # a static library
             if not colon or not crate.isidentifier():
                 raise Wrong("line %d: give a crate, a colon and what it builds on" % number)
             if crate in named:

@@ -65,9 +65,10 @@ class Table(InAFolder):
 
     def test_a_file_without_it(self):
         text = board.TABLE.read_text()
-        for wrong in ("", text.replace("    54,\n", ""), text.replace("    54,\n", "    54,\n    53,\n"),
-                      text.replace("    54,\n", "    -54,\n"), text.replace("u32; 1025", "u64; 1025"),
+        for wrong in ("", text.replace(" 54,", ""), text.replace(" 54,", " 54, 53,"),
+                      text.replace(" 54,", " -54,"), text.replace("u32; 1025", "u64; 1025"),
                       text.replace("];", ""), text.replace("pub const", "// pub const")):
+            self.assertNotEqual(wrong, text)
             (self.folder / "table.rt").write_text(wrong)
             with mock.patch.object(board, "TABLE", self.folder / "table.rt"):
                 for words in (["table"], ["weight", "1"], ["write", str(self.folder)]):

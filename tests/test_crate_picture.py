@@ -23,7 +23,7 @@ floor: ground io      # and the kit
 odd: late
 # ---- middle
 wall: floor ground
-roof: wall floor libc
+roof staticlib: wall floor libc
 # ---- high
 far: ground roof other
 late: ground

@@ -10,7 +10,8 @@ SOURCES = pathlib.Path(__file__).resolve().parent.parent / "crates/scene_check/s
 def source(name):
     """The code of a module: no comments, no contracts."""
     text = re.sub(r"//.*", "", (SOURCES / name).read_text(encoding="utf-8"))
-    return re.sub(r"(requires|ensures) \{.*?⌝ \}", "", text, flags=re.S)
+    clause = r"^ +(?:requires|ensures)\b.*?\}$(?=\n *(?:\{|requires|ensures))"
+    return re.sub(clause, "", text, flags=re.M | re.S)
 
 
 def imported(name):

@@ -45,8 +45,8 @@ class Shapes(unittest.TestCase):
             self.assertEqual(rise, shapes.exact_slope(q) + bend * e**2)      # a cubic's rise, over 2 e
 
     def test_rows_of_the_specification(self):
-        rows = re.findall(r"shape (weight|slope)Shape 0x([0-9A-F]{16}) (?:0x([0-9A-F]{16})|0)\n", ROWS.read_text())
-        self.assertEqual(len(rows), len(re.findall("shape (?:weight|slope)Shape 0x", ROWS.read_text())))
+        rows = re.findall(r"shape (weight|slope)_shape 0x([0-9A-F]{16}) (?:0x([0-9A-F]{16})|0)\n", ROWS.read_text())
+        self.assertEqual(len(rows), len(re.findall("shape (?:weight|slope)_shape 0x", ROWS.read_text())))
         self.assertGreaterEqual(len(rows), 8)
         for name, q, value in rows:
             found = shapes.computed(shapes.double(q))[("weight", "slope").index(name)]
