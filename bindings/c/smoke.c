@@ -2,7 +2,7 @@
    and in the plane (flat.h); and the check of one contact list on a scene that has ten. Prints `ok`, or the line of the
    first difference.
    mkdir -p target
-   gcc -O2 -Wall -Wextra -Iinclude bindings/c/smoke.c crates/iisph_c*/out/libiisph_c*.a -o target/smoke
+   gcc -O2 -Wall -Wextra -Iinclude bindings/c/smoke.c crates/iisph_c{,_lists,_board}/out/lib*.a -o target/smoke
    target/smoke */
 #include "endings.h"
 #include "flat.h"

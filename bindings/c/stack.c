@@ -2,7 +2,7 @@
    a call is refused, or if the lent step takes 16 KiB or more. Each call has a stack of its own, painted before; it
    took what lies above the lowest byte that has changed.
    mkdir -p target
-   gcc -O2 -Wall -Wextra -Iinclude bindings/c/stack.c crates/iisph_c*/out/libiisph_c*.a -o target/stack
+   gcc -O2 -Wall -Wextra -Iinclude bindings/c/stack.c crates/iisph_c{,_lists,_board}/out/lib*.a -o target/stack
    target/stack */
 #include "iisph.h"
 #include "packing.h"
