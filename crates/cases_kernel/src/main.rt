@@ -98,7 +98,12 @@ fn print_both(
 
 // Prints a line for an advance of the clock, and hands back the clock after it.
 fn print_clock(rt: &impl Print, step: f64, remaining: f64) -> io::Result<Clock>
-    ensures { IfOk result (λ after. after ≡ advanced (record { total_step_size = step; dt = bits 0; inv_dt = bits 0; remaining_time = remaining })) }
+    ensures { IfOk result (λ after. after ≡ advanced (record {
+      total_step_size = step;
+      dt = bits 0;
+      inv_dt = bits 0;
+      remaining_time = remaining;
+    })) }
 {
     let after = timestep_manager::advance(Clock {
         total_step_size: step,

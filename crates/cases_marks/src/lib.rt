@@ -33,7 +33,8 @@ fn count_others(list: &[f64]) -> usize
     n
 }
 
-// Writes a line if an element is not the mark, and hands back how many are not. After an error the line may be cut short.
+// Writes a line if an element is not the mark, and hands back how many are not. After an error the line may be cut
+// short.
 pub fn print_others(rt: &impl Print, list: &[f64]) -> io::Result<usize>
     ensures { IfOk result (λ n. n ≡ others list.now (length list.now)) }
 {

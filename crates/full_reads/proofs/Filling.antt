@@ -1,7 +1,8 @@
 -- A list that is filled from its front: what was read into the part from `done` on stands after what came before.
 -- Assumes nothing.
 use Rattle.std.specs.Prelude.{Option}
-use Rattle.std.proofs.Common.{◌≡◌, ℕ, ◌+◌, ◌≤◌, List, ◌++◌, length, take, drop, sym, ap, subst, ◌∙◌, arith, drop_at, length-take-le}
+use Rattle.std.proofs.Common.{◌≡◌, ℕ, ◌+◌, ◌≤◌, List, ◌++◌, length, take, drop}
+use Rattle.std.proofs.Common.{sym, ap, subst, ◌∙◌, arith, drop_at, length-take-le}
 use lib.Seq.{take-add, take-append-le}
 use borrow.Rule.Slice.PartMut.{put_mid, post_of}
 use Rattle.std.proofs.lemmas.Slice.{take-put_mid_below}
@@ -19,8 +20,8 @@ front_filled done room n list part within fits =
     ∙ take-append-le n part (post_of done room list) fits in
     ap (λ l. l ++ take n part) (sym front) ∙ ap (λ l. take done all ++ l) (sym after) ∙ sym (take-add done n all)
 
-pub consumes_more : (a b c : Option (List ℕ)) (done room n : ℕ) (list part : List ℕ) → done ≤ length list → n ≤ length part
-    → Consumes a b (take done list) → Consumes b c (take n part)
+pub consumes_more : (a b c : Option (List ℕ)) (done room n : ℕ) (list part : List ℕ)
+    → done ≤ length list → n ≤ length part → Consumes a b (take done list) → Consumes b c (take n part)
     → Consumes a c (take (done + n) (put_mid done room list part))
 consumes_more a b c done room n list part within fits before here =
     subst (Consumes a c) (front_filled done room n list part within fits) (Consumes-trans a b c _ _ before here)

@@ -8,8 +8,9 @@ use Rattle.cases_check.proofs.print_particle.Goals as goal
 pub returns-in-Passed : goal.returns-in-Passed
 unfolding particle_turn
 returns-in-Passed g c =
+    let first = c.in_ok-print_list-in-Fluid.ensures in
     rw c.in-Fluid.is
-    (IfOk-weaker c.print_list-in-Passed.result _ _ (λ turn is. both_turned c.in_ok-print_list-in-Fluid.ensures c.in-Passed.is is)
+    (IfOk-weaker c.print_list-in-Passed.result _ _ (λ turn is. both_turned first c.in-Passed.is is)
     c.print_list-in-Passed.ensures)
 
 pub returns-in-Absent : goal.returns-in-Absent

@@ -1,6 +1,5 @@
 -- `cases_clock::steps_from` meets its contract: no step changes a clock's step length. Assumes nothing.
 use mathlib.Core.Path.{◌≡◌, refl, ap, ◌∙◌}
-use borrow.Author.Rules.{rules}
 use Rattle.std.proofs.lemmas.Result.{IfOk-weaker}
 use Rattle.timestep_manager.specs.declared.Clock.{Clock}
 use Rattle.timestep_manager.specs.Clock.{advanced}
@@ -23,5 +22,5 @@ returns g c =
     let empty = c.in_ok-empty.empty in
     let so_far : empty.total_step_size ≡ c.args.total_step_size =
     same _ _ c.in_ok-empty.ensures ∙ same _ _ c.in_ok-crowd.ensures ∙ same _ _ c.in_ok-idle.ensures
-      ∙ same _ _ c.in_ok-b.ensures ∙ same _ _ c.in_ok-a.ensures ∙ same _ _ c.in_ok-cut.ensures in
+    ∙ same _ _ c.in_ok-b.ensures ∙ same _ _ c.in_ok-a.ensures ∙ same _ _ c.in_ok-cut.ensures in
     IfOk-weaker c.step_on-7.result (FromScene empty) _ (λ clock s. same empty clock s ∙ so_far) c.step_on-7.ensures

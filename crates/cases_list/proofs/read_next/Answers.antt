@@ -24,4 +24,5 @@ pub returns-clause-fits : goal.returns-clause-fits
 returns-clause-fits g c =
     let n = c.be16.result * 65536 + c.be16-2.result in
     let room = c.args.room.now in
-    IfOk-weaker c.read_scene.result _ _ (λ next. fits_whole next c.read_scene.new.scene (drop n room)) c.read_scene.ensures
+    IfOk-weaker c.read_scene.result _ _ (λ next. fits_whole next c.read_scene.new.scene (drop n room))
+    c.read_scene.ensures

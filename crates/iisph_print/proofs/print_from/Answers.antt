@@ -17,6 +17,6 @@ returns g c =
     let within : got ≤ length list = c.in_ok-got.ensures.within in
     record {
       written = IfOk-weaker c.print_text.result _ FromInput
-        (λ n is. record { input = list; room = room; came = got; within = within; is = is }) c.print_text.ensures;
+          (λ n is. record { input = list; room = room; came = got; within = within; is = is }) c.print_text.ensures;
       left = (take got list, omega (arith, length-take-le got list within), c.in_ok-got.ensures.came);
     }

@@ -6,7 +6,6 @@ use lib.ListN.{length, replicate, length-replicate}
 use lib.Seq.{length-take-le}
 use Rattle.iisph_text.specs.Run.{text_room}
 use Rattle.iisph_text.proofs.Ran.{text_in_front}
-use borrow.Author.Rules.{rules}
 use Rattle.iisph_print.proofs.print_text.Goals as goal
 
 long : (n : ℕ) → n ≤ length (replicate {A = ℕ} n 0)
