@@ -201,8 +201,8 @@ def main():
             options.command = [sys.executable, str(ROOT / "checks/reference.py")]
             options.command += ["--any-length"] * (options.only in LARGE)
         elif options.command is None and not default.is_file():
-            raise Stop("%s is not there: build it by rt run in crates/cases_step, or give --subject COMMAND or "
-                       "--reference" % default)
+            raise Stop("%s is not there: build it, or give --subject COMMAND or --reference; rt run in "
+                       "crates/cases_step builds it, and then tells that the file scenes is not there" % default)
         options.command = options.command or [str(default)]
         return scenes_run(options)
     except (Stop, Failed) as e:
