@@ -9,7 +9,8 @@ Per function: how many byte swaps there are, one for each double that is read fr
 and how many single bytes are loaded at most (a contact's name and a model's count are two each; a
 number of contacts is one).
 A change that breaks a read up shows as fewer swaps or more bytes, and so does a sum that is no
-longer inlined where it is called.
+longer inlined where it is called. What is expected was counted in an archive that an older kit
+built; a compiler that makes other loops of the same sums shows as well.
 """
 import argparse
 import collections
