@@ -3,7 +3,8 @@
 // lines come from checks/cases_check.py.
 #![tactic(auto)]
 
-ghost use Rattle.std.specs.Prelude.{◌≤◌, ◌≡◌, IfOk};
+ghost use Rattle.std.specs.Prelude.{◌+◌, ◌*◌, ◌≤◌, ◌≡◌, IfOk};
+ghost use Rattle.full_reads.specs.Given.{GivesAtMost};
 ghost use Rattle.cases_list.specs.Next.{FromNext};
 ghost use Rattle.scene_check.specs.Check.{verdict_of};
 ghost use Rattle.scene_check.specs.Walk.{checked};
@@ -167,7 +168,8 @@ const ROOM: usize = 32768;
 
 // Checks the next scene of a list.
 fn check_next<R: Read>(rt: &impl Print, reader: &mut R) -> io::Result<Line>
-    ensures { IfOk result (FromNext room line_of Line.Nothing) }
+    ensures next { IfOk result (FromNext room line_of Line.Nothing) }
+    ensures left { GivesAtMost (4 + room) (R.remaining reader.old) (R.remaining reader.new) }
 {
     let mut scene = [0u8; ROOM];
     match read_next(reader, &mut scene)? {
@@ -178,7 +180,8 @@ fn check_next<R: Read>(rt: &impl Print, reader: &mut R) -> io::Result<Line>
 
 // Checks the scenes of a list, 4,096 at most, and answers how many.
 fn check_all<R: Read>(rt: &impl Print, reader: &mut R) -> io::Result<usize>
-    ensures { IfOk result (λ scenes. scenes ≤ 4096) }
+    ensures scenes { IfOk result (λ scenes. scenes ≤ 4096) }
+    ensures left { GivesAtMost (4096 * (4 + room)) (R.remaining reader.old) (R.remaining reader.new) }
 {
     let mut scenes = 0;
     while scenes < 4096 {

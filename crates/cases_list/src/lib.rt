@@ -2,7 +2,8 @@
 // its bytes. No contract can say what is read. The only errors are those of a read.
 #![tactic(auto)]
 
-ghost use Rattle.std.specs.Prelude.{◌≡◌, length, IfOk};
+ghost use Rattle.std.specs.Prelude.{◌≡◌, ◌+◌, length, IfOk};
+ghost use Rattle.full_reads.specs.Given.{GivesAtMost};
 ghost use Rattle.cases_list.specs.Next.{Fits};
 
 use full_reads::read_full;
@@ -18,9 +19,10 @@ pub enum Next {
     Nothing,
 }
 
-// A scene of as many bytes as `scene` has.
+// A scene of as many bytes as `scene` has. After an error some of `scene` may have been written.
 fn read_scene<R: Read>(reader: &mut R, scene: &mut [u8]) -> io::Result<Next>
-    ensures { IfOk result (λ next. Fits next (length scene.new)) }
+    ensures fits { IfOk result (λ next. Fits next (length scene.new)) }
+    ensures left { GivesAtMost (length scene.old) (R.remaining reader.old) (R.remaining reader.new) }
 {
     let n = scene.len();
     let got = read_full(reader, scene)?;
@@ -34,6 +36,7 @@ fn read_scene<R: Read>(reader: &mut R, scene: &mut [u8]) -> io::Result<Next>
 pub fn read_next<R: Read>(reader: &mut R, room: &mut [u8]) -> io::Result<Next>
     ensures fits { IfOk result (λ next. Fits next (length room.new)) }
     ensures same_length { length room.new ≡ length room.old }
+    ensures left { GivesAtMost (4 + length room.old) (R.remaining reader.old) (R.remaining reader.new) }
 {
     let mut head = [0u8; 4];
     let got = read_full(reader, &mut head)?;

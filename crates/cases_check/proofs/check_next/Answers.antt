@@ -17,12 +17,12 @@ slice_bounds-print_check-end g c =
     let fits : c.in-Scene.n ≤ length c.read_next.new.room = scene_fits c.in_ok-n.ensures.fits c.in-Scene.is in
     sym (length-take-le _ _ fits)
 
-pub returns-in_ok-print_check-in-Scene : goal.returns-in_ok-print_check-in-Scene
+pub returns-in_ok-print_check-in-Scene-clause-next : goal.returns-in_ok-print_check-in-Scene-clause-next
 unfolding line_of
-returns-in_ok-print_check-in-Scene g c =
+returns-in_ok-print_check-in-Scene-clause-next g c =
     let fits : c.in-Scene.n ≤ length c.read_next.new.room = scene_fits c.in_ok-n.ensures.fits c.in-Scene.is in
     scene_came _ _ _ _ _ fits (c.read_next.auto.room ∙ length-replicate {A = ℕ} room 0)
     (ap Number c.in_ok-print_check-in-Scene.ensures)
 
-pub returns-in-Nothing : goal.returns-in-Nothing
-returns-in-Nothing g c = nothing_came _ _ _
+pub returns-in-Nothing-clause-next : goal.returns-in-Nothing-clause-next
+returns-in-Nothing-clause-next g c = nothing_came _ _ _

@@ -5,6 +5,8 @@ use mathlib.Core.Path.{sym, ◌∙◌}
 use lib.ListN.{length, length-replicate}
 use lib.Seq.{length-take-le}
 use Rattle.std.proofs.lemmas.Result.{IfOk-weaker}
+use Rattle.std.proofs.Common.{◌+◌, arith}
+use Rattle.full_reads.proofs.Given.{gives_within}
 use Rattle.cases_list.proofs.Fitting.{scene_fits, nothing_came, scene_came}
 use Rattle.cases_texts.specs.Written.{room}
 use Rattle.cases_texts.proofs.print_next.Goals as goal
@@ -17,11 +19,23 @@ slice_bounds-print_text-end g c =
     let fits : c.in-Scene.n ≤ length c.read_next.new.room = scene_fits c.in_ok-n.ensures.fits c.in-Scene.is in
     sym (length-take-le _ _ fits)
 
-pub returns-in-Scene : goal.returns-in-Scene
-returns-in-Scene g c =
+pub returns-in_err-n-clause-left : goal.returns-in_err-n-clause-left
+returns-in_err-n-clause-left g c =
+    gives_within _ _ _ (4 + room) c.in_err-n.ensures.left (omega (arith, length-replicate {A = ℕ} room 0))
+
+pub returns-in-Scene-clause-next : goal.returns-in-Scene-clause-next
+returns-in-Scene-clause-next g c =
     let fits : c.in-Scene.n ≤ length c.read_next.new.room = scene_fits c.in_ok-n.ensures.fits c.in-Scene.is in
     let long = c.read_next.auto.room ∙ length-replicate {A = ℕ} room 0 in
     IfOk-weaker c.print_text.result _ _ (λ n is. scene_came _ _ _ _ _ fits long is) c.print_text.ensures
 
-pub returns-in-Nothing : goal.returns-in-Nothing
-returns-in-Nothing g c = nothing_came _ _ _
+pub returns-in-Scene-clause-left : goal.returns-in-Scene-clause-left
+returns-in-Scene-clause-left g c =
+    gives_within _ _ _ (4 + room) c.in_ok-n.ensures.left (omega (arith, length-replicate {A = ℕ} room 0))
+
+pub returns-in-Nothing-clause-next : goal.returns-in-Nothing-clause-next
+returns-in-Nothing-clause-next g c = nothing_came _ _ _
+
+pub returns-in-Nothing-clause-left : goal.returns-in-Nothing-clause-left
+returns-in-Nothing-clause-left g c =
+    gives_within _ _ _ (4 + room) c.in_ok-n.ensures.left (omega (arith, length-replicate {A = ℕ} room 0))
