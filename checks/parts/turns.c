@@ -11,9 +11,10 @@
 enum { MOST = 16, NUMBERS = 4, COUNTS = 2, RAN_OUT = 2, SHORT_INDEX = 98 };
 
 typedef uint64_t needed_f(const uint8_t *, size_t, uint64_t *, size_t);
-typedef uint64_t step_f(const uint8_t *, size_t, double *, size_t, double *, size_t, double *, size_t, uint64_t *, size_t);
-typedef uint64_t lent_f(const uint8_t *, size_t, double *, size_t, double *, size_t, uint64_t *, size_t, double *, size_t,
+typedef uint64_t step_f(const uint8_t *, size_t, double *, size_t, double *, size_t, double *, size_t,
                         uint64_t *, size_t);
+typedef uint64_t lent_f(const uint8_t *, size_t, double *, size_t, double *, size_t, uint64_t *, size_t,
+                        double *, size_t, uint64_t *, size_t);
 
 struct library { needed_f *needed; step_f *step; lent_f *lent; };
 

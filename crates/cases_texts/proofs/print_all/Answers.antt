@@ -1,4 +1,5 @@
--- `cases_texts::print_all` meets its contract: each scene that is asked for adds at most what one takes. Assumes nothing.
+-- `cases_texts::print_all` meets its contract: each scene that is asked for adds at most what one takes.
+-- Assumes nothing.
 use Rattle.std.proofs.Common.{◌+◌, ◌*◌, arith}
 use Rattle.full_reads.proofs.Given.{gives_more}
 use Rattle.cases_texts.specs.Written.{room}

@@ -1,5 +1,5 @@
--- `cases_texts::print_all` meets its contract: the count stays at most 65,536, and what is left falls; of each scene the
--- reader gives what one asks at most. Assumes nothing.
+-- `cases_texts::print_all` meets its contract: the count stays at most 65,536, and what is left falls; of each scene
+-- the reader gives what one asks at most. Assumes nothing.
 use Prim.Native.Nat.{◌+◌, ◌*◌, ◌≤◌, ◌-◌}
 use Rattle.full_reads.specs.Given.{GivesAtMost}
 use Rattle.cases_texts.specs.Written.{room}
