@@ -3,19 +3,21 @@ use Rattle.std.specs.Prelude.{ℕ, List}
 use Rattle.scene_check.specs.Check.{verdict_of}
 use Rattle.scene_format.specs.Refusals.{number_of}
 use Rattle.scene_check.specs.Walk.{checked}
-use Rattle.scene_check.specs.declared.Verdict.{Verdict}
-use Rattle.scene_check.specs.declared.Verdict.TheVariants.{Accepted, Refused}
-use Rattle.cases_check.specs.declared.Line.{Line}
-use Rattle.cases_check.specs.declared.Line.TheVariants.{Number}
+use Rattle.scene_format.specs.declared.Refusal.{Refusal}
+use Rattle.scene_layout.specs.declared.Layout.{Layout}
+use Rattle.std.specs.declared.result.Result.{Result}
+use Rattle.std.specs.declared.result.Result.TheVariants.{Ok, Err}
+use Rattle.std.specs.declared.option.Option.{Option}
+use Rattle.std.specs.declared.option.Option.TheVariants.{Some}
 
-abbrev pub printed : Verdict → ℕ
-printed Accepted = 0
-printed (Refused r) = number_of r
+abbrev pub printed : Result Layout Refusal → ℕ
+printed (Ok layout) = 0
+printed (Err r) = number_of r
 
 -- the longest scene that is kept
 abbrev pub room : ℕ
 room = 32768
 
 -- the line of a scene
-unfoldable pub line_of : List ℕ → Line
-line_of b = Number (printed (verdict_of (checked b)))
+unfoldable pub line_of : List ℕ → Option ℕ
+line_of b = Some (printed (verdict_of b (checked b)))

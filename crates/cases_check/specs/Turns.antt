@@ -3,25 +3,25 @@ use Rattle.std.specs.Prelude.{ℕ, zero, suc, List}
 use Rattle.scene_format.specs.Format.{most_models, most_particles}
 use Rattle.scene_format.specs.declared.Kind.{Kind}
 use Rattle.scene_format.specs.declared.Kind.TheVariants.{Fluid, Boundary}
-use Rattle.scene_format.specs.declared.Walk.{Walk}
-use Rattle.scene_format.specs.declared.Walk.TheVariants as walk
+use Rattle.scene_format.specs.Refusals.{Walk}
 use Rattle.scene_lists.specs.Lists.{list_answer}
 use Rattle.scene_lists.specs.declared.Contacts.{Contacts}
 use Rattle.scene_lists.specs.declared.Contacts.TheVariants.{FluidFluid, FluidBoundary, BoundaryBoundary}
-use Rattle.scene_lists.specs.declared.ListAnswer.{ListAnswer}
-use Rattle.scene_lists.specs.declared.ListAnswer.TheVariants as answer
 use Rattle.cases_check.specs.declared.Turn.{Turn}
 use Rattle.cases_check.specs.declared.Turn.TheVariants.{Passed, Absent, Refused}
+use Rattle.scene_lists.specs.Lists.{ListAnswer}
+use Rattle.std.specs.declared.result.Result.TheVariants.{Ok, Err}
+use Rattle.std.specs.declared.option.Option.TheVariants.{Some, None}
 
 -- a list
 unfoldable pub walk_turn : Walk → Turn
-walk_turn (walk.At end) = Passed
-walk_turn (walk.Refused r) = Refused
+walk_turn (Ok end) = Passed
+walk_turn (Err r) = Refused
 
 unfoldable pub turn_of : ListAnswer → Turn
-turn_of (answer.Checked a) = walk_turn a.walk
-turn_of answer.NoList = Absent
-turn_of (answer.Refused r) = Refused
+turn_of (Ok (Some a)) = walk_turn a.walk
+turn_of (Ok None) = Absent
+turn_of (Err r) = Refused
 
 abbrev pub list_turn : List ℕ → Contacts → ℕ → ℕ → Turn
 list_turn b c m j = turn_of (list_answer b c m j)

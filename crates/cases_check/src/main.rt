@@ -3,7 +3,7 @@
 // lines come from checks/cases_check.py.
 #![tactic(auto)]
 
-ghost use Rattle.std.specs.Prelude.{◌+◌, ◌*◌, ◌≤◌, ◌≡◌, IfOk};
+ghost use Rattle.std.specs.Prelude.{◌+◌, ◌*◌, ◌≤◌, ◌≡◌, IfOk, None};
 ghost use Rattle.full_reads.specs.Given.{GivesAtMost};
 ghost use Rattle.cases_list.specs.Next.{FromNext};
 ghost use Rattle.scene_check.specs.Check.{verdict_of};
@@ -11,25 +11,25 @@ ghost use Rattle.scene_check.specs.Walk.{checked};
 ghost use Rattle.cases_check.specs.Printed.{printed, room, line_of};
 ghost use Rattle.cases_check.specs.Turns.{list_turn, particle_turn, model_turn, kind_turn, scene_turn};
 
-use cases_list::{Next, read_next};
-use scene_check::Verdict;
+use cases_list::read_next;
 use scene_format::format::{MAX_MODELS, MAX_PARTICLES};
-use scene_format::{Kind, Walk};
-use scene_lists::{Contacts, ListAnswer, check_list};
+use scene_format::{Kind, Refusal};
+use scene_layout::Layout;
+use scene_lists::{Contacts, check_list};
 use std::fs::File;
 use std::io;
 use std::io::Read;
 
 // Prints "accepted", or a refusal's number and place, and hands back the number, 0 for "accepted".
-fn print_verdict(rt: &impl Print, verdict: Verdict) -> io::Result<usize>
+fn print_verdict(rt: &impl Print, verdict: Result<Layout, Refusal>) -> io::Result<usize>
     ensures { IfOk result (λ n. n ≡ printed verdict) }
 {
     match verdict {
-        Verdict::Accepted => {
+        Ok(_) => {
             print!(rt; "accepted")?;
             Ok(0)
         }
-        Verdict::Refused(refusal) => {
+        Err(refusal) => {
             let n = scene_format::number(refusal);
             let place = scene_format::place(refusal);
             print!(rt; "{n} {place}")?;
@@ -57,17 +57,16 @@ fn print_list(
     ensures { IfOk result (λ turn. turn ≡ list_turn scene.now contacts model particle) }
 {
     match check_list(scene, contacts, model, particle) {
-        ListAnswer::Checked(looked) => {
-            let walk = looked.walk;
+        Ok(Some(looked)) => {
             let looks = looked.looks;
             print!(rt; " {looks}")?;
-            match walk {
-                Walk::At(_) => Ok(Turn::Passed),
-                Walk::Refused(_) => Ok(Turn::Refused),
+            match looked.walk {
+                Ok(_) => Ok(Turn::Passed),
+                Err(_) => Ok(Turn::Refused),
             }
         }
-        ListAnswer::NoList => Ok(Turn::Absent),
-        ListAnswer::Refused(_) => Ok(Turn::Refused),
+        Ok(None) => Ok(Turn::Absent),
+        Err(_) => Ok(Turn::Refused),
     }
 }
 
@@ -97,18 +96,12 @@ fn print_particle(
 fn print_model(rt: &impl Print, scene: &[u8], kind: Kind, model: usize) -> io::Result<Turn>
     ensures { IfOk result (λ turn. turn ≡ model_turn kind scene.now model) }
 {
-    let mut j = 0;
-    while j < MAX_PARTICLES {
+    for j in 0..MAX_PARTICLES {
         match print_particle(rt, scene, kind, model, j)? {
             Turn::Passed => {}
-            Turn::Absent => {
-                return Ok(Turn::Passed);
-            }
-            Turn::Refused => {
-                return Ok(Turn::Refused);
-            }
+            Turn::Absent => return Ok(Turn::Passed),
+            Turn::Refused => return Ok(Turn::Refused),
         }
-        j += 1;
     }
     Ok(Turn::Passed)
 }
@@ -117,18 +110,12 @@ fn print_model(rt: &impl Print, scene: &[u8], kind: Kind, model: usize) -> io::R
 fn print_kind(rt: &impl Print, scene: &[u8], kind: Kind) -> io::Result<Turn>
     ensures { IfOk result (λ turn. turn ≡ kind_turn kind scene.now) }
 {
-    let mut m = 0;
-    while m < MAX_MODELS {
+    for m in 0..MAX_MODELS {
         match print_model(rt, scene, kind, m)? {
             Turn::Passed => {}
-            Turn::Absent => {
-                return Ok(Turn::Passed);
-            }
-            Turn::Refused => {
-                return Ok(Turn::Refused);
-            }
+            Turn::Absent => return Ok(Turn::Passed),
+            Turn::Refused => return Ok(Turn::Refused),
         }
-        m += 1;
     }
     Ok(Turn::Passed)
 }
@@ -146,52 +133,43 @@ fn print_looks(rt: &impl Print, scene: &[u8]) -> io::Result<Turn>
 
 // Checks a packed scene, prints its line, and hands back the verdict's number.
 fn print_check(rt: &impl Print, s: &[u8]) -> io::Result<usize>
-    ensures { IfOk result (λ n. n ≡ printed (verdict_of (checked s.now))) }
+    ensures { IfOk result (λ n. n ≡ printed (verdict_of s.now (checked s.now))) }
 {
-    let answer = scene_check::check(s);
-    let verdict = answer.verdict;
-    let n = print_verdict(rt, verdict)?;
+    let n = print_verdict(rt, scene_check::check(s))?;
     print_looks(rt, s)?;
     println!(rt)?;
     Ok(n)
-}
-
-// What comes of the next scene: no line, or one with this number first.
-#[derive(Clone, Copy)]
-enum Line {
-    Nothing,
-    Number(usize),
 }
 
 // The longest scene that is kept.
 const ROOM: usize = 32768;
 
 // Checks the next scene of a list.
-fn check_next<R: Read>(rt: &impl Print, reader: &mut R) -> io::Result<Line>
-    ensures next { IfOk result (FromNext room line_of Line.Nothing) }
+fn check_next<R: Read>(rt: &impl Print, reader: &mut R) -> io::Result<Option<usize>>
+    ensures next { IfOk result (FromNext room line_of None) }
     ensures left { GivesAtMost (4 + room) (R.remaining reader.old) (R.remaining reader.new) }
 {
     let mut scene = [0u8; ROOM];
     match read_next(reader, &mut scene)? {
-        Next::Scene(n) => Ok(Line::Number(print_check(rt, &scene[..n])?)),
-        Next::Nothing => Ok(Line::Nothing),
+        Some(n) => Ok(Some(print_check(rt, &scene[..n])?)),
+        None => Ok(None),
     }
 }
+
+// How many scenes of a list are checked at most.
+const MOST_SCENES: usize = 4096;
 
 // Checks the scenes of a list, 4,096 at most, and answers how many.
 fn check_all<R: Read>(rt: &impl Print, reader: &mut R) -> io::Result<usize>
     ensures scenes { IfOk result (λ scenes. scenes ≤ 4096) }
     ensures left { GivesAtMost (4096 * (4 + room)) (R.remaining reader.old) (R.remaining reader.new) }
 {
-    let mut scenes = 0;
-    while scenes < 4096 {
-        let line = check_next(rt, reader)?;
-        let Line::Number(_) = line else {
+    for scenes in 0..MOST_SCENES {
+        let Some(_) = check_next(rt, reader)? else {
             return Ok(scenes);
         };
-        scenes += 1;
     }
-    Ok(scenes)
+    Ok(MOST_SCENES)
 }
 
 fn main(rt: HostRuntime) -> io::Result<()> {

@@ -18,13 +18,13 @@ const ANSWERS: usize = 14;
 
 const WORK: usize = 28;
 
-// A step with a clock that is kept here and lent to it: the clock as the step leaves it.
+// A step with a clock that is kept here and lent to it: the clock as the step leaves it, which tells a refusal too.
 fn step_lending(scene: &[u8], clock: Clock, answers: &mut [f64], work: &mut [f64]) -> Clock
     ensures { Keeps scene.now clock answers.old work.old result answers.new
         work.new }
 {
     let mut kept = clock;
-    step_keeping(scene, &mut kept, answers, work);
+    let _ = step_keeping(scene, &mut kept, answers, work);
     kept
 }
 

@@ -4,13 +4,14 @@ use Rattle.math.specs.Real.{bits_of}
 use Rattle.cubic_spline.specs.Shape.{weight, slope}
 use Rattle.cubic_spline.specs.Answer.{number, kernel_answer}
 use Rattle.cubic_spline.specs.declared.Dimension.{Dimension}
-use Rattle.cubic_spline.specs.declared.KernelAnswer.{KernelAnswer}
-use Rattle.cubic_spline.specs.declared.KernelAnswer.TheVariants.{Value, Refused}
+use Rattle.cubic_spline.specs.declared.KernelRefusal.{KernelRefusal}
+use Rattle.std.specs.declared.result.Result.{Result}
+use Rattle.std.specs.declared.result.Result.TheVariants.{Ok, Err}
 use Rattle.cases_kernel.specs.declared.Shown.{Shown}
 
-abbrev pub printed : KernelAnswer → ℕ
-printed (Value x) = bits_of x
-printed (Refused f) = number f
+abbrev pub printed : Result Float KernelRefusal → ℕ
+printed (Ok x) = bits_of x
+printed (Err f) = number f
 
 unfoldable pub shown : Dimension → Float → Float → Shown
 shown d r h =

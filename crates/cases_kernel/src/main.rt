@@ -10,7 +10,7 @@ ghost use Rattle.cubic_spline.specs.Answer.{number};
 ghost use Rattle.timestep_manager.specs.Clock.{advanced};
 ghost use Rattle.cases_kernel.specs.Printed.{printed, shown};
 
-use cubic_spline::{Dimension, KernelAnswer, KernelRefusal};
+use cubic_spline::{Dimension, KernelRefusal};
 use std::io;
 use timestep_manager::Clock;
 
@@ -33,12 +33,12 @@ fn number_of(f: KernelRefusal) -> u64
 }
 
 // Prints what a line shows of a kernel's answer, a value's bits or a refusal's number, and hands it back.
-fn print_answer(rt: &impl Print, a: KernelAnswer) -> io::Result<u64>
+fn print_answer(rt: &impl Print, a: Result<f64, KernelRefusal>) -> io::Result<u64>
     ensures { IfOk result (λ n. n ≡ printed a) }
 {
     match a {
-        KernelAnswer::Value(x) => print_bits(rt, x),
-        KernelAnswer::Refused(f) => {
+        Ok(x) => print_bits(rt, x),
+        Err(f) => {
             let n = number_of(f);
             print!(rt; " refused {n}")?;
             Ok(n)
@@ -47,7 +47,13 @@ fn print_answer(rt: &impl Print, a: KernelAnswer) -> io::Result<u64>
 }
 
 // Prints a line for a call of the kernel, and hands back what it shows of the answer.
-fn print_kernel(rt: &impl Print, name: &[u8], r: f64, h: f64, a: KernelAnswer) -> io::Result<u64>
+fn print_kernel(
+    rt: &impl Print,
+    name: &[u8],
+    r: f64,
+    h: f64,
+    a: Result<f64, KernelRefusal>,
+) -> io::Result<u64>
     ensures { IfOk result (λ n. n ≡ printed a) }
 {
     rt.write_all(name)?;
@@ -140,17 +146,15 @@ fn print_case(rt: &impl Print, i: usize, first: f64, second: f64) -> io::Result<
 fn all_cases(rt: &impl Print) -> io::Result<usize>
     ensures { IfOk result (λ n. n ≡ 94) }
 {
-    let mut i = 0;
-    while i < cases::IN_ALL {
+    for i in 0..cases::IN_ALL {
         print_case(
             rt,
             i,
             math::from_bits(cases::FIRST[i]),
             math::from_bits(cases::SECOND[i]),
         )?;
-        i += 1;
     }
-    Ok(i)
+    Ok(cases::IN_ALL)
 }
 
 fn main(rt: HostRuntime) -> io::Result<()> {

@@ -9,15 +9,15 @@ use lib.ListN.{length, take, length-append}
 use lib.Seq.{length-take-le}
 use Rattle.lists.specs.Lists.{choose}
 use Rattle.cases_list.specs.Next.{Fits, FromNext}
-use Rattle.cases_list.specs.declared.Next.{Next}
-use Rattle.cases_list.specs.declared.Next.TheVariants.{Scene, Nothing}
+use Rattle.std.specs.declared.option.Option.{Option}
+use Rattle.std.specs.declared.option.Option.TheVariants.{Some, None}
 
-pub fits_whole : (r : Next) (front rest : List ℕ) → Fits r (length front) → Fits r (length (front ++ rest))
+pub fits_whole : (r : Option ℕ) (front rest : List ℕ) → Fits r (length front) → Fits r (length (front ++ rest))
 unfolding Fits
-fits_whole (Scene n) front rest h = omega (arith, h, length-append front rest)
-fits_whole Nothing front rest h = tt
+fits_whole (Some n) front rest h = omega (arith, h, length-append front rest)
+fits_whole None front rest h = tt
 
-pub scene_fits : {r : Next} {n room : ℕ} → Fits r room → r ≡ Scene n → n ≤ room
+pub scene_fits : {r : Option ℕ} {n room : ℕ} → Fits r room → r ≡ Some n → n ≤ room
 unfolding Fits
 scene_fits f q = rw q at f
 

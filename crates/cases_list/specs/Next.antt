@@ -1,13 +1,13 @@
 -- What is known of a scene that was read, and of what is made of it. Definitions only.
 use Rattle.std.specs.Prelude.{ℕ, ◌≤◌, ◌≡◌, Bool, List, length}
 use Rattle.lists.specs.Lists.{choose}
-use Rattle.cases_list.specs.declared.Next.{Next}
-use Rattle.cases_list.specs.declared.Next.TheVariants.{Scene, Nothing}
+use Rattle.std.specs.declared.option.Option.{Option}
+use Rattle.std.specs.declared.option.Option.TheVariants.{Some, None}
 
 -- it is not longer than its room
-unfoldable pub Fits : Next → ℕ → Type 0
-Fits (Scene n) room = n ≤ room
-Fits Nothing room = Unit
+unfoldable pub Fits : Option ℕ → ℕ → Type 0
+Fits (Some n) room = n ≤ room
+Fits None room = Unit
 
 -- r is what f makes of a scene that came, or `none` where none did; which scene, is not known
 pub record FromNext {A : Type 0} (room : ℕ) (f : List ℕ → A) (none r : A) : Type 0 where

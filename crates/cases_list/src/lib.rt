@@ -11,29 +11,21 @@ use scene_format::read::be16;
 use std::io;
 use std::io::Read;
 
-// What comes next: a scene of so many bytes, or nothing, where the list ends, or where a scene is cut short or too long
-// to be kept.
-#[derive(Clone, Copy)]
-pub enum Next {
-    Scene(usize),
-    Nothing,
-}
-
 // A scene of as many bytes as `scene` has. After an error some of `scene` may have been written.
-fn read_scene<R: Read>(reader: &mut R, scene: &mut [u8]) -> io::Result<Next>
+fn read_scene<R: Read>(reader: &mut R, scene: &mut [u8]) -> io::Result<Option<usize>>
     ensures fits { IfOk result (λ next. Fits next (length scene.new)) }
     ensures left { GivesAtMost (length scene.old) (R.remaining reader.old) (R.remaining reader.new) }
 {
     let n = scene.len();
     let got = read_full(reader, scene)?;
     if got < n {
-        return Ok(Next::Nothing);
+        return Ok(None);
     }
-    Ok(Next::Scene(n))
+    Ok(Some(n))
 }
 
 // The next scene, in front of `room`. After an error some of `room` may have been written.
-pub fn read_next<R: Read>(reader: &mut R, room: &mut [u8]) -> io::Result<Next>
+pub fn read_next<R: Read>(reader: &mut R, room: &mut [u8]) -> io::Result<Option<usize>>
     ensures fits { IfOk result (λ next. Fits next (length room.new)) }
     ensures same_length { length room.new ≡ length room.old }
     ensures left { GivesAtMost (4 + length room.old) (R.remaining reader.old) (R.remaining reader.new) }
@@ -41,11 +33,11 @@ pub fn read_next<R: Read>(reader: &mut R, room: &mut [u8]) -> io::Result<Next>
     let mut head = [0u8; 4];
     let got = read_full(reader, &mut head)?;
     if got < 4 {
-        return Ok(Next::Nothing);
+        return Ok(None);
     }
     let n = be16(&head, 0) * 65536 + be16(&head, 2);
     if n > room.len() {
-        return Ok(Next::Nothing);
+        return Ok(None);
     }
     read_scene(reader, &mut room[..n])
 }

@@ -1,8 +1,8 @@
 // Lists that are full of a mark, to see whether a call has written to them. The only errors are those of a write.
 #![tactic(auto)]
 
-ghost use Rattle.std.specs.Prelude.{◌≤◌, ◌≡◌, length, IfOk};
-ghost use Rattle.cases_marks.specs.Marks.{other, others};
+ghost use Rattle.std.specs.Prelude.{◌≡◌, length, IfOk};
+ghost use Rattle.cases_marks.specs.Marks.{others};
 
 use std::io;
 
@@ -10,27 +10,13 @@ pub const MARK: f64 = 1.5;
 
 const MARK_BITS: u64 = 0x3ff8_0000_0000_0000;
 
-// 0 for the mark, else 1.
-fn is_other(x: f64) -> usize
-    ensures { (result ≡ other x) × (result ≤ 1) }
-{
-    if math::to_bits(x) == MARK_BITS {
-        return 0;
-    }
-    1
-}
-
 // How many elements are not the mark.
 fn count_others(list: &[f64]) -> usize
     ensures { result ≡ others list.now (length list.now) }
 {
-    let mut n = 0;
-    let mut i = 0;
-    while i < list.len() {
-        n += is_other(list[i]);
-        i += 1;
-    }
-    n
+    list.iter()
+        .filter(|x| math::to_bits(**x) != MARK_BITS)
+        .count()
 }
 
 // Writes a line if an element is not the mark, and hands back how many are not. After an error the line may be cut

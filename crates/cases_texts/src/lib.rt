@@ -6,7 +6,7 @@ ghost use Rattle.full_reads.specs.Given.{GivesAtMost};
 ghost use Rattle.cases_list.specs.Next.{FromNext};
 ghost use Rattle.cases_texts.specs.Written.{room, written};
 
-use cases_list::{Next, read_next};
+use cases_list::read_next;
 use iisph_print::{INPUT_ROOM, print_text};
 use std::io;
 use std::io::Read;
@@ -18,10 +18,13 @@ fn print_next<R: Read>(rt: &impl Print, reader: &mut R) -> io::Result<usize>
 {
     let mut scene = [0u8; INPUT_ROOM];
     match read_next(reader, &mut scene)? {
-        Next::Scene(n) => print_text(rt, &scene[..n]),
-        Next::Nothing => Ok(0),
+        Some(n) => print_text(rt, &scene[..n]),
+        None => Ok(0),
     }
 }
+
+// How many scenes of a list have their texts written at most.
+const MOST_SCENES: usize = 65536;
 
 // Writes the texts of a list, of 65,536 scenes at most, and answers how many. After an error the texts of the scenes
 // before are written whole.
@@ -29,9 +32,10 @@ pub fn print_all<R: Read>(rt: &impl Print, reader: &mut R) -> io::Result<usize>
     ensures scenes { IfOk result (λ scenes. scenes ≤ 65536) }
     ensures left { GivesAtMost (65536 * (4 + room)) (R.remaining reader.old) (R.remaining reader.new) }
 {
-    let mut scenes = 0;
-    while scenes < 65536 && print_next(rt, reader)? > 0 {
-        scenes += 1;
+    for scenes in 0..MOST_SCENES {
+        if print_next(rt, reader)? == 0 {
+            return Ok(scenes);
+        }
     }
-    Ok(scenes)
+    Ok(MOST_SCENES)
 }

@@ -4,7 +4,8 @@ use mathlib.Core.Bool.{Bool, true, false}
 use lib.Ieee.{Float}
 use Rattle.cubic_spline.specs.Shape.{is_distance, is_radius}
 use Rattle.cubic_spline.specs.Answer.{number_of, refusal, kernel_answer, KernelPromise}
-use Rattle.cubic_spline.specs.declared.KernelAnswer.{KernelAnswer}
+use Rattle.std.specs.declared.result.Result.{Result}
+use Rattle.cubic_spline.specs.declared.KernelRefusal.{KernelRefusal}
 
 numbered : (r h x : Float) → number_of (kernel_answer r h x) ≡ refusal r h
 unfolding kernel_answer refusal
@@ -16,5 +17,5 @@ numbered r h x = go (is_distance r) (is_radius h) refl refl
     go true false e f = simp (e, f)
     go true true e f = simp (e, f)
 
-pub kernel_promise : (r h x : Float) (a : KernelAnswer) → a ≡ kernel_answer r h x → KernelPromise r h x a
+pub kernel_promise : (r h x : Float) (a : Result Float KernelRefusal) → a ≡ kernel_answer r h x → KernelPromise r h x a
 kernel_promise r h x a e = record { answer = e; numbered = ap number_of e ∙ numbered r h x }

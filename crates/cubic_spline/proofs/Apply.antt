@@ -27,8 +27,9 @@ use Rattle.cubic_spline.specs.Answer.{kernel_answer, KernelPromise}
 use Rattle.cubic_spline.specs.Apply.{least_radius, cube, AppliedNear, ApplyPromise}
 use Rattle.cubic_spline.specs.declared.Dimension.{Dimension}
 use Rattle.cubic_spline.specs.declared.Dimension.TheVariants.{Two, Three}
-use Rattle.cubic_spline.specs.declared.KernelAnswer.{KernelAnswer}
-use Rattle.cubic_spline.specs.declared.KernelAnswer.TheVariants.{Value}
+use Rattle.std.specs.declared.result.Result.{Result}
+use Rattle.cubic_spline.specs.declared.KernelRefusal.{KernelRefusal}
+use Rattle.std.specs.declared.result.Result.TheVariants.{Ok}
 use Rattle.cubic_spline.proofs.Bounds.{scale}
 use Rattle.cubic_spline.proofs.Quotient.{ShapeAt, quotient-shape, minus_zero-shape}
 use Rattle.cubic_spline.proofs.Normal.{Normal, reach, normalizer_normal, normalizer_finite}
@@ -76,7 +77,7 @@ weight_near {h} d H B f =
 
 -- ---- what `scalar_apply` promises
 
-taken_answer : (r h x : Float) → is_distance r ≡ true → is_radius h ≡ true → kernel_answer r h x ≡ Value x
+taken_answer : (r h x : Float) → is_distance r ≡ true → is_radius h ≡ true → kernel_answer r h x ≡ Ok x
 unfolding kernel_answer
 taken_answer r h x e f = rw (e, f)
 
@@ -112,8 +113,8 @@ from_least d h H l =
     let t = le_is (least_radius d) h k unit (count h) unit (lit< tt) (lit< tt) L (value_of H) in
     le_of_mul-le-mul_right (leb-true (k * unit) (count h * unit) (sym t ∙ is_true (le (least_radius d) h) l)) (lit< tt)
 
-pub apply_promise : (d : Dimension) (r h : Float) (a : KernelAnswer) → fits binary64 r ≡ true → fits binary64 h ≡ true
-    → KernelPromise r h (weight d r h) a → ApplyPromise d r h a
+pub apply_promise : (d : Dimension) (r h : Float) (a : Result Float KernelRefusal) → fits binary64 r ≡ true
+    → fits binary64 h ≡ true → KernelPromise r h (weight d r h) a → ApplyPromise d r h a
 apply_promise d r h a s t K =
     record {
       kernel = K;

@@ -18,7 +18,7 @@ use Rattle.cubic_spline.specs.Apply.{AppliedWithin, AppliedNear, ApplyPromise}
 use Rattle.cubic_spline.specs.Rows.{rows}
 use Rattle.cubic_spline.specs.declared.Dimension.{Dimension}
 use Rattle.cubic_spline.specs.declared.Dimension.TheVariants.{Two, Three}
-use Rattle.cubic_spline.specs.declared.KernelAnswer.TheVariants.{Value}
+use Rattle.std.specs.declared.result.Result.TheVariants.{Ok}
 
 pub rows_hold : Yielded rows
 unfolding weight_shape slope_shape kernel_answer of_bits to_bits add sub mul div neg le lt
@@ -107,7 +107,7 @@ abbrev tiny_radius : Dimension → Float
 tiny_radius Two = bits 0x1FF0000000000000
 tiny_radius Three = bits 0x2AA0000000000000
 
-pub applied_tiny : (d : Dimension) → ApplyPromise d +0 (tiny_radius d) (Value (weight d +0 (tiny_radius d)))
+pub applied_tiny : (d : Dimension) → ApplyPromise d +0 (tiny_radius d) (Ok (weight d +0 (tiny_radius d)))
 unfolding weight_shape kernel_answer refusal of_bits add sub mul div le lt
 applied_tiny Two =
     record {

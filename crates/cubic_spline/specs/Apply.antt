@@ -11,8 +11,9 @@ use Rattle.cubic_spline.specs.Exact.{exact_weight}
 use Rattle.cubic_spline.specs.Answer.{KernelPromise}
 use Rattle.cubic_spline.specs.declared.Dimension.{Dimension}
 use Rattle.cubic_spline.specs.declared.Dimension.TheVariants.{Two, Three}
-use Rattle.cubic_spline.specs.declared.KernelAnswer.{KernelAnswer}
-use Rattle.cubic_spline.specs.declared.KernelAnswer.TheVariants.{Value}
+use Rattle.std.specs.declared.result.Result.{Result}
+use Rattle.cubic_spline.specs.declared.KernelRefusal.{KernelRefusal}
+use Rattle.std.specs.declared.result.Result.TheVariants.{Ok}
 
 -- 2 ^ -511, some 1.5e-154, and 2 ^ -340, some 4.5e-103: for no radius from there on is the normalizer infinite
 abbrev pub least_radius : Dimension → Float
@@ -35,12 +36,12 @@ abbrev pub AppliedNear : Dimension → Float → Float → Float → Type 0
 AppliedNear d r h x = AppliedWithin d 5 r h x
 
 -- a is a value, and that near
-pub record Applied (d : Dimension) (r h : Float) (a : KernelAnswer) : Type 0 where
+pub record Applied (d : Dimension) (r h : Float) (a : Result Float KernelRefusal) : Type 0 where
   pub value : Float
-  pub is : a ≡ Value value
+  pub is : a ≡ Ok value
   pub near : AppliedNear d r h value
 
-pub record ApplyPromise (d : Dimension) (r h : Float) (a : KernelAnswer) : Type 0 where
+pub record ApplyPromise (d : Dimension) (r h : Float) (a : Result Float KernelRefusal) : Type 0 where
   pub kernel : KernelPromise r h (weight d r h) a
   pub bound : T (is_distance r) → T (is_radius h) → T (finite (normalizer d h)) → Applied d r h a
   pub normalizes : T (is_radius h) → T (le (least_radius d) h) → T (finite (normalizer d h))

@@ -26,12 +26,6 @@ pub enum KernelRefusal {
     Radius,
 }
 
-#[derive(Clone, Copy)]
-pub enum KernelAnswer {
-    Value(f64),
-    Refused(KernelRefusal),
-}
-
 // The weight's shape, by q = r / h. The Rust's powi(3) is (t * t) * t.
 pub fn weight_shape(q: f64) -> f64
     ensures { WeightPromise q result }
@@ -97,29 +91,29 @@ fn is_radius(h: f64) -> bool
 }
 
 // The value, where both arguments are taken; the distance is turned down before the radius.
-fn answer(r: f64, h: f64, value: f64) -> KernelAnswer
+fn answer(r: f64, h: f64, value: f64) -> Result<f64, KernelRefusal>
     ensures { KernelPromise r h value result }
 {
     if is_distance(r) {
         if is_radius(h) {
-            KernelAnswer::Value(value)
+            Ok(value)
         } else {
-            KernelAnswer::Refused(KernelRefusal::Radius)
+            Err(KernelRefusal::Radius)
         }
     } else {
-        KernelAnswer::Refused(KernelRefusal::Distance)
+        Err(KernelRefusal::Distance)
     }
 }
 
 // The kernel at the distance r, with the radius h.
-pub fn scalar_apply(dimension: Dimension, r: f64, h: f64) -> KernelAnswer
+pub fn scalar_apply(dimension: Dimension, r: f64, h: f64) -> Result<f64, KernelRefusal>
     ensures { ApplyPromise dimension r h result }
 {
     answer(r, h, normalizer(dimension, h) * weight_shape(r / h))
 }
 
 // The kernel's derivative there.
-pub fn scalar_apply_diff(dimension: Dimension, r: f64, h: f64) -> KernelAnswer
+pub fn scalar_apply_diff(dimension: Dimension, r: f64, h: f64) -> Result<f64, KernelRefusal>
     ensures { KernelPromise r h (Shape.slope dimension r h) result }
 {
     answer(r, h, normalizer(dimension, h) * slope_shape(r / h) / h)

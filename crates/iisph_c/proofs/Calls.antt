@@ -13,25 +13,24 @@ use Rattle.lists.specs.Lists.{choose}
 use Rattle.scene_format.specs.SceneOf.{scene_of}
 use Rattle.scene_check.specs.Walk.{checked}
 use Rattle.scene_format.specs.declared.Refusal.{Refusal}
-use Rattle.scene_format.specs.declared.Walk.{Walk}
-use Rattle.scene_format.specs.declared.Walk.TheVariants as walk
+use Rattle.scene_format.specs.Refusals.{Walk}
+use Rattle.std.specs.declared.result.Result.TheVariants.{Ok, Err}
 use Rattle.iisph_preparation.specs.Prepare.{readiness}
-use Rattle.iisph_preparation.specs.declared.Readiness.{Readiness}
-use Rattle.iisph_preparation.specs.declared.Readiness.TheVariants as readiness
-use Rattle.iisph_rules.specs.declared.StepAnswer.{StepAnswer}
-use Rattle.iisph_rules.specs.declared.StepAnswer.TheVariants.{Done, Refused}
+use Rattle.iisph_rules.specs.Step.{Readiness}
+use Rattle.iisph_rules.specs.Step.{StepAnswer}
 use Rattle.scene_lengths.specs.Lengths.{lengths_needed, needs_after, needs_of}
 use Rattle.iisph_lent.specs.Lent.{StepsLent, IndexAfter}
 use Rattle.iisph_lent.specs.Step.{Steps}
-use Rattle.iisph_lent.specs.declared.LentAnswer.{LentAnswer}
-use Rattle.iisph_lent.specs.declared.LentAnswer.TheVariants.{Answered, ShortIndex}
+use Rattle.iisph_lent.specs.Lent.{LentAnswer}
+use Rattle.iisph_lent.specs.declared.LentRefusal.TheVariants.{Refused, ShortIndex}
 use Rattle.iisph_validation.specs.Validate.{Validates}
 use Rattle.scene_lengths.specs.declared.Lengths.{Lengths}
-use Rattle.scene_lengths.specs.declared.Needs.{Needs}
-use Rattle.scene_lengths.specs.declared.Needs.TheVariants as needs
+use Rattle.std.specs.declared.result.Result.{Result}
 use Rattle.iisph_c.specs.Needs.{lengths_after, NeedsTo}
 use Rattle.iisph_codes.specs.Numbers.{too_short, short_index, counts_needed, refused_code, walk_code, refused_counts}
-use Rattle.iisph_codes.specs.Report.{numbers_needed}
+use Rattle.iisph_codes.specs.Report.{numbers_needed, report_numbers, report_counts}
+use Rattle.iisph_rules.specs.Endings.{ending_number}
+use Rattle.iisph_rules.specs.declared.Report.{Report}
 use Rattle.iisph_c.specs.Step.{step_code, numbers_after, counts_after, has_room, StepsTo}
 use Rattle.iisph_c.specs.Step.{lent_code, numbers_lent, counts_lent, LentTo, LentIndex}
 use Rattle.iisph_c.specs.Validate.{validate_code, validate_counts, ValidatesTo}
@@ -117,13 +116,18 @@ module _ (b : List ℕ) (answers work : List Float) (index : ℕ) (numbers : Lis
           counts_then = rw t (g ∙ ap (λ (a : LentAnswer). counts_lent a counts) s.answer);
         }
 
-    pub answered_to : {a : StepAnswer} {numbers' : List Float} → x ≡ Answered a → n ≡ step_code a
-        → numbers' ≡ numbers_after a numbers → counts' ≡ counts_after a counts
+    pub reported_to : {r : Report} {numbers' : List Float} → x ≡ Ok r → n ≡ ending_number r.ending
+        → numbers' ≡ sets numbers 0 (report_numbers r) → counts' ≡ sets counts 0 (report_counts r)
         → LentTo (has_room numbers counts) b answers work index numbers counts n answers' work' numbers' counts'
-    unfolding lent_code numbers_lent counts_lent
-    answered_to q e f g = lent_to (rw q e) (rw q f) (rw q g)
+    unfolding lent_code numbers_lent counts_lent step_code numbers_after counts_after
+    reported_to q e f g = lent_to (rw q e) (rw q f) (rw q g)
 
-    pub short_to : {k : ℕ} → x ≡ ShortIndex k → n ≡ short_index → counts' ≡ set counts 0 k
+    pub refused_to : {r : Refusal} → x ≡ Err (Refused r) → n ≡ refused_code r → counts' ≡ refused_counts r counts
+        → LentTo (has_room numbers counts) b answers work index numbers counts n answers' work' numbers counts'
+    unfolding lent_code numbers_lent counts_lent step_code counts_after
+    refused_to q e g = lent_to (rw q e) (rw q) (rw q g)
+
+    pub short_to : {k : ℕ} → x ≡ Err (ShortIndex k) → n ≡ short_index → counts' ≡ set counts 0 k
         → LentTo (has_room numbers counts) b answers work index numbers counts n answers' work' numbers counts'
     unfolding lent_code numbers_lent counts_lent
     short_to q e g = lent_to (rw q e) (rw q) (rw q g)
@@ -137,23 +141,23 @@ index_after b answers work numbers counts index l m s q = s (rw (room numbers co
 -- ---- whether a step would be refused
 
 module _ (a : StepAnswer) where
-  ready_code : readiness.Ready ≡ readiness a
+  ready_code : Ok tt ≡ readiness a
       → (0 ≡ validate_code a) × ((counts : List ℕ) → counts ≡ validate_counts a counts)
   unfolding readiness validate_code validate_counts
   ready_code q = go a q
     where
-      go : (a : StepAnswer) → readiness.Ready ≡ readiness a
+      go : (a : StepAnswer) → Ok tt ≡ readiness a
           → (0 ≡ validate_code a) × ((counts : List ℕ) → counts ≡ validate_counts a counts)
-      go (Done r) p = (refl, λ _. refl)
-      go (Refused r) p = let z : ◌≡◌ {A = ℕ} 0 1 = cc in absurd (omega arith)
+      go (Ok r) p = (refl, λ _. refl)
+      go (Err r) p = let z : ◌≡◌ {A = ℕ} 0 1 = cc in absurd (omega arith)
 
-  refused_code_lem : {r : Refusal} → readiness.Refused r ≡ readiness a → a ≡ Refused r
+  refused_code_lem : {r : Refusal} → Err r ≡ readiness a → a ≡ Err r
   unfolding readiness
   refused_code_lem q = go a q
     where
-      go : {r : Refusal} (a : StepAnswer) → readiness.Refused r ≡ readiness a → a ≡ Refused r
-      go (Done r) p = let z : ◌≡◌ {A = ℕ} 0 1 = cc in absurd (omega arith)
-      go (Refused r) p = cc
+      go : {r : Refusal} (a : StepAnswer) → Err r ≡ readiness a → a ≡ Err r
+      go (Ok r) p = let z : ◌≡◌ {A = ℕ} 0 1 = cc in absurd (omega arith)
+      go (Err r) p = cc
 
 module _ (b : List ℕ) (work : List Float) (counts : List ℕ) where
   pub validate_short : length counts < counts_needed → ValidatesTo b work counts too_short work counts
@@ -163,14 +167,14 @@ module _ (b : List ℕ) (work : List Float) (counts : List ℕ) where
       record { result = rw f; work_then = rw f; counts_then = rw f }
 
   module _ (m : counts_needed ≤ length counts) {a : Readiness} {work' : List Float} (v : Validates b work a work') where
-    pub ready_to : a ≡ readiness.Ready → ValidatesTo b work counts 0 work' counts
+    pub ready_to : a ≡ Ok tt → ValidatesTo b work counts 0 work' counts
     unfolding choose
     ready_to q =
         let t = le-leb counts_needed (length counts) m in
         let c = ready_code _ (sym q ∙ v.answer) in
         record { result = rw t c.0; work_then = rw t v.list; counts_then = rw t (c.1 counts) }
 
-    pub unready_to : {r : Refusal} {n : ℕ} {counts' : List ℕ} → a ≡ readiness.Refused r → n ≡ refused_code r
+    pub unready_to : {r : Refusal} {n : ℕ} {counts' : List ℕ} → a ≡ Err r → n ≡ refused_code r
         → counts' ≡ refused_counts r counts → ValidatesTo b work counts n work' counts'
     unfolding choose validate_code validate_counts
     unready_to q e g =
@@ -182,35 +186,36 @@ module _ (b : List ℕ) (work : List Float) (counts : List ℕ) where
 
 -- the check, from what is said of a scene
 module _ (b : List ℕ) where
-  refused_check : {r : Refusal} → needs.Refused r ≡ needs_of b → checked b ≡ walk.Refused r
+  refused_check : {r : Refusal} → Err r ≡ needs_of b → checked b ≡ Err r
   unfolding needs_of needs_after
   refused_check q = go (checked b) q
     where
-      go : {r : Refusal} (w : Walk) → needs.Refused r ≡ needs_after b w → w ≡ walk.Refused r
-      go (walk.At e) p = let z : ◌≡◌ {A = ℕ} 0 1 = cc in absurd (omega arith)
-      go (walk.Refused r) p = cc
+      go : {r : Refusal} (w : Walk) → Err r ≡ needs_after b w → w ≡ Err r
+      go (Ok e) p = let z : ◌≡◌ {A = ℕ} 0 1 = cc in absurd (omega arith)
+      go (Err r) p = cc
 
   -- of an accepted scene: where its check ended, and the lengths
   record Told (l : Lengths) : Type 0 where
     pub end : ℕ
-    pub ended : checked b ≡ walk.At end
+    pub ended : checked b ≡ Ok end
     pub lengths : l ≡ lengths_needed (scene_of b)
 
-  lists_check : {l : Lengths} → needs.Lists l ≡ needs_of b → Told l
+  lists_check : {l : Lengths} → Ok l ≡ needs_of b → Told l
   unfolding needs_of needs_after
   lists_check {l} q = go (checked b) refl q
     where
-      go : (w : Walk) → checked b ≡ w → needs.Lists l ≡ needs_after b w → Told l
-      go (walk.At e) t p = record { end = e; ended = t; lengths = cc }
-      go (walk.Refused r) t p = let z : ◌≡◌ {A = ℕ} 0 1 = cc in absurd (omega arith)
+      go : (w : Walk) → checked b ≡ w → Ok l ≡ needs_after b w → Told l
+      go (Ok e) t p = record { end = e; ended = t; lengths = cc }
+      go (Err r) t p = let z : ◌≡◌ {A = ℕ} 0 1 = cc in absurd (omega arith)
 
   module _ (counts : List ℕ) where
     pub needs_short : length counts < counts_needed → NeedsTo b counts too_short counts
     unfolding choose
     needs_short h = let f = lt-leb counts_needed (length counts) h in record { result = rw f; counts_then = rw f }
 
-    module _ (m : counts_needed ≤ length counts) {s : Needs} (is : s ≡ needs_of b) {n : ℕ} {counts' : List ℕ} where
-      pub needs_refused : {r : Refusal} → s ≡ needs.Refused r → n ≡ refused_code r
+    module _ (m : counts_needed ≤ length counts) {s : Result Lengths Refusal} (is : s ≡ needs_of b)
+        {n : ℕ} {counts' : List ℕ} where
+      pub needs_refused : {r : Refusal} → s ≡ Err r → n ≡ refused_code r
           → counts' ≡ refused_counts r counts → NeedsTo b counts n counts'
       unfolding choose walk_code lengths_after
       needs_refused q e g =
@@ -218,7 +223,7 @@ module _ (b : List ℕ) where
           let w = refused_check (sym q ∙ is) in
           record { result = rw (t, w) e; counts_then = rw (t, w) g }
 
-      pub needs_lists : {l : Lengths} → s ≡ needs.Lists l → n ≡ 0 → counts' ≡ sets counts 0 (l.answers ∷ l.work ∷ [])
+      pub needs_lists : {l : Lengths} → s ≡ Ok l → n ≡ 0 → counts' ≡ sets counts 0 (l.answers ∷ l.work ∷ [])
           → NeedsTo b counts n counts'
       unfolding choose walk_code lengths_after
       needs_lists q e g =

@@ -16,8 +16,8 @@ use Rattle.iisph_rules.specs.Answer.{step_answer}
 use Rattle.iisph_rules.specs.Endings.{ending_number}
 use Rattle.iisph_rules.specs.declared.Ending.{Ending}
 use Rattle.iisph_rules.specs.declared.Ending.TheVariants.{Unswept, Settled, RanOut}
-use Rattle.iisph_rules.specs.declared.StepAnswer.{StepAnswer}
-use Rattle.iisph_rules.specs.declared.StepAnswer.TheVariants.{Done, Refused}
+use Rattle.iisph_rules.specs.Step.{StepAnswer}
+use Rattle.std.specs.declared.result.Result.TheVariants.{Ok, Err}
 use Rattle.iisph_kept.specs.Kept.{clock_after}
 use Rattle.iisph_codes.specs.Numbers.{too_short}
 use Rattle.iisph_c.specs.Step.{step_code, has_room, StepsTo}
@@ -45,16 +45,16 @@ module _ (old : List Float) {n : ℕ} where
   moved : (h : Bool) (a : StepAnswer) → n ≡ choose h (step_code a) too_short → n < too_short
       → sets old 0 (clock_numbers (advanced (clock_of old))) ≡ choose h (clock_list_after a old) old
   unfolding choose step_code clock_list_after clock_after
-  moved true (Done r) e l = refl
-  moved true (Refused r) e l = absurd (omega (arith, e, l))
+  moved true (Ok r) e l = refl
+  moved true (Err r) e l = absurd (omega (arith, e, l))
   moved false a e l = absurd (omega (arith, e, l))
 
   stayed : (h : Bool) (a : StepAnswer) → n ≡ choose h (step_code a) too_short → too_short ≤ n →
       clock_needed ≤ length old
       → old ≡ choose h (clock_list_after a old) old
   unfolding choose step_code clock_list_after clock_after
-  stayed true (Done r) e l room = absurd (omega (arith, e, l, ending_few r.ending))
-  stayed true (Refused r) e l room = as_it_was old room
+  stayed true (Ok r) e l room = absurd (omega (arith, e, l, ending_few r.ending))
+  stayed true (Err r) e l room = as_it_was old room
   stayed false a e l room = refl
 
 module _ (b : List ℕ) (clock answers work numbers : List Float) (counts : List ℕ) where

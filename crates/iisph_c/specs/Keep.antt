@@ -4,7 +4,7 @@ use Rattle.std.specs.Prelude.{ℕ, ◌≡◌, Bool, ◌&&◌, List, leb, Float, 
 use Rattle.std.proofs.lemmas.List.Edits.{sets}
 use Rattle.lists.specs.Lists.{choose}
 use Rattle.iisph_rules.specs.Answer.{step_answer}
-use Rattle.iisph_rules.specs.declared.StepAnswer.{StepAnswer}
+use Rattle.iisph_rules.specs.Step.{StepAnswer}
 use Rattle.iisph_kept.specs.Kept.{clock_after}
 use Rattle.iisph_codes.specs.ClockList.{clock_needed, clock_numbers, clock_of}
 use Rattle.iisph_c.specs.Step.{has_room, StepsTo}

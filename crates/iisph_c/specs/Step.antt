@@ -5,27 +5,26 @@ use Rattle.std.proofs.lemmas.List.Edits.{sets}
 use Rattle.lists.specs.Lists.{choose}
 use Rattle.iisph_rules.specs.Answer.{step_answer, answers_after, work_after}
 use Rattle.iisph_rules.specs.Endings.{ending_number}
-use Rattle.iisph_rules.specs.declared.StepAnswer.{StepAnswer}
-use Rattle.iisph_rules.specs.declared.StepAnswer.TheVariants.{Done, Refused}
-use Rattle.iisph_lent.specs.Lent.{lacks_index, lent_answer, uses_index}
-use Rattle.iisph_lent.specs.declared.LentAnswer.{LentAnswer}
-use Rattle.iisph_lent.specs.declared.LentAnswer.TheVariants.{Answered, ShortIndex}
+use Rattle.iisph_rules.specs.Step.{StepAnswer}
+use Rattle.std.specs.declared.result.Result.TheVariants.{Ok, Err}
+use Rattle.iisph_lent.specs.Lent.{LentAnswer, lacks_index, lent_answer, uses_index}
+use Rattle.iisph_lent.specs.declared.LentRefusal.TheVariants.{Refused, ShortIndex}
 use Rattle.iisph_codes.specs.Numbers.{too_short, short_index, refused_code, counts_room, refused_counts}
 use Rattle.iisph_codes.specs.Report.{numbers_needed, report_numbers, report_counts}
 
 -- ---- by the step's answer
 
 unfoldable pub step_code : StepAnswer → ℕ
-step_code (Done r) = ending_number r.ending
-step_code (Refused r) = refused_code r
+step_code (Ok r) = ending_number r.ending
+step_code (Err r) = refused_code r
 
 unfoldable pub numbers_after : StepAnswer → List Float → List Float
-numbers_after (Done r) old = sets old 0 (report_numbers r)
-numbers_after (Refused r) old = old
+numbers_after (Ok r) old = sets old 0 (report_numbers r)
+numbers_after (Err r) old = old
 
 unfoldable pub counts_after : StepAnswer → List ℕ → List ℕ
-counts_after (Done r) old = sets old 0 (report_counts r)
-counts_after (Refused r) old = refused_counts r old
+counts_after (Ok r) old = sets old 0 (report_counts r)
+counts_after (Err r) old = refused_counts r old
 
 -- ---- the call
 
@@ -47,17 +46,19 @@ pub record StepsTo (room : Bool) (b : List ℕ) (answers work numbers : List Flo
 -- ---- by the answer of a step that is lent its index
 
 unfoldable pub lent_code : LentAnswer → ℕ
-lent_code (Answered a) = step_code a
-lent_code (ShortIndex k) = short_index
+lent_code (Ok report) = step_code (Ok report)
+lent_code (Err (Refused r)) = step_code (Err r)
+lent_code (Err (ShortIndex k)) = short_index
 
 unfoldable pub numbers_lent : LentAnswer → List Float → List Float
-numbers_lent (Answered a) old = numbers_after a old
-numbers_lent (ShortIndex k) old = old
+numbers_lent (Ok report) old = numbers_after (Ok report) old
+numbers_lent (Err e) old = old
 
 -- the length needed at 0
 unfoldable pub counts_lent : LentAnswer → List ℕ → List ℕ
-counts_lent (Answered a) old = counts_after a old
-counts_lent (ShortIndex k) old = set old 0 k
+counts_lent (Ok report) old = counts_after (Ok report) old
+counts_lent (Err (Refused r)) old = counts_after (Err r) old
+counts_lent (Err (ShortIndex k)) old = set old 0 k
 
 -- as `StepsTo`, with an index of this length
 pub record LentTo (room : Bool) (b : List ℕ) (answers work : List Float) (index : ℕ) (numbers : List Float)

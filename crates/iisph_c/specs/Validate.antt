@@ -5,17 +5,17 @@ use Rattle.lists.specs.Lists.{choose}
 use Rattle.scene_lengths.specs.Lengths.{answers_needed}
 use Rattle.scene_format.specs.SceneOf.{scene_of}
 use Rattle.iisph_rules.specs.Answer.{step_answer, work_after}
-use Rattle.iisph_rules.specs.declared.StepAnswer.{StepAnswer}
-use Rattle.iisph_rules.specs.declared.StepAnswer.TheVariants.{Done, Refused}
+use Rattle.iisph_rules.specs.Step.{StepAnswer}
+use Rattle.std.specs.declared.result.Result.TheVariants.{Ok, Err}
 use Rattle.iisph_codes.specs.Numbers.{too_short, refused_code, counts_room, refused_counts}
 
 unfoldable pub validate_code : StepAnswer → ℕ
-validate_code (Done r) = 0
-validate_code (Refused r) = refused_code r
+validate_code (Ok r) = 0
+validate_code (Err r) = refused_code r
 
 unfoldable pub validate_counts : StepAnswer → List ℕ → List ℕ
-validate_counts (Done r) old = old
-validate_counts (Refused r) old = refused_counts r old
+validate_counts (Ok r) old = old
+validate_counts (Err r) old = refused_counts r old
 
 -- of the bytes b and the two lists: the result r, and the lists afterwards
 pub record ValidatesTo (b : List ℕ) (work : List Float) (counts : List ℕ) (r : ℕ) (work' : List Float)

@@ -18,21 +18,21 @@ use iisph_codes::{
     CLOCK, COUNTS, NUMBERS, TOO_SHORT, advance_listed, write_index, write_lengths, write_refusal,
     write_report, write_slope, write_weight,
 };
-use iisph_lent::LentAnswer;
-use iisph_preparation::Readiness;
-use iisph_rules::StepAnswer;
-use scene_lengths::{Needs, lengths_needed};
+use iisph_lent::LentRefusal;
+use iisph_rules::Report;
+use scene_format::Refusal;
+use scene_lengths::lengths_needed;
 
 // A step's answer: 0 unswept, 1 settled, 2 ran out, 100 + n for refusal n.
-fn write_answer(answer: StepAnswer, numbers: &mut [f64], counts: &mut [u64]) -> u64
+fn write_answer(answer: Result<Report, Refusal>, numbers: &mut [f64], counts: &mut [u64]) -> u64
     requires { (numbers_needed ≤ length numbers.old) × (counts_needed ≤ length counts.old) }
     ensures { (result ≡ step_code answer)
         × (numbers.new ≡ numbers_after answer numbers.old)
         × (counts.new ≡ counts_after answer counts.old) }
 {
     match answer {
-        StepAnswer::Done(report) => write_report(report, numbers, counts),
-        StepAnswer::Refused(refusal) => write_refusal(refusal, counts),
+        Ok(report) => write_report(report, numbers, counts),
+        Err(refusal) => write_refusal(refusal, counts),
     }
 }
 
@@ -83,8 +83,9 @@ pub extern "C" fn iisph_step_lent(
         return TOO_SHORT;
     }
     match iisph_lent::step_lent(scene, answers, work, index) {
-        LentAnswer::Answered(answer) => write_answer(answer, numbers, counts),
-        LentAnswer::ShortIndex(needed) => write_index(needed, counts),
+        Ok(report) => write_report(report, numbers, counts),
+        Err(LentRefusal::Refused(refusal)) => write_refusal(refusal, counts),
+        Err(LentRefusal::ShortIndex(needed)) => write_index(needed, counts),
     }
 }
 
@@ -122,8 +123,8 @@ pub extern "C" fn iisph_needed(scene: &[u8], counts: &mut [u64]) -> u64
         return TOO_SHORT;
     }
     match lengths_needed(scene) {
-        Needs::Lists(lengths) => write_lengths(lengths, counts),
-        Needs::Refused(refusal) => write_refusal(refusal, counts),
+        Ok(lengths) => write_lengths(lengths, counts),
+        Err(refusal) => write_refusal(refusal, counts),
     }
 }
 
@@ -138,8 +139,8 @@ pub extern "C" fn iisph_validate(scene: &[u8], work: &mut [f64], counts: &mut [u
         return TOO_SHORT;
     }
     match iisph_validation::validate(scene, work) {
-        Readiness::Ready => 0,
-        Readiness::Refused(refusal) => write_refusal(refusal, counts),
+        Ok(()) => 0,
+        Err(refusal) => write_refusal(refusal, counts),
     }
 }
 

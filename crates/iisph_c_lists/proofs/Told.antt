@@ -6,9 +6,9 @@ use mathlib.Core.List.{List}
 use lib.ListN.{length}
 use borrow.Author.Tests.{le-leb, lt-leb}
 use Rattle.lists.specs.Lists.{choose}
-use Rattle.scene_lists.specs.declared.ListAnswer.{ListAnswer}
 use Rattle.iisph_c_lists.specs.Lists.{list_code, list_counts, ListTo}
 use Rattle.iisph_codes.specs.Numbers.{too_short, counts_needed}
+use Rattle.scene_lists.specs.Lists.{ListAnswer}
 
 module _ (a : ListAnswer) (counts : List ℕ) where
   pub no_room : length counts < counts_needed → ListTo a counts too_short counts

@@ -9,8 +9,8 @@ ghost use Rattle.iisph_codes.specs.Numbers.{counts_needed};
 
 use iisph_codes::{COUNTS, TOO_SHORT, write_refusal};
 use scene_check::contact_list::Looked;
-use scene_format::Walk;
-use scene_lists::{Contacts, ListAnswer, check_list};
+use scene_format::Refusal;
+use scene_lists::{Contacts, check_list};
 
 // The numbers that contacts have in a call.
 const FLUID_FLUID: u64 = 0;
@@ -23,7 +23,12 @@ const BOUNDARY_BOUNDARY: u64 = 2;
 const NO_LIST: u64 = 97;
 
 // The check of the list that a call asks for.
-fn list_asked(scene: &[u8], contacts: u64, model: usize, particle: usize) -> ListAnswer
+fn list_asked(
+    scene: &[u8],
+    contacts: u64,
+    model: usize,
+    particle: usize,
+) -> Result<Option<Looked>, Refusal>
     ensures { result ≡ list_asked scene.now contacts model particle }
 {
     if contacts == FLUID_FLUID {
@@ -35,7 +40,7 @@ fn list_asked(scene: &[u8], contacts: u64, model: usize, particle: usize) -> Lis
     if contacts == BOUNDARY_BOUNDARY {
         return check_list(scene, Contacts::BoundaryBoundary, model, particle);
     }
-    ListAnswer::NoList
+    Ok(None)
 }
 
 // The looks at a list, and the offset of the contact that is refused.
@@ -46,20 +51,20 @@ fn write_looked(looked: Looked, counts: &mut [u64]) -> u64
     let walk = looked.walk;
     counts[0] = looked.looks as u64;
     match walk {
-        Walk::At(_) => 0,
-        Walk::Refused(refusal) => write_refusal(refusal, counts),
+        Ok(_) => 0,
+        Err(refusal) => write_refusal(refusal, counts),
     }
 }
 
 // The answer of a list's check.
-fn write_list(answer: ListAnswer, counts: &mut [u64]) -> u64
+fn write_list(answer: Result<Option<Looked>, Refusal>, counts: &mut [u64]) -> u64
     requires { counts_needed ≤ length counts.old }
     ensures { (result ≡ list_code answer) × (counts.new ≡ list_counts answer counts.old) }
 {
     match answer {
-        ListAnswer::Checked(looked) => write_looked(looked, counts),
-        ListAnswer::NoList => NO_LIST,
-        ListAnswer::Refused(refusal) => write_refusal(refusal, counts),
+        Ok(Some(looked)) => write_looked(looked, counts),
+        Ok(None) => NO_LIST,
+        Err(refusal) => write_refusal(refusal, counts),
     }
 }
 

@@ -2,8 +2,8 @@
 use Rattle.std.specs.Prelude.{ℕ, ◌+◌, Bool, List, leb, length, set}
 use Rattle.scene_format.specs.Refusals.{number_of, place_of}
 use Rattle.scene_format.specs.declared.Refusal.{Refusal}
-use Rattle.scene_format.specs.declared.Walk.{Walk}
-use Rattle.scene_format.specs.declared.Walk.TheVariants.{At, Refused}
+use Rattle.scene_format.specs.Refusals.{Walk}
+use Rattle.std.specs.declared.result.Result.TheVariants.{Ok, Err}
 
 -- a list is too short for what is written of every answer; then nothing is written
 abbrev pub too_short : ℕ
@@ -27,8 +27,8 @@ refused_code r = refused_by (number_of r)
 
 -- of a walk: 0 if it is not refused
 unfoldable pub walk_code : Walk → ℕ
-walk_code (At end) = 0
-walk_code (Refused r) = refused_code r
+walk_code (Ok end) = 0
+walk_code (Err r) = refused_code r
 
 -- how many elements `counts` must have
 abbrev pub counts_needed : ℕ
@@ -43,5 +43,5 @@ refused_counts r old = set old 1 (place_of r)
 
 -- a walk that is not refused writes nothing
 unfoldable pub walk_counts : Walk → List ℕ → List ℕ
-walk_counts (At end) old = old
-walk_counts (Refused r) old = refused_counts r old
+walk_counts (Ok end) old = old
+walk_counts (Err r) old = refused_counts r old

@@ -12,7 +12,7 @@ ghost use Rattle.iisph_codes.specs.Numbers.{short_index, counts_needed, refused_
 ghost use Rattle.iisph_codes.specs.Report.{numbers_needed, report_numbers, report_counts};
 ghost use Rattle.iisph_codes.specs.Kernel.{refusal_code, Gives, KernelTo};
 
-use cubic_spline::{Dimension, KernelAnswer, KernelRefusal};
+use cubic_spline::{Dimension, KernelRefusal};
 use iisph_rules::Report;
 use iisph_rules::endings::tell;
 use scene_format::Refusal;
@@ -112,18 +112,18 @@ fn refusal_code(refusal: KernelRefusal) -> u64
 }
 
 // The kernel's value, where the list has a place for it.
-fn write_kernel(answer: KernelAnswer, out: &mut [f64]) -> u64
+fn write_kernel(answer: Result<f64, KernelRefusal>, out: &mut [f64]) -> u64
     ensures { Gives answer out.old result out.new }
 {
     if out.len() < 1 {
         return TOO_SHORT;
     }
     match answer {
-        KernelAnswer::Value(x) => {
+        Ok(x) => {
             out[0] = x;
             0
         }
-        KernelAnswer::Refused(refusal) => refusal_code(refusal),
+        Err(refusal) => refusal_code(refusal),
     }
 }
 

@@ -1,7 +1,7 @@
 -- What a contact names, as the code reads it: its mass and its velocity, by the kind of particle; the sums over a list
 -- of contacts; and a particle's coefficients as the code has them and as the work list holds them. Scaffolding: no
 -- promise rests on it. Definitions only.
-use Rattle.std.specs.Prelude.{ℕ, ◌≡◌, List, [], ◌∷◌, ◌++◌, Float}
+use Rattle.std.specs.Prelude.{ℕ, ◌≡◌, Bool, cond, List, [], ◌∷◌, ◌++◌, Float}
 use Rattle.iisph_rows.specs.Passes.{PassOver, CoefficientsReady, first_pressure}
 use Rattle.iisph_rules.specs.Coefficients.{advected_velocity, fluid_mass, boundary_mass, Neighbour, Coefficients}
 use Rattle.iisph_rules.specs.Coefficients.{coefficients_of}
@@ -14,6 +14,10 @@ use Rattle.scene_format.specs.declared.Kind.TheVariants.{Fluid, Boundary}
 use Rattle.scene_index.specs.Contacts.{ContactsReady, over_first}
 use Rattle.scene_index.specs.declared.contacts.ContactList.{ContactList}
 use Rattle.iisph_coefficients.specs.declared.coefficients.CoefficientsOf.{CoefficientsOf}
+
+-- the kind of contact of a sum, by whether it is fluid
+abbrev pub kind_of : Bool → Kind
+kind_of fluid = cond fluid Fluid Boundary
 
 -- ---- what a contact names
 

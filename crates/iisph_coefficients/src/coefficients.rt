@@ -1,15 +1,14 @@
 // The coefficients of a fluid particle (METHOD 5.3 to 5.6): compute_densities, compute_predicted_densities, compute_dii
 // and compute_aii of the Rust, particle by particle. Each sum takes the fluid contacts in list order, then the boundary
-// contacts: a function for each kind, so that in compiled code no contact looks at its kind.
+// contacts. The kind is a const parameter of a sum, so that in compiled code no contact looks at its kind.
 ghost use Rattle.std.specs.Prelude.{◌≡◌, ◌<◌};
 ghost use Rattle.iisph_rows.specs.Passes.{TimedPass, CoefficientsReady};
 ghost use Rattle.iisph_rules.specs.Coefficients.{coefficients_of};
-ghost use Rattle.math.specs.Real.{+0};
-ghost use Rattle.math.specs.Vector.{coordinates, origin};
+ghost use Rattle.math.specs.Vector.{coordinates};
 ghost use Rattle.scene_format.specs.Scene.{particle};
 ghost use Rattle.scene_format.specs.SceneOf.{scene_of};
 ghost use Rattle.iisph_coefficients.specs.Neighbours.{weighed, approached, pushed, returned, summed, SumReady};
-ghost use Rattle.iisph_coefficients.specs.Neighbours.{CoefficientsAre};
+ghost use Rattle.iisph_coefficients.specs.Neighbours.{CoefficientsAre, kind_of};
 
 use crate::neighbours::{mass, velocity};
 use crate::terms::{approach, returning};
@@ -35,40 +34,8 @@ pub struct CoefficientsOf {
     pub dii: Vec3,
 }
 
-// The sums of compute_densities and of compute_predicted_densities over the fluid contacts, where v is v_i.
-fn fluid_densities(
-    scene: &[u8],
-    index: &[usize],
-    work: &[f64],
-    dim: u8,
-    n: usize,
-    list: ContactList,
-    v: Vec3,
-) -> Sums
-    requires { SumReady Kind.Fluid scene.now index.now work.now dim n list }
-    ensures { let over = summed Kind.Fluid dim scene.now list in
-        (result.density ≡ over weighed +0 list.count)
-        × (result.delta ≡ over (approached (coordinates dim v)) +0 list.count) }
-{
-    let count = list.count;
-    let at = list.at;
-    let width = contact_width(dim);
-    let mut density = 0.0;
-    let mut delta = 0.0;
-    let mut k = 0usize;
-    while k < count {
-        let c = at + width * k;
-        let m = mass(scene, index, work, dim, n, Kind::Fluid, list.density0, c);
-        let vj = velocity(scene, index, work, dim, n, Kind::Fluid, c);
-        density = density + m * read::double(scene, c + CONTACT_WEIGHT);
-        delta = delta + m * approach(scene, dim, c, v.sub(vj));
-        k += 1;
-    }
-    Sums { density, delta }
-}
-
-// The same sums over the boundary contacts, from those over the fluid contacts on.
-fn boundary_densities(
+// The sums of compute_densities and of compute_predicted_densities over the contacts of one kind, where v is v_i.
+fn densities<const FLUID: bool>(
     scene: &[u8],
     index: &[usize],
     work: &[f64],
@@ -78,61 +45,25 @@ fn boundary_densities(
     v: Vec3,
     from: Sums,
 ) -> Sums
-    requires { SumReady Kind.Boundary scene.now index.now work.now dim n list }
-    ensures { let over = summed Kind.Boundary dim scene.now list in
+    requires { SumReady (kind_of FLUID) scene.now index.now work.now dim n list }
+    ensures { let over = summed (kind_of FLUID) dim scene.now list in
         (result.density ≡ over weighed from.density list.count)
         × (result.delta ≡ over (approached (coordinates dim v)) from.delta list.count) }
 {
-    let count = list.count;
-    let at = list.at;
     let width = contact_width(dim);
-    let mut density = from.density;
-    let mut delta = from.delta;
-    let mut k = 0usize;
-    while k < count {
-        let c = at + width * k;
-        let m = mass(scene, index, work, dim, n, Kind::Boundary, list.density0, c);
-        let vj = velocity(scene, index, work, dim, n, Kind::Boundary, c);
-        density = density + m * read::double(scene, c + CONTACT_WEIGHT);
-        delta = delta
-            + m * v
-                .sub(vj)
-                .dot(read::vector(scene, c + CONTACT_GRADIENT, dim), dim);
-        k += 1;
+    let mut sums = from;
+    for k in 0..list.count {
+        let c = list.at + width * k;
+        let m = mass::<FLUID>(scene, index, work, dim, n, list.density0, c);
+        let vj = velocity::<FLUID>(scene, index, work, dim, n, c);
+        sums.density += m * read::double(scene, c + CONTACT_WEIGHT);
+        sums.delta += m * approach(scene, dim, c, v.sub(vj));
     }
-    Sums { density, delta }
+    sums
 }
 
-// The sum of compute_dii over the fluid contacts.
-fn fluid_dii(
-    scene: &[u8],
-    index: &[usize],
-    work: &[f64],
-    dim: u8,
-    n: usize,
-    list: ContactList,
-    factor: f64,
-) -> Vec3
-    requires { SumReady Kind.Fluid scene.now index.now work.now dim n list }
-    ensures { coordinates dim result
-        ≡ summed Kind.Fluid dim scene.now list (pushed factor) (origin dim) list.count }
-{
-    let count = list.count;
-    let at = list.at;
-    let width = contact_width(dim);
-    let mut sum = Vec3::zero();
-    let mut k = 0usize;
-    while k < count {
-        let c = at + width * k;
-        let m = mass(scene, index, work, dim, n, Kind::Fluid, list.density0, c);
-        sum = sum.add(read::vector(scene, c + CONTACT_GRADIENT, dim).scale(m * factor));
-        k += 1;
-    }
-    sum
-}
-
-// The same sum over the boundary contacts, from that over the fluid contacts on.
-fn boundary_dii(
+// The sum of compute_dii over the contacts of one kind.
+fn dii<const FLUID: bool>(
     scene: &[u8],
     index: &[usize],
     work: &[f64],
@@ -142,54 +73,22 @@ fn boundary_dii(
     factor: f64,
     from: Vec3,
 ) -> Vec3
-    requires { SumReady Kind.Boundary scene.now index.now work.now dim n list }
+    requires { SumReady (kind_of FLUID) scene.now index.now work.now dim n list }
     ensures { coordinates dim result
-        ≡ summed Kind.Boundary dim scene.now list (pushed factor) (coordinates dim from) list.count }
+        ≡ summed (kind_of FLUID) dim scene.now list (pushed factor) (coordinates dim from) list.count }
 {
-    let count = list.count;
-    let at = list.at;
     let width = contact_width(dim);
     let mut sum = from;
-    let mut k = 0usize;
-    while k < count {
-        let c = at + width * k;
-        let m = mass(scene, index, work, dim, n, Kind::Boundary, list.density0, c);
+    for k in 0..list.count {
+        let c = list.at + width * k;
+        let m = mass::<FLUID>(scene, index, work, dim, n, list.density0, c);
         sum = sum.add(read::vector(scene, c + CONTACT_GRADIENT, dim).scale(m * factor));
-        k += 1;
     }
     sum
 }
 
-// The sum of compute_aii over the fluid contacts, where d is dii_i.
-fn fluid_aii(
-    scene: &[u8],
-    index: &[usize],
-    work: &[f64],
-    dim: u8,
-    n: usize,
-    list: ContactList,
-    factor: f64,
-    d: Vec3,
-) -> f64
-    requires { SumReady Kind.Fluid scene.now index.now work.now dim n list }
-    ensures { result ≡ summed Kind.Fluid dim scene.now list (returned (coordinates dim d) factor) +0 list.count }
-{
-    let count = list.count;
-    let at = list.at;
-    let width = contact_width(dim);
-    let mut sum = 0.0;
-    let mut k = 0usize;
-    while k < count {
-        let c = at + width * k;
-        let m = mass(scene, index, work, dim, n, Kind::Fluid, list.density0, c);
-        sum = sum + m * returning(scene, dim, c, factor, d);
-        k += 1;
-    }
-    sum
-}
-
-// The same sum over the boundary contacts, from that over the fluid contacts on.
-fn boundary_aii(
+// The sum of compute_aii over the contacts of one kind, where d is dii_i.
+fn aii<const FLUID: bool>(
     scene: &[u8],
     index: &[usize],
     work: &[f64],
@@ -200,20 +99,16 @@ fn boundary_aii(
     d: Vec3,
     from: f64,
 ) -> f64
-    requires { SumReady Kind.Boundary scene.now index.now work.now dim n list }
-    ensures { result ≡ summed Kind.Boundary dim scene.now list (returned (coordinates dim d) factor) from list.count }
+    requires { SumReady (kind_of FLUID) scene.now index.now work.now dim n list }
+    ensures { result
+        ≡ summed (kind_of FLUID) dim scene.now list (returned (coordinates dim d) factor) from list.count }
 {
-    let count = list.count;
-    let at = list.at;
     let width = contact_width(dim);
     let mut sum = from;
-    let mut k = 0usize;
-    while k < count {
-        let c = at + width * k;
-        let m = mass(scene, index, work, dim, n, Kind::Boundary, list.density0, c);
-        let g = read::vector(scene, c + CONTACT_GRADIENT, dim);
-        sum = sum + m * d.sub(g.scale(factor)).dot(g, dim);
-        k += 1;
+    for k in 0..list.count {
+        let c = list.at + width * k;
+        let m = mass::<FLUID>(scene, index, work, dim, n, list.density0, c);
+        sum += m * returning(scene, dim, c, factor, d);
     }
     sum
 }
@@ -237,15 +132,19 @@ pub fn coefficients_of(
     let boundary = contacts_of(scene, index, dim, Kind::Boundary, i);
     let row = row_at(work, dim, i);
     let v = vector_at(work, row + ADVECTED, dim);
-    let part = fluid_densities(scene, index, work, dim, n, fluid, v);
-    let sums = boundary_densities(scene, index, work, dim, n, boundary, v, part);
+    let none = Sums {
+        density: 0.0,
+        delta: 0.0,
+    };
+    let part = densities::<true>(scene, index, work, dim, n, fluid, v, none);
+    let sums = densities::<false>(scene, index, work, dim, n, boundary, v, part);
     let rho = sums.density;
     let factor = -dt * dt / (rho * rho);
-    let part = fluid_dii(scene, index, work, dim, n, fluid, factor);
-    let d = boundary_dii(scene, index, work, dim, n, boundary, factor, part);
+    let part = dii::<true>(scene, index, work, dim, n, fluid, factor, Vec3::zero());
+    let d = dii::<false>(scene, index, work, dim, n, boundary, factor, part);
     let e = dt * dt * work[row + MASS] / (rho * rho);
-    let part = fluid_aii(scene, index, work, dim, n, fluid, e, d);
-    let a = boundary_aii(scene, index, work, dim, n, boundary, e, d, part);
+    let part = aii::<true>(scene, index, work, dim, n, fluid, e, d, 0.0);
+    let a = aii::<false>(scene, index, work, dim, n, boundary, e, d, part);
     CoefficientsOf {
         density: rho,
         predicted_density: rho + sums.delta * dt,

@@ -1,5 +1,4 @@
-// What the gradient of a fluid contact gives the sums of its owner (METHOD 5.4, 5.6). By the number of axes the
-// compiler
+// What the gradient of a contact gives the sums of its owner (METHOD 5.4, 5.6). By the number of axes the compiler
 // makes two loops of the one that calls a function here, each with that number as a constant.
 ghost use Rattle.std.specs.Prelude.{◌≡◌, ◌+◌};
 ghost use Rattle.math.specs.Vector.{Axes, coordinates, ◌⊟◌, ◌⊡◌, ◌·◌};

@@ -10,15 +10,14 @@ use native.Mathlib.Numerals.{add-one}
 use native.Mathlib.Omega.{arith}
 use lib.Dec.{eqb}
 use lib.Ieee.{Float}
-use lib.ListN.{length, get_or}
-use lib.Seq.{sets, length-sets}
+use lib.ListN.{get_or}
+use lib.Seq.{sets}
 use Rattle.iisph_motion.specs.Changes.{PressureStateIs, acceleration_of}
 use Rattle.iisph_motion.specs.declared.acceleration.PressureState.{PressureState}
 use Rattle.iisph_motion.proofs.Accelerations.{acceleration_is}
 use Rattle.iisph_rows.specs.Rows.{vector_from}
-use Rattle.iisph_rules.proofs.Iterations.{chosen}
 use Rattle.lists.specs.Lists.{fold, table, choose}
-use Rattle.lists.proofs.Lists.{length-table, table_at, fold_same, fold_keeps, fold-table}
+use Rattle.lists.proofs.Lists.{length-table, table_at, fold_same, fold-table}
 use Rattle.lists.proofs.Numbering.{length_starts}
 use Rattle.math.specs.Vector.{Vector, ◌⊞◌, ◌⊡◌}
 use Rattle.scene_check.proofs.Accepted.{RecordNamed, accepted}
@@ -124,8 +123,9 @@ module _ {b index : List ℕ} (ix : Indexed b index) {d at : ℕ} (c : ForceCont
             ≡ answer_offset d (scene_of b) (named b at) + 1
         force_offset_lem = rw (we, entry_is, name.particle) (first_is.offset (rw entry_is at h))
 
-        pub force_room : d ≡ axes_of b → get_or forces r.model.0 0 + w * r.particle.0 + d ≤ answers_needed (scene_of b)
-        force_room axes =
+        pub force_room : d ≡ axes_of b → {m : ℕ} → answers_needed (scene_of b) ≤ m
+            → get_or forces r.model.0 0 + w * r.particle.0 + d ≤ m
+        force_room axes room =
             let t = named b at in
             omega (
               arith,
@@ -158,25 +158,6 @@ module _ (d : ℕ) (b : List ℕ) (at : ℕ) (state : PressureState) (l : List F
 pub force_contact : {d : ℕ} {b : List ℕ} {list : ContactList} → ForceContacts d b list → (k : ℕ) {w : ℕ}
     → w ≡ contact_width d → k < list.count → ForceContact d b (list.at + w * k)
 force_contact h k e l = rw e (h.each k l)
-
--- ---- lengths
-
-pub length-gathered : (d : ℕ) (s : Scene) (gain : Contact → Vector) (l : List Float) (c : Contact)
-    → length (gathered d s gain l c) ≡ length l
-unfolding gathered
-length-gathered d s gain l c =
-    let k = answer_offset d s c.target + 1 in
-    chosen (λ (x : List Float). length x ≡ length l) (boundary s c.target).keeps_forces _ l
-    (λ _. length-sets l k (vector_from d l k ⊞ gain c))
-    (λ _. refl)
-
-pub length-gathered_from : (d : ℕ) (s : Scene) (ps l : List Float) (i : ℕ) → length (gathered_from d s ps l i)
-    ≡ length l
-unfolding gathered_from
-length-gathered_from d s ps l i =
-    fold_keeps (λ (x : List Float). length x ≡ length l) (gathered d s (force_gain s ps i)) l
-    (particle s i).boundary_contacts refl
-    (λ c m x e. length-gathered d s (force_gain s ps i) x c ∙ e)
 
 -- ---- the contacts of a fluid particle
 

@@ -29,7 +29,7 @@ use Rattle.scene_format.specs.Scene.{Scene, Contact, fluid_size, boundary_size, 
 use Rattle.scene_format.specs.SceneOf.{contact_at, contact_list, fluid_particle_at, force_at, boundary_particle_at}
 use Rattle.scene_format.specs.SceneOf.{scene_of}
 use Rattle.scene_format.specs.declared.Kind.TheVariants.{Boundary}
-use Rattle.scene_format.specs.declared.Walk.TheVariants.{At}
+use Rattle.std.specs.declared.result.Result.TheVariants.{Ok}
 use Rattle.scene_layout.proofs.Locations.{boundary_at}
 use Rattle.scene_lengths.specs.Lengths.{fluid_answer_width, kept_answer_width, answer_width}
 use Rattle.scene_lengths.specs.Lengths.{boundary_answer_width, answers_needed}
@@ -240,7 +240,7 @@ module _ (d : ℕ) (s : Scene) (old : List Float) (room : answer_offset d s (bou
 
 -- ---- an accepted scene
 
-module _ (b : List ℕ) {e : ℕ} (q : checked b ≡ At e) where
+module _ (b : List ℕ) {e : ℕ} (q : checked b ≡ Ok e) where
   contacts_good : (i : ℕ) → i < fluid_size (scene_of b) → (c : Contact)
       → Memᴰ c (particle (scene_of b) i).boundary_contacts
       → (c.target < boundary_size (scene_of b)) × (length c.gradient ≡ axes_of b)

@@ -12,10 +12,11 @@ use lib.Dec.{eqb}
 use lib.Ieee.{Float}
 use lib.ListN.{length, get_or, set}
 use lib.Seq.{sets, length-sets}
-use borrow.Author.Tests.{eqb-true, eq-eqb, ne_eqb}
+use borrow.Author.Tests.{eqb-true}
 use Rattle.iisph_rows.specs.Passes.{volumes}
 use Rattle.iisph_rows.specs.Rows.{volumes_at, element_at, Behind}
 use Rattle.iisph_rows.proofs.RowReads.{volume_behind}
+use Rattle.iisph_rows.proofs.Volumes.{bit_one}
 use Rattle.iisph_rules.specs.Coefficients.{boundary_volume}
 use Rattle.iisph_rules.proofs.Iterations.{chosen}
 use Rattle.lists.specs.Lists.{table, choose}
@@ -29,12 +30,11 @@ use Rattle.scene_check.proofs.Accepted.{accepted_within}
 use Rattle.scene_check.proofs.Records.{boundary-particle_ok}
 use Rattle.scene_format.specs.Bytes.{AllFinite, vector_at}
 use Rattle.scene_format.specs.Format.{axes_of, nameable_models, model_number, particles_at, keeps_at, force_offset}
-use Rattle.scene_format.specs.Format.{counts_of}
-use Rattle.scene_format.specs.Format.{location_of}
+use Rattle.scene_format.specs.Format.{bit, counts_of, location_of}
 use Rattle.scene_format.specs.Scene.{Scene, fluid_size, boundary_size, boundary}
 use Rattle.scene_format.specs.SceneOf.{force_at, boundary_particle_at, scene_of}
 use Rattle.scene_format.specs.declared.Kind.TheVariants.{Boundary}
-use Rattle.scene_format.specs.declared.Walk.TheVariants.{At}
+use Rattle.std.specs.declared.result.Result.TheVariants.{Ok}
 use Rattle.scene_index.specs.Index.{Indexed}
 use Rattle.scene_index.specs.Runs.{BoundaryRun}
 use Rattle.scene_index.proofs.Runs.{before, keeps_at_lem, none_before, boundaries_before, start_before, count_next}
@@ -47,12 +47,6 @@ use Rattle.iisph_forces.proofs.Gathered.{with_length, initial_fits}
 use Rattle.iisph_forces.proofs.Offsets.{offset_next, offset_needed, offset_none, offset_in}
 
 -- ---- one particle
-
-pub kept_here : {t : Bool} {keeps : ℕ} → t ≡ eqb keeps 1 → keeps ≡ 1 → t ≡ true
-kept_here {keeps = keeps} e h = e ∙ eq-eqb keeps 1 h
-
-pub not_kept_here : {t : Bool} {keeps : ℕ} → t ≡ eqb keeps 1 → (keeps ≡ 1 → ⊥) → t ≡ false
-not_kept_here {keeps = keeps} e h = e ∙ ne_eqb keeps 1 h
 
 pub width_some : (d : ℕ) (s : Scene) (j : ℕ) → 1 ≤ width_at d s j
 unfolding boundary_answer_width answer_width
@@ -118,8 +112,10 @@ pub record BoundaryPut (d : ℕ) (b : List ℕ) (l : List Float) (first count p 
       ≡ sets l (answer_offset d (scene_of b) first) (flatten (table p (λ k. boundary_initial (scene_of b) (first + k))))
 
 module _ (d : ℕ) (b : List ℕ) (l : List Float) (first count : ℕ) where
-  pub none_put : {at : ℕ} → at ≡ answer_offset d (scene_of b) first → BoundaryPut d b l first count 0 at l
-  none_put e =
+  pub none_put : {at : ℕ} → at ≡ answer_offset d (scene_of b) first → {p : ℕ} → p ≡ 0
+      → BoundaryPut d b l first count p at l
+  none_put e z =
+      rw z
       record {
         within = omega arith;
         long = refl;
@@ -127,7 +123,7 @@ module _ (d : ℕ) (b : List ℕ) (l : List Float) (first count : ℕ) where
         stored = rw (rows_none (λ k. boundary_initial (scene_of b) (first + k)));
       }
 
-  module _ (axes : d ≡ axes_of b) {e : ℕ} (q : checked b ≡ At e) (fits : first + count ≤ boundary_size (scene_of b))
+  module _ (axes : d ≡ axes_of b) {e : ℕ} (q : checked b ≡ Ok e) (fits : first + count ≤ boundary_size (scene_of b))
       {p to : ℕ} {x : List Float} (here : BoundaryPut d b l first count p to x) where
     pub particle-room : p < count → answers_needed (scene_of b) ≤ length l
         → to + width_at d (scene_of b) (first + p) ≤ length x
@@ -195,22 +191,25 @@ module _ (d : ℕ) (b fs : List ℕ) (l : List Float) where
     boundary-room axes run = omega (arith, here.next, offset_needed b axes first (omega (arith, run.within)))
 
     module _ (h : w < model_number Boundary b) {heads : List ℕ} (turn : Turn Boundary b heads w) where
-      force_starts_lem : {keeps f : ℕ} → keeps ≡ keeps_at b (get_or heads w 0) → f ≡ choose (eqb keeps 1) (to + 1) 0
+      force_starts_lem : (keeps : Bool) {f : ℕ} → bit keeps ≡ keeps_at b (get_or heads w 0)
+          → f ≡ choose keeps (to + 1) 0
           → f ≡ force_start d b w
       unfolding force_start
-      force_starts_lem k e =
-          e ∙ rw (here.next, here.start, ← start_before Boundary b w h, k ∙ turn.keeps)
+      force_starts_lem keeps k e =
+          let kept = sym (bit_one keeps) ∙ ap (λ (n : ℕ). eqb n 1) (k ∙ turn.keeps) in
+          e ∙ rw (here.next, here.start, ← start_before Boundary b w h, kept)
 
-      pub one_more_boundary : d ≡ axes_of b → {e : ℕ} → checked b ≡ At e → {count keeps f r : ℕ} {y : List Float}
-          → BoundaryRun b first count keeps
+      pub one_more_boundary : d ≡ axes_of b → {e : ℕ} → checked b ≡ Ok e
+          → (keeps : Bool) {count f r : ℕ} {y : List Float}
+          → BoundaryRun b first count (bit keeps)
           → count ≡ particles_at Boundary b (get_or heads w 0)
-          → keeps ≡ keeps_at b (get_or heads w 0)
-          → f ≡ choose (eqb keeps 1) (to + 1) 0
+          → bit keeps ≡ keeps_at b (get_or heads w 0)
+          → f ≡ choose keeps (to + 1) 0
           → r ≡ answer_offset d (scene_of b) (first + count)
           → y ≡ sets x to (flatten (table count (λ p. boundary_initial (scene_of b) (first + p))))
           → InitialPut d b fs l (first + count) r (w + 1) (set gs w f) y
       unfolding answer_offset
-      one_more_boundary axes q {count} {keeps} {f} {r} {y} run c k fe re ye =
+      one_more_boundary axes q keeps {count} {f} {r} {y} run c k fe re ye =
           let s = scene_of b in
           let initial = boundary_initial s in
           let done = before (counts_of Boundary b) w in
@@ -227,7 +226,8 @@ module _ (d : ℕ) (b fs : List ℕ) (l : List Float) where
             long = ap length ye ∙ length-sets x to (flatten (table count (λ p. initial (first + p)))) ∙ here.long;
             next = re;
             starts =
-                one_more_in_front fs (force_start d b) (model_number Boundary b) here.starts h (force_starts_lem k fe);
+                one_more_in_front fs (force_start d b) (model_number Boundary b) here.starts h
+                (force_starts_lem keeps k fe);
             stored =
                 ye
                 ∙ rw (add-one w, more, ← here.start, rows-add first count initial, done_stored, at)
@@ -250,7 +250,7 @@ module _ (d : ℕ) (b fs : List ℕ) (l : List Float) where
 -- ---- what gathering finds
 
 module _ (d : ℕ) (b : List ℕ) where
-  pub starts_held : {e : ℕ} → checked b ≡ At e → (fs : List ℕ) → nameable_models ≤ length fs → {gs : List ℕ}
+  pub starts_held : {e : ℕ} → checked b ≡ Ok e → (fs : List ℕ) → nameable_models ≤ length fs → {gs : List ℕ}
       → gs ≡ sets fs 0 (force_starts d b) → ForcesKnown d b gs
   unfolding force_starts
   starts_held q fs room is =

@@ -72,14 +72,11 @@ fn gather_list(
         answers.new
         ≡ over_list Kind.Boundary dim b list (gathered dim s (state_gain s state)) answers.old }
 {
-    let count = list.count;
     let at = list.at;
     let width = contact_width(dim);
-    let mut k = 0usize;
-    while k < count {
+    for k in 0..list.count {
         let c = at + width * k;
         gather(scene, index, work, dim, n, c, state, forces, answers);
-        k += 1;
     }
 }
 
@@ -99,11 +96,9 @@ pub fn gather_all(
     ensures { let s = scene_of scene.now in
         answers.new ≡ gathered_all dim s (pressures_in dim n work.now) n answers.old }
 {
-    let mut i = 0usize;
-    while i < n {
+    for i in 0..n {
         let state = pressure_state_of(scene, index, work, dim, n, i);
         let list = contacts_of(scene, index, dim, Kind::Boundary, i);
         gather_list(scene, index, work, dim, n, list, state, forces, answers);
-        i += 1;
     }
 }

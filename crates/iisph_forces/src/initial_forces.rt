@@ -7,7 +7,7 @@ ghost use Rattle.iisph_pressures.specs.IterationRows.{Iterating};
 ghost use Rattle.iisph_rows.specs.Passes.{PassOver};
 ghost use Rattle.lists.specs.Lists.{choose, table};
 ghost use Rattle.scene_check.specs.Check.{Passed};
-ghost use Rattle.scene_format.specs.Format.{nameable_models};
+ghost use Rattle.scene_format.specs.Format.{bit, nameable_models};
 ghost use Rattle.scene_format.specs.Scene.{boundary_size, boundary};
 ghost use Rattle.scene_format.specs.SceneOf.{scene_of};
 ghost use Rattle.scene_index.specs.Runs.{BoundaryRun};
@@ -21,8 +21,8 @@ use scene_index::records::record_of;
 use scene_layout::Layout;
 use scene_lengths::{fluid_answer_width, kept_answer_width};
 
-// Volume and any force of boundary particle j, from element `at` on; where the next particle's answers begin. `keeps`
-// is 1 if its boundary keeps forces.
+// Volume and any force of boundary particle j, from element `at` on; where the next particle's answers begin; by
+// whether its boundary keeps forces.
 fn put_particle(
     scene: &[u8],
     index: &[usize],
@@ -30,20 +30,20 @@ fn put_particle(
     dim: u8,
     n: usize,
     j: usize,
-    keeps: usize,
+    keeps: bool,
     at: usize,
     answers: &mut [f64],
 ) -> usize
     requires pass_over { PassOver scene.now index.now dim n × Iterating (scene_of scene.now) dim n work.now }
     requires fact { let s = scene_of scene.now in
         (j < boundary_size s)
-        × ((boundary s j).keeps_forces ≡ eqb keeps 1)
+        × ((boundary s j).keeps_forces ≡ keeps)
         × (at + width_at dim s j ≤ length answers.old) }
     ensures { let s = scene_of scene.now in
         (result ≡ at + width_at dim s j) × (answers.new ≡ sets answers.old at (boundary_initial s j)) }
 {
     answers[at] = work[volume_at(work, dim, n, j)];
-    if keeps == 1 {
+    if keeps {
         let record = record_of(scene, index, Kind::Boundary, j);
         let force = read::vector(scene, record + vector_width(dim), dim);
         put_vector(answers, at + 1, force, dim);
@@ -63,13 +63,13 @@ fn put_boundary(
     n: usize,
     first: usize,
     count: usize,
-    keeps: usize,
+    keeps: bool,
     at: usize,
     answers: &mut [f64],
 ) -> usize
     requires pass_over { PassOver scene.now index.now dim n × Iterating (scene_of scene.now) dim n work.now }
     requires fact { let s = scene_of scene.now in
-        BoundaryRun scene.now first count keeps
+        BoundaryRun scene.now first count (bit keeps)
         × (at ≡ answer_offset dim s first)
         × (answers_needed s ≤ length answers.old) }
     ensures { let s = scene_of scene.now in
@@ -77,20 +77,18 @@ fn put_boundary(
         (result ≡ answer_offset dim s (first + count)) × (answers.new ≡ sets answers.old at initial) }
 {
     let mut to = at;
-    let mut p = 0usize;
-    while p < count {
-        to = put_particle(scene, index, work, dim, n, first + p, keeps, to, answers);
-        p += 1;
+    for j in first..first + count {
+        to = put_particle(scene, index, work, dim, n, j, keeps, to, answers);
     }
     to
 }
 
 // Where the first force of a boundary stands whose answers begin at an element, or 0.
-fn force_start(keeps: usize, at: usize) -> usize
+fn force_start(keeps: bool, at: usize) -> usize
     requires { at < 0x8000_0000_0000_0000 }
-    ensures { result ≡ choose (eqb keeps 1) (at + 1) 0 }
+    ensures { result ≡ choose keeps (at + 1) 0 }
 {
-    if keeps == 1 { at + 1 } else { 0 }
+    if keeps { at + 1 } else { 0 }
 }
 
 // Volumes and forces of all boundaries, behind the answers of n fluid particles; `forces` takes where the forces of
@@ -119,15 +117,13 @@ pub fn put_initial(
     let heads = boundaries.heads;
     let number = boundaries.number;
     let mut to = fluid_answer_width(dim) * n;
-    let mut first = 0usize;
-    let mut m = 0usize;
-    while m < number {
+    let mut first = 0;
+    for m in 0..number {
         let head = heads[m];
         let count = read::particles(scene, Kind::Boundary, head);
         let kept = read::keeps(scene, head);
         forces[m] = force_start(kept, to);
         to = put_boundary(scene, index, work, dim, n, first, count, kept, to, answers);
         first += count;
-        m += 1;
     }
 }

@@ -5,11 +5,11 @@
 ghost use Rattle.std.specs.Prelude.{◌≡◌, length};
 ghost use Rattle.scene_check.specs.Walk.{checked};
 ghost use Rattle.scene_format.specs.SceneOf.{scene_of};
-ghost use Rattle.scene_format.specs.declared.Walk.{Walk};
 ghost use Rattle.iisph_header.specs.Header.{StepHeaderIs};
+ghost use Rattle.std.specs.declared.result.Result.TheVariants.{Ok};
 
 use math::Vec3;
-use scene_fields::reader::{HeaderRead, header_numbers};
+use scene_fields::reader::header_numbers;
 use scene_format::format::{GRAVITY, MAX_PRESSURE_ITER, MIN_PRESSURE_ITER};
 use scene_format::read;
 use timestep_manager::{Clock, advance};
@@ -32,13 +32,11 @@ pub struct StepHeader {
 
 // The header of a scene that passed the check.
 pub fn step_header(scene: &[u8]) -> StepHeader
-    requires { checked scene.now ≡ Walk.At (length scene.now) }
+    requires { checked scene.now ≡ Ok (length scene.now) }
     ensures { StepHeaderIs (scene_of scene.now) result }
 {
-    // A scene that passed the check has its numbers, so the loop is never entered.
-    let HeaderRead::Numbers(numbers) = header_numbers(scene) else {
-        loop {}
-    };
+    // A scene that passed the check has its numbers.
+    let numbers = header_numbers(scene).unwrap();
     let clock = advance(Clock {
         total_step_size: numbers.total_step_size,
         dt: 0.0,

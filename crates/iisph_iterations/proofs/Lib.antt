@@ -1,3 +1,4 @@
 pub mod Averages
+pub mod Heads
 pub mod Iterated
 pub mod Solving

@@ -33,10 +33,8 @@ fn running_sum(work: &[f64], dim: u8, n: usize, from: usize, count: usize) -> f6
 {
     let start = terms_at(work, dim, n, from, count);
     let mut sum = 0.0;
-    let mut k = 0usize;
-    while k < count {
-        sum += work[start + k];
-        k += 1;
+    for x in &work[start..start + count] {
+        sum += *x;
     }
     sum
 }
@@ -50,8 +48,7 @@ fn term_sum(summation: Summation, work: &[f64], dim: u8, n: usize, from: usize, 
         Summation::InOrder => running_sum(work, dim, n, from, count),
         Summation::ByHalves => {
             let start = terms_at(work, dim, n, from, count);
-            let end = start + count;
-            sum_by_halves(&work[start..end])
+            sum_by_halves(&work[start..start + count])
         }
     }
 }
@@ -66,36 +63,33 @@ fn larger_or_nan(x: f64, y: f64) -> f64
     larger(x, y)
 }
 
-// The error so far, with one average more; `first` says that none was before.
+// The error with one average more; `before` is that of the averages before it, if there are any.
 fn with_average(
     criterion: Criterion,
-    first: bool,
-    error: IterationError,
+    before: Option<IterationError>,
     average: f64,
 ) -> IterationError
-    ensures { result ≡ joined criterion first error average }
+    ensures { result ≡ joined criterion before average }
 {
     match criterion {
-        Criterion::Salva => IterationError {
-            value: larger(error.value, average),
-            passed_over: error.passed_over || is_nan(average),
-        },
-        Criterion::Ihmsen => {
-            if first {
-                return IterationError {
-                    value: average,
-                    passed_over: false,
-                };
-            }
+        Criterion::Salva => {
+            let error = before.unwrap_or(NO_ERROR);
             IterationError {
-                value: larger_or_nan(error.value, average),
-                passed_over: false,
+                value: larger(error.value, average),
+                passed_over: error.passed_over || is_nan(average),
             }
         }
+        Criterion::Ihmsen => IterationError {
+            value: match before {
+                Some(error) => larger_or_nan(error.value, average),
+                None => average,
+            },
+            passed_over: false,
+        },
     }
 }
 
-// The error so far, with the average of a fluid whose first particle is `from`. An empty fluid has none.
+// The error of the averages so far, with that of a fluid whose first particle is `from`. An empty fluid has none.
 fn with_fluid(
     criterion: Criterion,
     summation: Summation,
@@ -104,17 +98,17 @@ fn with_fluid(
     n: usize,
     from: usize,
     count: usize,
-    error: IterationError,
-) -> IterationError
+    error: Option<IterationError>,
+) -> Option<IterationError>
     requires { Axes dim × (from + count ≤ n) × (volumes_at dim n ≤ length work.now) }
-    ensures { result ≡ with_fluid criterion summation from error count (terms_from work.now dim n from count) }
+    ensures { result ≡ with_fluid criterion summation error count (terms_from work.now dim n from count) }
 {
     if count == 0 {
         return error;
     }
     let sum = term_sum(summation, work, dim, n, from, count);
     let average = sum / nearest_u64_to_f64(count as u64);
-    with_average(criterion, from == 0, error, average)
+    Some(with_average(criterion, error, average))
 }
 
 // The error over the fluids of a scene, which have n particles in all.
@@ -128,16 +122,12 @@ pub fn max_error(scene: &[u8], layout: Layout, work: &[f64], dim: u8, n: usize) 
     let criterion = read::criterion(scene);
     let summation = read::summation(scene);
     let fluids = layout.fluids;
-    let heads = fluids.heads;
-    let number = fluids.number;
-    let mut error = NO_ERROR;
-    let mut from = 0usize;
-    let mut m = 0usize;
-    while m < number {
-        let count = read::particles(scene, Kind::Fluid, heads[m]);
+    let mut error = None;
+    let mut from = 0;
+    for &head in &fluids.heads[..fluids.number] {
+        let count = read::particles(scene, Kind::Fluid, head);
         error = with_fluid(criterion, summation, work, dim, n, from, count, error);
         from += count;
-        m += 1;
     }
-    error
+    error.unwrap_or(NO_ERROR)
 }

@@ -77,23 +77,17 @@ pub fn pressure_solve(
     let most = stopping.max_pressure_iter;
     let limit = stopping.max_density_error;
     let mut error = NO_ERROR;
-    let mut i = 0usize;
-    while i < most {
-        let number = i;
+    for i in 0..most {
         error = iterate(scene, layout, index, dim, n, dt, gravity, work);
-        i += 1;
-        if error.value <= limit {
-            if number >= least {
-                return Solved {
-                    iterations: i as u32,
-                    ending: Ending::Settled(error.value, error.passed_over),
-                };
-            }
+        if error.value <= limit && i >= least {
+            return Solved {
+                iterations: (i + 1) as u32,
+                ending: Ending::Settled(error.value, error.passed_over),
+            };
         }
     }
-    let ending = ending_after(i, error);
     Solved {
-        iterations: i as u32,
-        ending,
+        iterations: most as u32,
+        ending: ending_after(most, error),
     }
 }

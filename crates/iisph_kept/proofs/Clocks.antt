@@ -4,16 +4,17 @@ use mathlib.Core.Bool.{true, false, true≢false}
 use Rattle.timestep_manager.specs.declared.Clock.{Clock}
 use Rattle.timestep_manager.specs.Clock.{advanced}
 use Rattle.iisph_rules.specs.Answer.{is_done}
-use Rattle.iisph_rules.specs.declared.StepAnswer.{StepAnswer}
-use Rattle.iisph_rules.specs.declared.StepAnswer.TheVariants.{Done, Refused}
+use Rattle.iisph_rules.specs.Step.{StepAnswer}
+use Rattle.std.specs.Result.{is_ok}
+use Rattle.std.specs.declared.result.Result.TheVariants.{Ok, Err}
 use Rattle.iisph_kept.specs.Kept.{clock_after}
 
-pub moved : (r : StepAnswer) (h : Clock) → true ≡ is_done r → advanced h ≡ clock_after r h
-unfolding is_done clock_after
-moved (Done r) h e = refl
-moved (Refused r) h e = absurd (true≢false e)
+pub moved : (r : StepAnswer) (h : Clock) → true ≡ is_ok r → advanced h ≡ clock_after r h
+unfolding clock_after
+moved (Ok r) h e = refl
+moved (Err r) h e = absurd (true≢false e)
 
-pub kept : (r : StepAnswer) (h : Clock) → false ≡ is_done r → h ≡ clock_after r h
-unfolding is_done clock_after
-kept (Done r) h e = absurd (true≢false (sym e))
-kept (Refused r) h e = refl
+pub kept : (r : StepAnswer) (h : Clock) → false ≡ is_ok r → h ≡ clock_after r h
+unfolding clock_after
+kept (Ok r) h e = absurd (true≢false (sym e))
+kept (Err r) h e = refl

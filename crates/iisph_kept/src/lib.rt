@@ -2,23 +2,13 @@
 #![tactic(auto)]
 
 ghost use Rattle.std.specs.Prelude.{◌≡◌};
-ghost use Rattle.iisph_rules.specs.Answer.{is_done};
 ghost use Rattle.iisph_lent.specs.Step.{Steps};
 ghost use Rattle.iisph_kept.specs.Kept.{clock_after};
 
-use iisph_rules::StepAnswer;
+use iisph_rules::Report;
 use iisph_solver::step::step;
+use scene_format::Refusal;
 use timestep_manager::{Clock, advance_in_place};
-
-// Whether a step was done.
-fn is_done(answer: StepAnswer) -> bool
-    ensures { result ≡ is_done answer }
-{
-    match answer {
-        StepAnswer::Done(_) => true,
-        StepAnswer::Refused(_) => false,
-    }
-}
 
 // A step, over the one without a clock: where it is done the lent clock is moved on in the place where its caller keeps
 // it, and where it is refused the clock is as it was. The report's own clock is made from the scene's header.
@@ -27,12 +17,12 @@ pub fn step_keeping(
     clock: &mut Clock,
     answers: &mut [f64],
     work: &mut [f64],
-) -> StepAnswer
+) -> Result<Report, Refusal>
     ensures { Steps scene.now answers.old work.old result answers.new work.new
         × (clock.new ≡ clock_after result clock.old) }
 {
     let answer = step(scene, answers, work);
-    if is_done(answer) {
+    if answer.is_ok() {
         advance_in_place(clock);
     }
     answer

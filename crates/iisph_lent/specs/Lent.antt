@@ -4,8 +4,20 @@ use Rattle.std.specs.Prelude.{ℕ, ◌≡◌, Bool, false, ◌&&◌, List, leb, 
 use Rattle.lists.specs.Lists.{choose}
 use Rattle.scene_index.specs.Index.{index_needed}
 use Rattle.iisph_rules.specs.Answer.{step_answer, answers_after, clears_work, work_after}
-use Rattle.iisph_lent.specs.declared.LentAnswer.{LentAnswer}
-use Rattle.iisph_lent.specs.declared.LentAnswer.TheVariants.{Answered, ShortIndex}
+use Rattle.std.specs.declared.result.Result.{Result}
+use Rattle.std.specs.declared.result.Result.TheVariants.{Ok, Err}
+use Rattle.iisph_rules.specs.Step.{StepAnswer}
+use Rattle.iisph_rules.specs.declared.Report.{Report}
+use Rattle.iisph_lent.specs.declared.LentRefusal.{LentRefusal}
+use Rattle.iisph_lent.specs.declared.LentRefusal.TheVariants.{Refused, ShortIndex}
+
+abbrev pub LentAnswer : Type 0
+LentAnswer = Result Report LentRefusal
+
+-- what a step answers that has its index
+unfoldable pub answered : StepAnswer → LentAnswer
+answered (Ok report) = Ok report
+answered (Err r) = Err (Refused r)
 
 -- whether the passes, which begin unless 1 to 8 refused, lack an index: `index` is the length of the lent one
 unfoldable pub lacks_index : List ℕ → ℕ → ℕ → ℕ → Bool
@@ -13,7 +25,8 @@ lacks_index b answers work index = clears_work (step_answer b answers work) && l
 
 unfoldable pub lent_answer : List ℕ → ℕ → ℕ → ℕ → LentAnswer
 lent_answer b answers work index =
-    choose (lacks_index b answers work index) (ShortIndex (index_needed b)) (Answered (step_answer b answers work))
+    choose (lacks_index b answers work index) (Err (ShortIndex (index_needed b)))
+    (answered (step_answer b answers work))
 
 -- of the bytes b, the two lists and an index of this length: the answer r, and the lists afterwards, which are those of
 -- `Steps`, or untouched

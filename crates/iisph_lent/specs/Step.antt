@@ -7,7 +7,7 @@ use Rattle.scene_lengths.specs.Lengths.{answers_needed, work_needed}
 use Rattle.iisph_rules.specs.Answer.{step_answer, answers_after, work_after}
 use Rattle.iisph_rules.specs.Step.{answers_of, report_of}
 use Rattle.iisph_rules.specs.declared.Report.{Report}
-use Rattle.iisph_rules.specs.declared.StepAnswer.{StepAnswer}
+use Rattle.iisph_rules.specs.Step.{StepAnswer}
 
 -- of the bytes b and the two lists: the answer r, and the lists afterwards
 pub record Steps (b : List ℕ) (answers work : List Float) (r : StepAnswer) (answers' work' : List Float) : Type 0 where

@@ -13,6 +13,7 @@ ghost use Rattle.scene_check.specs.Check.{Passed};
 ghost use Rattle.scene_format.specs.SceneOf.{scene_of};
 ghost use Rattle.scene_index.specs.Index.{index_needed};
 ghost use Rattle.iisph_lent.specs.Lent.{StepsLent, IndexAfter};
+ghost use Rattle.iisph_lent.specs.declared.LentRefusal.TheVariants.{Refused};
 ghost use Rattle.iisph_lent.specs.Step.{Steps, Finishes};
 
 use iisph_forces::boundary_answers;
@@ -20,22 +21,31 @@ use iisph_header::{StepHeader, step_header};
 use iisph_iterations::pressure_solve::pressure_solve;
 use iisph_motion::answers::update_velocities_and_positions;
 use iisph_passes::traverse::{Pass, traverse};
-use iisph_preparation::{Readiness, prepare};
+use iisph_preparation::prepare;
 use iisph_rows::zeros::clear;
-use iisph_rules::{Report, StepAnswer};
-use scene_check::{Verdict, check};
+use iisph_rules::Report;
+use scene_check::check;
 use scene_format::Refusal;
 use scene_format::read::axes;
 use scene_index::index::index_needed;
 use scene_layout::Layout;
 use scene_lengths::lengths_of;
 
-// What a step answers that is lent its index.
+// Why a step that is lent its index is not done.
 #[derive(Clone, Copy)]
-pub enum LentAnswer {
-    Answered(StepAnswer),
+pub enum LentRefusal {
+    // The scene is refused, or a list is too short.
+    Refused(Refusal),
     // The index is too short; the scene needs one of this length.
     ShortIndex(usize),
+}
+
+impl From<Refusal> for LentRefusal {
+    ghost from_gives = { λ refusal answer. answer ≡ Refused refusal };
+
+    fn from(refusal: Refusal) -> LentRefusal {
+        LentRefusal::Refused(refusal)
+    }
 }
 
 // The iterations and what follows them. Nothing is refused any more, so the answer list is written; the work list is
@@ -92,7 +102,7 @@ pub fn step_long(
     answers: &mut [f64],
     work: &mut [f64],
     index: &mut [usize],
-) -> StepAnswer
+) -> Result<Report, Refusal>
     requires passed { Passed scene.now layout × LongEnough scene.now (length answers.old) (length work.old) }
     requires scene_in_bounds { index_needed scene.now ≤ length index.old }
     ensures { Steps scene.now answers.old work.old result answers.new work.new }
@@ -100,13 +110,8 @@ pub fn step_long(
     let header = step_header(scene);
     let dim = axes(scene);
     let n = layout.fluids.total;
-    let readiness = prepare(scene, layout, header, index, work);
-    match readiness {
-        Readiness::Refused(refusal) => StepAnswer::Refused(refusal),
-        Readiness::Ready => {
-            StepAnswer::Done(finish(scene, layout, index, dim, n, header, answers, work))
-        }
-    }
+    prepare(scene, layout, header, index, work)?;
+    Ok(finish(scene, layout, index, dim, n, header, answers, work))
 }
 
 // A step on a scene that its caller has checked.
@@ -116,7 +121,7 @@ fn step_accepted(
     answers: &mut [f64],
     work: &mut [f64],
     index: &mut [usize],
-) -> LentAnswer
+) -> Result<Report, LentRefusal>
     requires { Passed scene.now layout }
     ensures steps_lent { StepsLent scene.now answers.old work.old (length index.old) result
         answers.new work.new }
@@ -124,13 +129,13 @@ fn step_accepted(
         index.new }
 {
     if lists_short(scene, layout, answers.len(), work.len()) {
-        return LentAnswer::Answered(StepAnswer::Refused(Refusal::ShortList));
+        return Err(LentRefusal::Refused(Refusal::ShortList));
     }
     let needed = index_needed(scene, layout);
     if index.len() < needed {
-        return LentAnswer::ShortIndex(needed);
+        return Err(LentRefusal::ShortIndex(needed));
     }
-    LentAnswer::Answered(step_long(scene, layout, answers, work, index))
+    Ok(step_long(scene, layout, answers, work, index)?)
 }
 
 // A packed scene, one step on: the answers of every fluid and boundary particle in the answer list, and the report.
@@ -140,17 +145,12 @@ pub fn step_lent(
     answers: &mut [f64],
     work: &mut [f64],
     index: &mut [usize],
-) -> LentAnswer
+) -> Result<Report, LentRefusal>
     ensures steps_lent { StepsLent scene.now answers.old work.old (length index.old) result
         answers.new work.new }
     ensures index_after { IndexAfter scene.now answers.old work.old index.old
         index.new }
 {
-    let found = check(scene);
-    let verdict = found.verdict;
-    let layout = found.layout;
-    match verdict {
-        Verdict::Refused(refusal) => LentAnswer::Answered(StepAnswer::Refused(refusal)),
-        Verdict::Accepted => step_accepted(scene, layout, answers, work, index),
-    }
+    let layout = check(scene)?;
+    step_accepted(scene, layout, answers, work, index)
 }

@@ -20,7 +20,8 @@ use scene_layout::Models;
 use scene_lengths::answer_width;
 use timestep_manager::Clock;
 
-// An iteration's error, and 1 where an average was passed over, else 0.
+// An iteration's error, and 1 where an average was passed over, else 0, which are the C interface's numbers.
+#[tactic(auto, using(crate::proofs::Widths::length_error, iisph_words::proofs::WordWidths::double_ends))]
 fn put_error(out: &mut [u8], at: usize, error: f64, passed_over: u64) -> usize
     requires { at + length (error_words error passed_over) ≤ length out.old }
     ensures { Writes out.old at (error_words error passed_over) out.new result }
@@ -46,6 +47,7 @@ fn put_ending(out: &mut [u8], at: usize, iterations: u64, ending: Ending) -> usi
 }
 
 // The first line of a step that is done.
+#[tactic(auto, using(crate::proofs::Widths::length_step))]
 pub fn put_step(out: &mut [u8], at: usize, report: Report) -> usize
     requires { at + length (step_line report) ≤ length out.old }
     ensures { Writes out.old at (step_line report) out.new result }
@@ -57,6 +59,7 @@ pub fn put_step(out: &mut [u8], at: usize, report: Report) -> usize
 }
 
 // The second line of a step that is done.
+#[tactic(auto, using(crate::proofs::Widths::length_clock, iisph_words::proofs::WordWidths::double_ends))]
 pub fn put_clock(out: &mut [u8], at: usize, clock: Clock) -> usize
     requires { at + length (clock_line clock) ≤ length out.old }
     ensures { Writes out.old at (clock_line clock) out.new result }
@@ -79,6 +82,7 @@ pub fn put_refused(out: &mut [u8], at: usize, refusal: Refusal) -> usize
 }
 
 // The line of particle i of model m, whose w answers begin at the k-th element of a list.
+#[tactic(auto, using(crate::proofs::Widths::length_line))]
 fn put_particle(
     out: &mut [u8],
     at: usize,
@@ -115,12 +119,8 @@ fn put_model(
     ensures { Writes out.old at (model_text kind m n w k xs.now) out.new result }
 {
     let mut next = at;
-    let mut from = k;
-    let mut i = 0;
-    while i < n {
-        next = put_particle(out, next, kind, m, i, xs, from, w);
-        from += w;
-        i += 1;
+    for i in 0..n {
+        next = put_particle(out, next, kind, m, i, xs, k + w * i, w);
     }
     next
 }
@@ -142,18 +142,14 @@ pub fn put_models(
         Writes out.old at lines out.new result }
 {
     let dim = axes(scene);
-    let number = models.number;
-    let heads = models.heads;
+    let heads = &models.heads[..models.number];
     let mut next = at;
     let mut from = k;
-    let mut m = 0;
-    while m < number {
-        let head = heads[m];
+    for (m, &head) in heads.iter().enumerate() {
         let n = particles(scene, kind, head);
-        let w = answer_width(dim, kind, keeps(scene, head));
+        let w = answer_width(dim, kind, usize::from(keeps(scene, head)));
         next = put_model(out, next, kind, m, n, w, xs, from);
         from += w * n;
-        m += 1;
     }
     next
 }

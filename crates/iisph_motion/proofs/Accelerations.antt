@@ -7,7 +7,7 @@ use mathlib.Core.List.{List}
 use native.Mathlib.Omega.{arith}
 use lib.Ieee.{Float}
 use Rattle.iisph_pressures.specs.IterationRows.{row_share, pressures_in, IterationReady, Iterating}
-use Rattle.iisph_pressures.proofs.IterationReads.{density_in, mass_in, pressure_in}
+use Rattle.iisph_pressures.proofs.IterationReads.{density_in, mass_in, pressure_in, share_same}
 use Rattle.iisph_rows.specs.Passes.{PassOver}
 use Rattle.iisph_rows.specs.Rows.{density_slot, pressure_slot, mass_slot, row_at, volumes_at, element_at}
 use Rattle.iisph_rows.proofs.RowReads.{row_value, volume_behind}
@@ -34,9 +34,6 @@ pub pass_axes : {b index : List ℕ} {d n : ℕ} → PassOver b index d n → Ax
 pass_axes {b} pass = rw pass.axes (axes_of_lem b)
 
 -- ---- p / (rho × rho)
-
-share_same : {p p' r r' : Float} → p ≡ p' → r ≡ r' → p ⊘ (r ⊗ r) ≡ p' ⊘ (r' ⊗ r')
-share_same e q = rw (e, q)
 
 pub share_made : {s : Scene} {ps : List Float} {d n : ℕ} {work : List Float} → IterationReady s ps d n work
     → n ≡ fluid_size s

@@ -15,7 +15,7 @@ ghost use Rattle.iisph_motion.specs.Motions.{MotionIs};
 use crate::changes::final_change_of;
 use iisph_rows::rows::{pressure_slot, put_vector, row_at};
 use math::Vec3;
-use scene_format::format::{vector_width, wide};
+use scene_format::format::vector_width;
 use scene_format::{Kind, read};
 use scene_index::records::record_of;
 use scene_lengths::fluid_answer_width;
@@ -75,7 +75,7 @@ fn put_answer(
     let position = motion.position;
     let velocity = motion.velocity;
     let pressure = work[row_at(work, dim, i) + pressure_slot(dim)];
-    let axes = wide(dim);
+    let axes = usize::from(dim);
     let at = fluid_answer_width(dim) * i;
     put_vector(answers, at, position, dim);
     put_vector(answers, at + axes, velocity, dim);
@@ -101,9 +101,7 @@ pub fn update_velocities_and_positions(
         answers.new
         ≡ stored (fluid_answer_width dim) n 0 (fluid_answer s (coefficients s) ps) answers.old }
 {
-    let mut i = 0usize;
-    while i < n {
+    for i in 0..n {
         put_answer(scene, index, work, dim, n, dt, gravity, answers, i);
-        i += 1;
     }
 }

@@ -37,13 +37,11 @@ fn fluid_changes(
         coordinates dim result
         ≡ over_list Kind.Fluid dim b list (less_by (fluid_change (scene_of b) ps dt own)) (coordinates dim from) }
 {
-    let count = list.count;
     let at = list.at;
     let width = contact_width(dim);
     let shares = quotient_column(dim);
     let mut change = from;
-    let mut k = 0usize;
-    while k < count {
+    for k in 0..list.count {
         let c = at + width * k;
         let j = target_of(scene, index, Kind::Fluid, c);
         let m = work[row_at(work, dim, j) + MASS];
@@ -51,7 +49,6 @@ fn fluid_changes(
         change = change.sub(read::vector(scene, c + CONTACT_GRADIENT, dim).scale(
             dt * m * (own + share),
         ));
-        k += 1;
     }
     change
 }
@@ -74,15 +71,12 @@ fn boundary_changes(
         coordinates dim result
         ≡ over_list Kind.Boundary dim b list (less_by (boundary_change (scene_of b) dt state)) (coordinates dim from) }
 {
-    let count = list.count;
     let at = list.at;
     let width = contact_width(dim);
     let mut change = from;
-    let mut k = 0usize;
-    while k < count {
+    for k in 0..list.count {
         let c = at + width * k;
         change = change.sub(boundary_acceleration(scene, index, work, dim, n, c, state).scale(dt));
-        k += 1;
     }
     change
 }

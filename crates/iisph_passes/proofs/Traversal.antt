@@ -7,7 +7,6 @@ use mathlib.Core.List.{List, [], ◌∷◌}
 use native.Mathlib.Omega.{arith}
 use lib.Ieee.{Float, nan}
 use lib.ListN.{length, length-append}
-use Rattle.math.specs.Real.{◌⊗◌, ◌⊘◌, ⊝}
 use Rattle.math.specs.Vector.{Axes, Vector}
 use Rattle.lists.specs.Stores.{stored_at}
 use Rattle.lists.proofs.Lists.{table_same}
@@ -26,6 +25,7 @@ use Rattle.iisph_rows.proofs.RowStores.{slots_apart, in_row, in_column}
 use Rattle.iisph_coefficients.specs.Neighbours.{coefficient_row}
 use Rattle.iisph_pressures.specs.IterationRows.{pressures_in, dijs_in}
 use Rattle.iisph_pressures.specs.IterationRows.{IterationReady}
+use Rattle.iisph_pressures.proofs.IterationReads.{quotient_same, share_same}
 use Rattle.lists.proofs.Stores.{length-stored, stored_other, rows_kept, part_kept}
 use Rattle.iisph_passes.specs.Traverse.{slot_of, row_of, Ready, next_list}
 use Rattle.iisph_passes.specs.declared.traverse.Pass.{Pass}
@@ -52,12 +52,6 @@ row_fits axes DijPjl = omega arith
 row_fits axes NextPressures = omega arith
 row_fits axes Exchange = omega arith
 row_fits axes Shares = omega arith
-
-quotient_same : {m m' p p' r r' : Float} → m ≡ m' → p ≡ p' → r ≡ r' → ⊝ m ⊗ p ⊘ (r ⊗ r) ≡ ⊝ m' ⊗ p' ⊘ (r' ⊗ r')
-quotient_same e q s = rw (e, q, s)
-
-share_same : {p p' r r' : Float} → p ≡ p' → r ≡ r' → p ⊘ (r ⊗ r) ≡ p' ⊘ (r' ⊗ r')
-share_same e q = rw (e, q)
 
 -- slots from k on, c of them, beside those of a pass
 abbrev Beside : ℕ → Pass → ℕ → ℕ → Type 0

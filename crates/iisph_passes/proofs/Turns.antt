@@ -9,18 +9,21 @@ use lib.ListN.{length, set}
 use lib.Seq.{sets}
 use Rattle.math.specs.Vector.{Axes, Vector}
 use Rattle.lists.proofs.Stores.{slots_append}
-use Rattle.scene_format.specs.Scene.{Scene, fluid_size, particle}
+use Rattle.math.specs.declared.Vec3.{Vec3}
+use Rattle.scene_format.specs.Scene.{Scene, fluid_size, boundary_size, particle}
+use Rattle.scene_format.specs.SceneOf.{scene_of}
 use Rattle.iisph_rules.specs.Coefficients.{particle_mass, advected_velocity, coefficients_of, coefficients}
 use Rattle.iisph_rules.specs.Iteration.{dij_pjl, next_pressure}
-use Rattle.iisph_rows.specs.Rows.{row_at, row_width, slot_at, set_slots, mass_slot, dij_slot, pressure_slot, dii_slot}
+use Rattle.iisph_rows.specs.Rows.{volumes_at, row_at, row_width, slot_at, set_slots, mass_slot, dij_slot, pressure_slot}
 use Rattle.iisph_rows.specs.Rows.{density_slot, predicted_slot, aii_slot, quotient_slot, next_pressure_slot}
-use Rattle.iisph_rows.specs.Passes.{first_pressure}
+use Rattle.iisph_rows.specs.Passes.{DrivenPass, first_pressure}
 use Rattle.scene_lengths.specs.Lengths.{work_width}
 use Rattle.iisph_rows.proofs.RowStores.{row_set, column-set, column_first}
 use Rattle.iisph_coefficients.specs.Neighbours.{coefficient_row, CoefficientsAre}
 use Rattle.iisph_coefficients.specs.declared.coefficients.CoefficientsOf.{CoefficientsOf}
 use Rattle.iisph_pressures.specs.IterationRows.{pressures_in, dijs_in, row_quotient, row_share, NextIs}
 use Rattle.iisph_pressures.specs.declared.iteration.Next.{Next}
+use Rattle.iisph_pressures.proofs.IterationTerms.{axes-are}
 use Rattle.iisph_passes.specs.Traverse.{slot_of, row_of, coefficient_list, row_next}
 use Rattle.iisph_passes.specs.declared.traverse.Pass.{Pass}
 use Rattle.iisph_passes.specs.declared.traverse.Pass.TheVariants.{Advection, Coefficients, Quotients}
@@ -66,13 +69,18 @@ module _ (d n i : ℕ) where
       ∙ ap (λ (k : ℕ). set_slots d n i k (x ∷ y ∷ z ∷ []) (set_slots d n i (pressure_slot d) (p ∷ u) l)) behind
       ∙ sym (slots_append (slot_at d n i) (p ∷ u) (x ∷ y ∷ z ∷ []) l (pressure_slot d)))
 
--- ---- the columns are there
+-- ---- what a store of particle i asks: the number of axes, the particle, and room for rows and columns
+
+pub row_asked : {b index : List ℕ} {d n i m : ℕ} {t : Float} {g : Vec3} → DrivenPass b index d n t g × (i < n)
+    → volumes_at d n + boundary_size (scene_of b) ≤ m → Axes d × (i < n) × (volumes_at d n ≤ m)
+row_asked p room = (axes-are _ p.0.timed.over.axes, p.1, omega (arith, room))
 
 pub quotient_within : {d k : ℕ} → Axes d → k ≡ quotient_slot d → k < work_width d
 quotient_within axes e = omega arith
 
-pub next_within : {d k : ℕ} → Axes d → k ≡ next_pressure_slot d → k < work_width d
-next_within axes e = omega arith
+pub quotient_asked : {d n i m k : ℕ} → Axes d × (i < n) × (volumes_at d n ≤ m) → k ≡ quotient_slot d
+    → (k < work_width d) × (i < n) × (volumes_at d n ≤ m)
+quotient_asked h e = (quotient_within h.0 e, h.1, h.2)
 
 -- ---- each pass
 

@@ -151,9 +151,7 @@ pub fn traverse(
     ensures { let l = work.old in
         work.new ≡ stored dim n (slot_of dim pass) (row_of dim (scene_of scene.now) l pass) l }
 {
-    let mut i = 0usize;
-    while i < n {
+    for i in 0..n {
         update_row(pass, scene, index, dim, n, dt, gravity, work, i);
-        i += 1;
     }
 }

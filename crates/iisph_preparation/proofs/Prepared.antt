@@ -24,8 +24,8 @@ use Rattle.iisph_header.specs.declared.StepHeader.{StepHeader}
 use Rattle.iisph_rows.specs.Passes.{PassOver, DrivenPass}
 use Rattle.iisph_pressures.specs.IterationRows.{IterationReady}
 use Rattle.iisph_preparation.specs.Prepare.{work_prepared}
-use Rattle.iisph_preparation.specs.declared.Readiness.{Readiness}
-use Rattle.iisph_preparation.specs.declared.Readiness.TheVariants.{Ready, Refused}
+use Rattle.iisph_rules.specs.Step.{Readiness}
+use Rattle.std.specs.declared.result.Result.TheVariants.{Ok, Err}
 use Rattle.iisph_preparation.proofs.IterationStart.{iteration_ready}
 use Rattle.iisph_preparation.proofs.RowsFilled.{length-prepared, drop-prepared}
 
@@ -50,19 +50,19 @@ driven {b} {header = header} over h =
 pub beyond : (b : List ℕ) (work : List Float) (r : Readiness) → drop (work_needed (scene_of b)) (work_prepared b r work)
     ≡ drop (work_needed (scene_of b)) work
 unfolding work_prepared
-beyond b work Ready = drop-prepared b work (work_needed (scene_of b)) (omega (arith, work_least b))
-beyond b work (Refused r) = drop_at (replicate (work_needed (scene_of b)) +0) (drop (work_needed (scene_of b)) work)
+beyond b work (Ok _) = drop-prepared b work (work_needed (scene_of b)) (omega (arith, work_least b))
+beyond b work (Err r) = drop_at (replicate (work_needed (scene_of b)) +0) (drop (work_needed (scene_of b)) work)
     (work_needed (scene_of b)) (length-replicate (work_needed (scene_of b)) +0)
 
 -- what the iterations find, once the passes before them have refused nothing
 pub prepared_ready : (b : List ℕ) {d n : ℕ} → d ≡ axes_of b → n ≡ fluid_size (scene_of b) → (work : List Float)
     → work_needed (scene_of b) ≤ length work
-    → {r : Readiness} {x : List Float} → r ≡ Ready → x ≡ work_prepared b r work
+    → {r : Readiness} {x : List Float} → r ≡ Ok tt → x ≡ work_prepared b r work
     → IterationReady (scene_of b) (first_pressures (scene_of b)) d n x
 unfolding work_prepared
 prepared_ready b is size work h e q = rw (q, e, size, is) (iteration_ready b work (omega (arith, work_least b)))
 
-pub prepared_long : (b : List ℕ) (work : List Float) {r : Readiness} {x : List Float} → r ≡ Ready
+pub prepared_long : (b : List ℕ) (work : List Float) {r : Readiness} {x : List Float} → r ≡ Ok tt
     → x ≡ work_prepared b r work → length x ≡ length work
 unfolding work_prepared
 prepared_long b work e q = rw (q, e) (length-prepared b work)

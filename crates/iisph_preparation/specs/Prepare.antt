@@ -7,8 +7,8 @@ use Rattle.iisph_rows.specs.Passes.{volumes}
 use Rattle.iisph_rows.specs.Rows.{volumes_at}
 use Rattle.iisph_rules.specs.Step.{unless_zero, scene_answer}
 use Rattle.iisph_rules.specs.declared.Report.{Report}
-use Rattle.iisph_rules.specs.declared.StepAnswer.{StepAnswer}
-use Rattle.iisph_rules.specs.declared.StepAnswer.TheVariants as answer
+use Rattle.iisph_rules.specs.Step.{StepAnswer}
+use Rattle.std.specs.declared.result.Result.TheVariants.{Ok, Err}
 use Rattle.math.specs.Real.{+0}
 use Rattle.scene_format.specs.Scene.{Scene, fluid_size}
 use Rattle.scene_format.specs.SceneOf.{scene_of}
@@ -19,8 +19,7 @@ use Rattle.scene_index.specs.Index.{Indexed}
 use Rattle.scene_lengths.specs.Lengths.{work_needed}
 use Rattle.iisph_passes.specs.Traverse.{after_pass}
 use Rattle.iisph_passes.specs.declared.traverse.Pass.TheVariants as pass
-use Rattle.iisph_preparation.specs.declared.Readiness.{Readiness}
-use Rattle.iisph_preparation.specs.declared.Readiness.TheVariants.{Ready, Refused}
+use Rattle.iisph_rules.specs.Step.{Readiness}
 
 -- ---- the list
 
@@ -34,20 +33,20 @@ prepared d s work = rows_filled d s (sets work (volumes_at d (fluid_size s)) (vo
 
 -- a refused scene leaves +0 in the needed front part
 unfoldable pub work_prepared : List ℕ → Readiness → List Float → List Float
-work_prepared b Ready work = prepared (axes_of b) (scene_of b) work
-work_prepared b (Refused r) work = replicate (work_needed (scene_of b)) +0 ++ drop (work_needed (scene_of b)) work
+work_prepared b (Ok _) work = prepared (axes_of b) (scene_of b) work
+work_prepared b (Err r) work = replicate (work_needed (scene_of b)) +0 ++ drop (work_needed (scene_of b)) work
 
 -- ---- refusals 9 and 10
 
 -- what a step's answer says before its iterations
 unfoldable pub readiness : StepAnswer → Readiness
-readiness (answer.Done report) = Ready
-readiness (answer.Refused r) = Refused r
+readiness (Ok report) = Ok tt
+readiness (Err r) = Err r
 
 -- 9 over all densities, then 10 over all predicted densities; `at` gives the offset of a particle's record
 abbrev pub zero_answer : (ℕ → ℕ) → List Float → List Float → Report → StepAnswer
 zero_answer at densities predicted report =
-    unless_zero at ZeroDensity densities (unless_zero at ZeroPredictedDensity predicted (answer.Done report))
+    unless_zero at ZeroDensity densities (unless_zero at ZeroPredictedDensity predicted (Ok report))
 
 -- ---- all before the iterations, of the bytes b and a work list: the answer r, the index, and the list afterwards
 

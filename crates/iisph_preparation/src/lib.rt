@@ -21,7 +21,7 @@ use iisph_header::StepHeader;
 use iisph_passes::traverse::{Pass, traverse};
 use iisph_rows::boundary_volumes::compute_boundary_volumes;
 use iisph_rows::rows::{density_column, predicted_column};
-use iisph_rows::zeros::{Found, clear, first_zero};
+use iisph_rows::zeros::{clear, first_zero};
 use math::Vec3;
 use scene_format::read::axes;
 use scene_format::{Kind, Refusal};
@@ -29,13 +29,6 @@ use scene_index::index::fill;
 use scene_index::records::record_of;
 use scene_layout::Layout;
 use scene_lengths::lengths_of;
-
-// Whether the iterations can begin.
-#[derive(Clone, Copy)]
-pub enum Readiness {
-    Ready,
-    Refused(Refusal),
-}
 
 // The masses, advected velocities, coefficients and first pressures of every particle. The boundary volumes are there.
 fn fill_rows(
@@ -57,34 +50,26 @@ fn fill_rows(
 
 // Two searches, one after the other: refusal 9 in the densities, 10 in the predicted ones. Each gives the offset of the
 // particle's record.
-fn zero_refusal(scene: &[u8], index: &[usize], dim: u8, n: usize, work: &[f64]) -> Readiness
+fn zero_refusal(
+    scene: &[u8],
+    index: &[usize],
+    dim: u8,
+    n: usize,
+    work: &[f64],
+) -> Result<(), Refusal>
     requires { PassOver scene.now index.now dim n × (volumes_at dim n ≤ length work.now) }
     ensures { (report : Report) →
         (let at : ℕ → ℕ = λ i. (location_of Fluid scene.now i).at in
         let l = work.now in
         result ≡ readiness (zero_answer at (column n (density_slot dim) l) (column n (predicted_slot dim) l) report)) }
 {
-    let density = first_zero(work, dim, n, density_column(dim));
-    match density {
-        Found::At(i) => Readiness::Refused(Refusal::ZeroDensity(record_of(
-            scene,
-            index,
-            Kind::Fluid,
-            i,
-        ))),
-        Found::Nothing => {
-            let predicted = first_zero(work, dim, n, predicted_column(dim));
-            match predicted {
-                Found::At(j) => Readiness::Refused(Refusal::ZeroPredictedDensity(record_of(
-                    scene,
-                    index,
-                    Kind::Fluid,
-                    j,
-                ))),
-                Found::Nothing => Readiness::Ready,
-            }
-        }
+    if let Some(i) = first_zero(work, dim, n, density_column(dim)) {
+        return Err(Refusal::ZeroDensity(record_of(scene, index, Kind::Fluid, i)));
     }
+    if let Some(i) = first_zero(work, dim, n, predicted_column(dim)) {
+        return Err(Refusal::ZeroPredictedDensity(record_of(scene, index, Kind::Fluid, i)));
+    }
+    Ok(())
 }
 
 // The passes, then the refusals, after which the part of the work list that the scene needs is +0.
@@ -97,7 +82,7 @@ fn prepare_rows(
     dt: f64,
     gravity: Vec3,
     work: &mut [f64],
-) -> Readiness
+) -> Result<(), Refusal>
     requires driven_pass { DrivenPass scene.now index.now dim n dt gravity }
     requires passed { Passed scene.now layout × (work_needed (scene_of scene.now) ≤ length work.old) }
     ensures { let b = scene.now in
@@ -107,14 +92,11 @@ fn prepare_rows(
     compute_boundary_volumes(scene, layout, index, dim, n, work);
     fill_rows(scene, index, dim, n, dt, gravity, work);
     let answer = zero_refusal(scene, index, dim, n, work);
-    match answer {
-        Readiness::Ready => Readiness::Ready,
-        Readiness::Refused(refusal) => {
-            let needed = lengths_of(scene, layout).work;
-            clear(work, needed);
-            Readiness::Refused(refusal)
-        }
+    if answer.is_err() {
+        let needed = lengths_of(scene, layout).work;
+        clear(work, needed);
     }
+    answer
 }
 
 // The index of the scene in a lent list, and its rows, columns and volumes.
@@ -124,7 +106,7 @@ pub fn prepare(
     header: StepHeader,
     index: &mut [usize],
     work: &mut [f64],
-) -> Readiness
+) -> Result<(), Refusal>
     requires passed { Passed scene.now layout × StepHeaderIs (scene_of scene.now) header }
     requires scene_in_bounds { (index_needed scene.now ≤ length index.old)
         × (work_needed (scene_of scene.now) ≤ length work.old) }

@@ -59,10 +59,13 @@ module _ {s : Scene} {ps : List Float} {d n : ℕ} {work : List Float} (q : Iter
   pub mass_in : element_at work (row_at d j + mass_slot) ≡ particle_mass (particle s j)
   mass_in = row_value d (λ i. particle_mass (particle s i)) q.mass (omega arith) j h
 
--- ---- quotients
+-- ---- quotients, and shares
 
-quotient_same : {m m' p p' r r' : Float} → m ≡ m' → p ≡ p' → r ≡ r' → ⊝ m ⊗ p ⊘ (r ⊗ r) ≡ ⊝ m' ⊗ p' ⊘ (r' ⊗ r')
+pub quotient_same : {m m' p p' r r' : Float} → m ≡ m' → p ≡ p' → r ≡ r' → ⊝ m ⊗ p ⊘ (r ⊗ r) ≡ ⊝ m' ⊗ p' ⊘ (r' ⊗ r')
 quotient_same e q s = rw (e, q, s)
+
+pub share_same : {p p' r r' : Float} → p ≡ p' → r ≡ r' → p ⊘ (r ⊗ r) ≡ p' ⊘ (r' ⊗ r')
+share_same e q = rw (e, q)
 
 pub quotient_made : {s : Scene} {ps : List Float} {d n : ℕ} {work : List Float} → IterationReady s ps d n work
     → n ≡ fluid_size s → (i : ℕ) → i < n

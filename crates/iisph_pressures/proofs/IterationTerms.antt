@@ -1,7 +1,7 @@
 -- What an iteration computes of a particle is the rules': a term is that of the row which the contact names, and a sum
 -- over a list of contacts is one over the particle's. Each law is over variables for the results of the code's calls.
 -- Assumes nothing.
-use Prim.Native.Nat.{ℕ, ◌+◌, ◌*◌, ◌<◌, ◌≤◌}
+use Prim.Native.Nat.{ℕ, ◌+◌, ◌*◌, ◌<◌}
 use mathlib.Core.Path.{◌≡◌, refl, sym, ap, ◌∙◌, subst}
 use mathlib.Core.Bool.{Bool, true, false, cond}
 use mathlib.Core.List.{List}
@@ -10,7 +10,7 @@ use lib.Ieee
 use lib.Ieee.{Float}
 use lib.ListN.{length}
 use Rattle.math.specs.Real.{◌⊕◌, ◌⊖◌, ◌⊗◌, ◌⊘◌, +0, half, magnitude}
-use Rattle.math.specs.Vector.{Axes, plane, Vector, coordinates, origin, ◌⊞◌, ◌⊟◌, ◌⊡◌, ◌·◌}
+use Rattle.math.specs.Vector.{Axes, Vector, coordinates, origin, ◌⊞◌, ◌⊟◌, ◌⊡◌, ◌·◌}
 use Rattle.lists.specs.Lists.{fold, choose}
 use Rattle.scene_format.specs.Bytes.{vector_at}
 use Rattle.scene_format.specs.Scene.{Scene, FluidParticle, Contact, fluid_size, particle}
@@ -28,8 +28,8 @@ use Rattle.iisph_pressures.specs.IterationRows.{with_dij}
 use Rattle.iisph_pressures.specs.IterationRows.{OwnerIs, row_term, fluid_term, boundary_term, with_term, next_from}
 use Rattle.iisph_pressures.specs.IterationRows.{NextIs}
 use Rattle.scene_index.specs.Contacts.{TargetReady, over_first, over_list}
-use Rattle.iisph_rows.specs.Rows.{row_at, volumes_at, element_at, vector_from, mass_slot, pressure_slot, dij_slot}
-use Rattle.iisph_rows.specs.Rows.{dii_slot, density_slot, predicted_slot, aii_slot, quotient_slot, Rows}
+use Rattle.iisph_rows.specs.Rows.{volumes_at, element_at}
+use Rattle.iisph_rows.specs.Rows.{predicted_slot, aii_slot, quotient_slot, Rows}
 use Rattle.scene_format.specs.Format.{axes_of, rule_of, criterion_of, contact_width, gradient_offset, starts_of}
 use Rattle.scene_index.specs.declared.contacts.ContactList.{ContactList}
 use Rattle.iisph_pressures.specs.declared.iteration.Next.{Next}
@@ -48,9 +48,6 @@ use Rattle.iisph_rows.proofs.RowReads.{row_vector, column_value, volume_behind}
 
 pub axes-are : (b : List ℕ) {d : ℕ} → d ≡ axes_of b → Axes d
 axes-are b e = rw e (axes_of_lem b)
-
-pub many_axes : (b : List ℕ) {d : ℕ} → d ≡ axes_of b → plane ≤ d
-many_axes b e = (axes-are b e).least
 
 -- ---- dij_pjl
 
@@ -78,17 +75,6 @@ dij_made {b} {d} {p} axes h ps {t} te xe ye =
     ∙ ap (λ (t : Float). dij_sum (scene_of b) (coefficients (scene_of b)) ps p ⊡ (t ⊗ t)) te
 
 -- ---- terms of the pressure sum
-
--- a row's term, from the results of the code's calls, the last first
-pub row_term_made : (d : ℕ) (work : List Float) (j : ℕ) (owner : Owner) (g : Vector) {row slot second : ℕ}
-    {v u x y z w t : Vector} {r : Float}
-    → row ≡ row_at d j → slot ≡ dii_slot d → second ≡ pressure_slot d
-    → r ≡ t · g → t ≡ x ⊟ w → w ≡ y ⊟ z ⊡ owner.pressure → z ≡ g ⊡ owner.factor
-    → y ≡ vector_from d work (row + dij_slot)
-    → x ≡ coordinates d owner.dij ⊟ u → u ≡ v ⊡ element_at work (row + second) → v ≡ vector_from d work (row + slot)
-    → element_at work (row + mass_slot) ⊗ r ≡ row_term d work j owner g
-row_term_made d work j owner g e₁ e₂ e₃ e₄ e₅ e₆ e₇ e₈ e₉ e₁₀ e₁₁ =
-    rw (e₄, e₅, e₆, e₇, e₈, e₉, e₁₀, e₁₁, e₁, e₂, e₃)
 
 term_same : {m m' q q' : Float} {d d' x x' : Vector} (own g : Vector) (e p : Float) → m ≡ m' → q ≡ q' → d ≡ d' → x ≡ x'
     → m ⊗ (((own ⊟ d ⊡ q) ⊟ (x ⊟ (g ⊡ e) ⊡ p)) · g) ≡ m' ⊗ (((own ⊟ d' ⊡ q') ⊟ (x' ⊟ (g ⊡ e) ⊡ p)) · g)

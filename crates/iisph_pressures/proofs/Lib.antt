@@ -1,2 +1,3 @@
+pub mod ContactTurns
 pub mod IterationReads
 pub mod IterationTerms

@@ -56,19 +56,16 @@ fn dij_sum(
         let ps = pressures_in dim n work.now in
         coordinates dim result ≡ over_list Kind.Fluid dim b list (with_dij (scene_of b) ps) (origin dim) }
 {
-    let count = list.count;
     let at = list.at;
     let width = contact_width(dim);
     let quotients = quotient_column(dim);
     let mut sum = Vec3::zero();
-    let mut k = 0usize;
-    while k < count {
+    for k in 0..list.count {
         let c = at + width * k;
         let j = target_of(scene, index, Kind::Fluid, c);
         let g = read::vector(scene, c + CONTACT_GRADIENT, dim);
         let place = column_at(work, dim, n, quotients, j);
         sum = sum.add(g.scale(work[place]));
-        k += 1;
     }
     sum
 }
@@ -167,16 +164,13 @@ fn fluid_pressure_sum(
         let term = fluid_term dim (scene_of b) (pressures_in dim n l) (dijs_in dim n l) owner in
         result ≡ over_list Kind.Fluid dim b list (with_term term) +0 }
 {
-    let count = list.count;
     let at = list.at;
     let width = contact_width(dim);
     let mut sum = 0.0;
-    let mut k = 0usize;
-    while k < count {
+    for k in 0..list.count {
         let c = at + width * k;
         let j = target_of(scene, index, Kind::Fluid, c);
-        sum = sum + fluid_term(scene, work, dim, j, owner, c);
-        k += 1;
+        sum += fluid_term(scene, work, dim, j, owner, c);
     }
     sum
 }
@@ -198,19 +192,16 @@ fn boundary_pressure_sum(
         let term = boundary_term (scene_of b) list.density0 (coordinates dim d) in
         result ≡ over_list Kind.Boundary dim b list (with_term term) from }
 {
-    let count = list.count;
     let at = list.at;
     let density0 = list.density0;
     let width = contact_width(dim);
     let mut sum = from;
-    let mut k = 0usize;
-    while k < count {
+    for k in 0..list.count {
         let c = at + width * k;
         let j = target_of(scene, index, Kind::Boundary, c);
         let g = read::vector(scene, c + CONTACT_GRADIENT, dim);
         let place = volume_at(work, dim, n, j);
-        sum = sum + work[place] * density0 * d.dot(g, dim);
-        k += 1;
+        sum += work[place] * density0 * d.dot(g, dim);
     }
     sum
 }

@@ -34,6 +34,10 @@ few_axes b e = rw e (axes_of_lem b).most
 
 -- ---- the particle's record, where the index says
 
+-- the record of particle i may be read at an offset
+abbrev pub RecordOk : List ℕ → ℕ → ℕ → Type 0
+RecordOk b i at = FluidParticleOk b (record { head = (location_of Fluid b i).head; at = at }) i
+
 module _ {b index : List ℕ} {d n : ℕ} (pass : PassOver b index d n) {i : ℕ} (h : i < n) where
   pub fluid_below : i < fluid_size (scene_of b)
   fluid_below = omega (arith, pass.size)
@@ -51,8 +55,7 @@ module _ {b index : List ℕ} {d n : ℕ} (pass : PassOver b index d n) {i : ℕ
       → FluidParticleOk b (record { head = head; at = at }) i
   over_here = particle_here pass.indexed i fluid_below
 
-  pub record_here : {at : ℕ} → at ≡ (location_of Fluid b i).at
-      → FluidParticleOk b (record { head = (location_of Fluid b i).head; at = at }) i
+  pub record_here : {at : ℕ} → at ≡ (location_of Fluid b i).at → RecordOk b i at
   record_here e = over_here e refl
 
 -- ---- the rules' values from the doubles of a record, where the code has d for the number of axes

@@ -1,32 +1,36 @@
 -- Boundary volumes as the code finds them: a sum of weights taken one by one, the volume of one record, and one
 -- boundary's run of volumes behind those done. By what the scene says of a record. Assumes nothing.
-use Prim.Native.Nat.{ℕ, suc, ◌+◌, ◌*◌, ◌<◌, ◌≤◌}
+use Prim.Native.Nat.{ℕ, suc, ◌+◌, ◌<◌, ◌≤◌}
 use mathlib.Core.Path.{◌≡◌, refl, sym, ap, ◌∙◌}
 use mathlib.Core.Bool.{Bool, true, false, cond}
 use mathlib.Core.List.{List}
 use native.Mathlib.Nat.{le_antisymm}
 use native.Mathlib.Numerals.{add-one}
 use native.Mathlib.Omega.{arith}
+use lib.Dec.{eqb}
 use lib.Ieee.{Float}
-use lib.ListN.{length, get_or}
+use lib.ListN.{length, get_or, take}
 use lib.Seq.{sets, length-sets}
 use Rattle.iisph_rules.specs.Coefficients.{volume_from, boundary_volume}
 use Rattle.lists.specs.Lists.{table}
 use Rattle.lists.proofs.Fills.{sets-append}
 use Rattle.lists.proofs.Lists.{fold-table, length-table, table-add}
 use Rattle.math.specs.Real.{◌⊕◌, ◌⊘◌, +0, one, is_zero, total}
+use Rattle.scene_check.specs.Check.{Passed}
+use Rattle.scene_check.proofs.Accepted.{accepted_within}
+use Rattle.scene_check.proofs.Checks.{boundaries_are}
 use Rattle.scene_check.proofs.Records.{boundary-particle_ok}
-use Rattle.scene_format.specs.Bytes.{byte_at, FiniteAt}
-use Rattle.scene_format.specs.Format.{axes_of, model_number, boundary_contact_width, weight_offset}
-use Rattle.scene_format.specs.Format.{boundary_count_offset}
-use Rattle.scene_format.specs.Format.{counts_of}
-use Rattle.scene_format.specs.Format.{location_of}
+use Rattle.scene_format.specs.Bytes.{byte_at}
+use Rattle.scene_format.specs.Format.{axes_of, bit, most_models, model_number, boundary_count_offset}
+use Rattle.scene_format.specs.Format.{counts_of, location_of}
 use Rattle.scene_format.specs.Scene.{Scene, size_of, boundary}
 use Rattle.scene_format.specs.SceneOf.{boundary_weights, boundary_particle_at, scene_of}
 use Rattle.scene_format.specs.declared.Kind.TheVariants.{Boundary}
 use Rattle.scene_index.specs.Index.{Indexed}
 use Rattle.scene_index.specs.Runs.{BoundaryRun}
 use Rattle.scene_index.proofs.Runs.{before, none_before, boundaries_before, count_next}
+use Rattle.scene_layout.proofs.Turns.{Turn, number_few, length_front as front_length, front_turn}
+use Rattle.scene_layout.specs.declared.Layout.{Layout}
 use Rattle.scene_walk.specs.Accepted.{BoundaryRecordOk}
 use Rattle.iisph_rows.specs.Passes.{volumes, volume_at}
 
@@ -36,16 +40,6 @@ use Rattle.iisph_rows.specs.Passes.{volumes, volume_at}
 pub sum_next : (w : ℕ → Float) (j : ℕ) {sum x : Float} → sum ≡ total +0 (table j w) → x ≡ w j
     → sum ⊕ x ≡ total +0 (table (j + 1) w)
 sum_next w j e q = rw (e, q, add-one j) (sym (fold-table ◌⊕◌ +0 j w))
-
-pub sum_all : (w : ℕ → Float) {n j : ℕ} {sum : Float} → sum ≡ total +0 (table j w) → j ≤ n → n ≤ j
-    → sum ≡ total +0 (table n w)
-sum_all w e h l = e ∙ ap (λ (i : ℕ). total +0 (table i w)) (le_antisymm h l)
-
--- the weights of a record are finite, where the code has found how many there are
-pub weights_here : {b : List ℕ} {k at n count j : ℕ} → BoundaryRecordOk b k at
-    → count ≡ boundary_count_offset (axes_of b) k → n ≡ byte_at b (at + count) → j < n
-    → FiniteAt b (at + (count + 1) + boundary_contact_width * j + weight_offset)
-weights_here {j = j} h ce ne l = rw ce (h.weights j (rw (ne, ce) at l))
 
 -- 1 / the sum, or 0
 module _ (b : List ℕ) (k at : ℕ) {n count : ℕ} {sum : Float} (ce : count ≡ boundary_count_offset (axes_of b) k)
@@ -61,6 +55,11 @@ module _ (b : List ℕ) (k at : ℕ) {n count : ℕ} {sum : Float} (ce : count �
   volume_inverse z = ap (λ (t : Bool). cond t +0 (one ⊘ sum)) z ∙ volume_is
 
 -- ---- one boundary
+
+-- whether it keeps forces, as the number that its head has
+pub bit_one : (keeps : Bool) → eqb (bit keeps) 1 ≡ keeps
+bit_one true = refl
+bit_one false = refl
 
 module _ {b index : List ℕ} (ix : Indexed b index) {first count keeps : ℕ} (run : BoundaryRun b first count keeps)
     {p : ℕ} (h : p < count) where
@@ -86,6 +85,18 @@ module _ {b index : List ℕ} (ix : Indexed b index) {first count keeps : ℕ} (
         )
 
 -- ---- boundary after boundary
+
+-- the turns of a loop over the front of the heads, as long as there are boundaries
+module _ {b : List ℕ} {layout : Layout} (passed : Passed b layout) where
+  pub few_boundaries : layout.boundaries.number ≤ most_models
+  few_boundaries = number_few (accepted_within b passed.walk Boundary) (boundaries_are b passed.layout_is)
+
+  pub length_front : length (take layout.boundaries.number layout.boundaries.heads) ≡ model_number Boundary b
+  length_front = front_length (accepted_within b passed.walk Boundary) (boundaries_are b passed.layout_is)
+
+  pub turn_in_front : (m : ℕ) → m < length (take layout.boundaries.number layout.boundaries.heads)
+      → Turn Boundary b (take layout.boundaries.number layout.boundaries.heads) m
+  turn_in_front = front_turn (accepted_within b passed.walk Boundary) (boundaries_are b passed.layout_is)
 
 abbrev volumes_from : Scene → ℕ → ℕ → List Float
 volumes_from s first count = table count (λ p. boundary_volume (boundary s (first + p)))

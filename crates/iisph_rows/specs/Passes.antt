@@ -11,8 +11,8 @@ use Rattle.scene_format.specs.Scene.{Scene, fluid_size, boundary_size, particle,
 use Rattle.scene_format.specs.SceneOf.{boundary_weights, scene_of}
 use Rattle.scene_index.specs.Index.{Indexed}
 use Rattle.iisph_rows.specs.Rows.{volumes_at, dij_slot, mass_slot, Rows, Behind}
-use Rattle.iisph_rows.specs.declared.zeros.Found.{Found}
-use Rattle.iisph_rows.specs.declared.zeros.Found.TheVariants.{At, Nothing}
+use Rattle.std.specs.declared.option.Option.{Option}
+use Rattle.std.specs.declared.option.Option.TheVariants.{Some, None}
 
 -- ---- what a pass may rely on
 
@@ -66,5 +66,5 @@ pub record CoefficientsReady (s : Scene) (d n : ℕ) (work : List Float) : Type 
 
 -- ---- a number below n, or none
 
-unfoldable pub found_below : ℕ → ℕ → Found
-found_below n i = choose (ltb i n) (At i) Nothing
+unfoldable pub found_below : ℕ → ℕ → Option ℕ
+found_below n i = choose (ltb i n) (Some i) None

@@ -7,7 +7,7 @@ ghost use Rattle.lists.specs.Lists.{table};
 ghost use Rattle.math.specs.Real.{+0, total};
 ghost use Rattle.scene_check.specs.Check.{Passed};
 ghost use Rattle.scene_format.specs.Bytes.{FiniteAt};
-ghost use Rattle.scene_format.specs.Format.{boundary_contact_width, weight_offset};
+ghost use Rattle.scene_format.specs.Format.{bit, boundary_contact_width, weight_offset};
 ghost use Rattle.scene_format.specs.Scene.{fluid_size, boundary};
 ghost use Rattle.scene_format.specs.SceneOf.{boundary_weights, scene_of};
 ghost use Rattle.scene_index.specs.Index.{Indexed};
@@ -30,18 +30,16 @@ fn weight_sum(scene: &[u8], n: usize, at: usize) -> f64
     ensures { result ≡ total +0 (boundary_weights scene.now n at) }
 {
     let mut sum = 0.0;
-    let mut j = 0;
-    while j < n {
-        sum = sum + double(scene, at + BOUNDARY_CONTACT_WIDTH * j + CONTACT_WEIGHT);
-        j += 1;
+    for j in 0..n {
+        sum += double(scene, at + BOUNDARY_CONTACT_WIDTH * j + CONTACT_WEIGHT);
     }
     sum
 }
 
-// The volume of the particle whose record is at an offset, of a boundary that keeps forces if `keeps` is 1.
-fn volume(scene: &[u8], keeps: usize, at: usize) -> f64
-    requires { (keeps < 2) × BoundaryRecordOk scene.now keeps at }
-    ensures { result ≡ volume_at scene.now keeps at }
+// The volume of the particle whose record is at an offset, by whether its boundary keeps forces.
+fn volume(scene: &[u8], keeps: bool, at: usize) -> f64
+    requires { BoundaryRecordOk scene.now (bit keeps) at }
+    ensures { result ≡ volume_at scene.now (bit keeps) at }
 {
     let count = boundary_count(axes(scene), keeps);
     let n = byte(scene, at + count);
@@ -59,20 +57,18 @@ fn put_volumes(
     index: &[usize],
     first: usize,
     count: usize,
-    keeps: usize,
+    keeps: bool,
     k: usize,
     work: &mut [f64],
 )
     requires indexed { Indexed scene.now index.now }
-    requires boundary_run { BoundaryRun scene.now first count keeps × (k + count ≤ length work.old) }
+    requires boundary_run { BoundaryRun scene.now first count (bit keeps) × (k + count ≤ length work.old) }
     ensures { let s = scene_of scene.now in
         work.new ≡ sets work.old k (table count (λ p. boundary_volume (boundary s (first + p)))) }
 {
-    let mut p = 0;
-    while p < count {
+    for p in 0..count {
         let at = record_of(scene, index, Kind::Boundary, first + p);
         work[k + p] = volume(scene, keeps, at);
-        p += 1;
     }
 }
 
@@ -91,12 +87,8 @@ pub fn compute_boundary_volumes(
 {
     let behind = work_width(dim) * n;
     let boundaries = layout.boundaries;
-    let heads = boundaries.heads;
-    let number = boundaries.number;
     let mut first = 0;
-    let mut m = 0;
-    while m < number {
-        let head = heads[m];
+    for &head in &boundaries.heads[..boundaries.number] {
         let count = particles(scene, Kind::Boundary, head);
         put_volumes(
             scene,
@@ -108,6 +100,5 @@ pub fn compute_boundary_volumes(
             work,
         );
         first += count;
-        m += 1;
     }
 }

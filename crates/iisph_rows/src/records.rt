@@ -1,5 +1,5 @@
-// What a pass takes of a fluid particle's own record: mass, velocity with its change before the pressures, and first
-// pressure.
+// What a pass takes of a fluid particle's own record: mass, first pressure, and velocity with its change before
+// the pressures.
 ghost use Rattle.std.specs.Prelude.{◌≡◌, ◌<◌};
 ghost use Rattle.iisph_rules.specs.Coefficients.{particle_mass, velocity_change, advected_velocity};
 ghost use Rattle.math.specs.Vector.{coordinates};

@@ -5,13 +5,10 @@ ghost use Rattle.std.specs.Prelude.{◌≡◌, ◌+◌, ◌*◌, ◌<◌, ◌≤
 ghost use Rattle.std.proofs.lemmas.List.Edits.{sets};
 ghost use Rattle.math.specs.Vector.{Axes, coordinates};
 ghost use Rattle.scene_lengths.specs.Lengths.{work_width};
-ghost use Rattle.iisph_rows.specs.Rows.{mass_slot, dij_slot, pressure_slot, dii_slot, row_width, density_slot};
-ghost use Rattle.iisph_rows.specs.Rows.{predicted_slot, aii_slot, quotient_slot, next_pressure_slot, row_at};
-ghost use Rattle.iisph_rows.specs.Rows.{volumes_at};
-ghost use Rattle.iisph_rows.specs.Rows.{element_at, vector_from};
+ghost use Rattle.iisph_rows.specs.Rows.{pressure_slot, dii_slot, row_width, density_slot, predicted_slot, aii_slot};
+ghost use Rattle.iisph_rows.specs.Rows.{quotient_slot, next_pressure_slot, row_at, volumes_at, vector_from};
 
 use math::Vec3;
-use scene_format::format::wide;
 use scene_lengths::work_width;
 
 // ---- where a number stands in a row, or in which column
@@ -26,20 +23,20 @@ pub const DIJ_PJL: usize = MASS + 1;
 pub fn pressure_slot(dim: u8) -> usize
     ensures { result ≡ pressure_slot dim }
 {
-    DIJ_PJL + wide(dim)
+    DIJ_PJL + usize::from(dim)
 }
 
 pub fn dii_slot(dim: u8) -> usize
     ensures { result ≡ dii_slot dim }
 {
-    DIJ_PJL + wide(dim) + 1
+    DIJ_PJL + usize::from(dim) + 1
 }
 
 // The width of a row.
 fn row_width(dim: u8) -> usize
     ensures { (result ≡ row_width dim) × (result < 1024) }
 {
-    2 + 2 * wide(dim)
+    2 + 2 * usize::from(dim)
 }
 
 pub fn density_column(dim: u8) -> usize
@@ -109,17 +106,16 @@ pub fn vector_at(work: &[f64], k: usize, dim: u8) -> Vec3
     Vec3 {
         x: work[k],
         y: work[k + 1],
-        z: work[k + (wide(dim) - 1)],
+        z: work[k + (usize::from(dim) - 1)],
     }
 }
 
-// A vector, stored from element k on. In the plane z goes where y is stored right behind it, since a branch would cost
-// more.
+// A vector, stored from element k on. In the plane z goes where y is stored right behind it: a branch would cost more.
 pub fn put_vector(work: &mut [f64], k: usize, v: Vec3, dim: u8)
     requires { Axes dim × (k + dim ≤ length work.old) }
     ensures { work.new ≡ sets work.old k (coordinates dim v) }
 {
-    let last = k + (wide(dim) - 1);
+    let last = k + (usize::from(dim) - 1);
     work[k] = v.x;
     work[last] = v.z;
     work[k + 1] = v.y;

@@ -8,26 +8,13 @@ ghost use Rattle.iisph_rows.specs.Rows.{volumes_at, column};
 
 use math::is_zero;
 
-// The number of a fluid particle, or none.
-#[derive(Clone, Copy)]
-pub enum Found {
-    At(usize),
-    Nothing,
-}
-
 // The number of the first of n fluid particles that has a zero of either sign in a column.
-pub fn first_zero(work: &[f64], dim: u8, n: usize, number: usize) -> Found
+pub fn first_zero(work: &[f64], dim: u8, n: usize, number: usize) -> Option<usize>
     requires { (number < work_width dim) × (volumes_at dim n ≤ length work.now) }
     ensures { result ≡ found_below n (first_zero (column n number work.now)) }
 {
-    let mut i = 0usize;
-    while i < n {
-        if is_zero(work[number * n + i]) {
-            return Found::At(i);
-        }
-        i += 1;
-    }
-    Found::Nothing
+    let column = &work[number * n..number * n + n];
+    column.iter().position(|x| is_zero(*x))
 }
 
 // The first `len` elements become +0.
@@ -35,9 +22,5 @@ pub fn clear(work: &mut [f64], len: usize)
     requires { len ≤ length work.old }
     ensures { work.new ≡ replicate len +0 ++ drop len work.old }
 {
-    let mut i = 0usize;
-    while i < len {
-        work[i] = 0.0;
-        i += 1;
-    }
+    work[..len].fill(0.0);
 }

@@ -18,12 +18,10 @@ use Rattle.scene_check.specs.Walk.{checked}
 use Rattle.scene_format.specs.declared.Kind.TheVariants.{Fluid}
 use Rattle.scene_format.specs.declared.Refusal.{Refusal}
 use Rattle.scene_format.specs.declared.Refusal.TheVariants.{ShortList}
-use Rattle.scene_format.specs.declared.Walk.TheVariants as walk
+use Rattle.std.specs.declared.result.Result.TheVariants.{Ok, Err}
 use Rattle.scene_check.proofs.Early.{refused_early}
 use Rattle.iisph_rules.specs.Answer.{after_check, lists_short, step_answer, clears_work, work_after}
-use Rattle.iisph_rules.specs.Step.{scene_answer, unless_zero}
-use Rattle.iisph_rules.specs.declared.StepAnswer.{StepAnswer}
-use Rattle.iisph_rules.specs.declared.StepAnswer.TheVariants.{Refused}
+use Rattle.iisph_rules.specs.Step.{StepAnswer, unless_zero, scene_answer}
 use Rattle.iisph_rules.proofs.Iterations.{chosen}
 
 pub scene_clears : (b : List ℕ) → clears_work (scene_answer (λ i. (location_of Fluid b i).at) (scene_of b)) ≡ true
@@ -36,13 +34,13 @@ scene_clears b =
 
 module _ (b : List ℕ) (answers work : ℕ) where
   -- refusals 1 to 7
-  pub refused_answer : {r : Refusal} → checked b ≡ walk.Refused r → step_answer b answers work ≡ Refused r
+  pub refused_answer : {r : Refusal} → checked b ≡ Err r → step_answer b answers work ≡ Err r
   unfolding step_answer after_check
   refused_answer q = rw q
 
-  module _ {e : ℕ} (q : checked b ≡ walk.At e) where
+  module _ {e : ℕ} (q : checked b ≡ Ok e) where
     -- 8
-    pub short_answer : lists_short b answers work ≡ true → step_answer b answers work ≡ Refused ShortList
+    pub short_answer : lists_short b answers work ≡ true → step_answer b answers work ≡ Err ShortList
     unfolding step_answer after_check choose
     short_answer h = rw (q, h)
 
@@ -57,19 +55,19 @@ module _ (b : List ℕ) (answers work : ℕ) where
 
   -- ---- the work list
 
-  work_early : {r : Refusal} → step_answer b answers work ≡ Refused r → number_of r < 9 → (old : List Float)
+  work_early : {r : Refusal} → step_answer b answers work ≡ Err r → number_of r < 9 → (old : List Float)
       → work_after b answers work old ≡ old
   unfolding work_after clears_work choose
   work_early {r} q h old = rw (q, lt-leb 9 (number_of r) h)
 
-  pub work_refused : {r : Refusal} → checked b ≡ walk.Refused r → (old : List Float)
+  pub work_refused : {r : Refusal} → checked b ≡ Err r → (old : List Float)
       → work_after b answers work old ≡ old
   work_refused q old = work_early (refused_answer q) (early (refused_early b q)) old
     where
       early : {n : ℕ} → n ≤ 7 → n < 9
       early h = omega arith
 
-  pub work_short : step_answer b answers work ≡ Refused ShortList → (old : List Float)
+  pub work_short : step_answer b answers work ≡ Err ShortList → (old : List Float)
       → work_after b answers work old ≡ old
   work_short q old = work_early q (omega arith) old
 

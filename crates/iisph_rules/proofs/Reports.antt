@@ -13,8 +13,8 @@ use lib.Ieee.{Float}
 use borrow.Author.Tests.{ltb-false, le-ltb}
 use Rattle.math.specs.Real.{+0}
 use Rattle.lists.specs.Lists.{choose}
-use Rattle.scene_format.specs.declared.Walk.{Walk}
-use Rattle.scene_format.specs.declared.Walk.TheVariants as walk
+use Rattle.scene_format.specs.Refusals.{Walk}
+use Rattle.std.specs.declared.result.Result.TheVariants.{Ok, Err}
 use Rattle.scene_format.specs.declared.Refusal.{Refusal}
 use Rattle.scene_format.specs.declared.Kind.TheVariants.{Fluid}
 use Rattle.scene_format.specs.Format.{location_of}
@@ -22,33 +22,31 @@ use Rattle.scene_format.specs.Scene.{Scene}
 use Rattle.scene_format.specs.SceneOf.{scene_of}
 use Rattle.scene_lengths.specs.Lengths.{answers_needed, work_needed}
 use Rattle.scene_check.specs.Walk.{checked}
-use Rattle.iisph_rules.specs.Step.{answers_of, report_of, unless_zero, scene_answer}
+use Rattle.iisph_rules.specs.Step.{answers_of, report_of, StepAnswer, unless_zero, scene_answer}
 use Rattle.iisph_rules.specs.Answer.{after_check, lists_short, step_answer, LongEnough, is_done, answers_after}
 use Rattle.iisph_rules.specs.Answer.{clears_work, work_after}
 use Rattle.iisph_rules.specs.Locality.{AcceptedAnswered, DoneAccepted}
 use Rattle.iisph_rules.specs.declared.Report.{Report}
-use Rattle.iisph_rules.specs.declared.StepAnswer.{StepAnswer}
-use Rattle.iisph_rules.specs.declared.StepAnswer.TheVariants.{Done, Refused}
 
-pub never : {A : Type 0} {x : Refusal} {r : Report} → Refused x ≡ Done r → A
+pub never : {A : Type 0} {x : Refusal} {r : Report} → Err x ≡ Ok r → A
 never q = let z : ◌≡◌ {A = ℕ} 0 1 = cc in absurd (omega arith)
 
-not_refused : (t : Bool) (x : Refusal) (a : StepAnswer) {r : Report} → choose t (Refused x) a ≡ Done r
-    → (t ≡ false) × (a ≡ Done r)
+not_refused : (t : Bool) (x : Refusal) (a : StepAnswer) {r : Report} → choose t (Err x) a ≡ Ok r
+    → (t ≡ false) × (a ≡ Ok r)
 unfolding choose
 not_refused true x a q = never q
 not_refused false x a q = (refl, q)
 
-scene_done : (at : ℕ → ℕ) (s : Scene) {r : Report} → scene_answer at s ≡ Done r → report_of s ≡ r
+scene_done : (at : ℕ → ℕ) (s : Scene) {r : Report} → scene_answer at s ≡ Ok r → report_of s ≡ r
 unfolding scene_answer unless_zero
 scene_done at s q =
     let p = (not_refused _ _ _ (not_refused _ _ _ q).1).1 in
     cc
 
-walked : (w : Walk) (a : StepAnswer) {r : Report} → after_check w a ≡ Done r → (e : ℕ) × (w ≡ walk.At e) × (a ≡ Done r)
+walked : (w : Walk) (a : StepAnswer) {r : Report} → after_check w a ≡ Ok r → (e : ℕ) × (w ≡ Ok e) × (a ≡ Ok r)
 unfolding after_check
-walked (walk.At e) a q = (e, refl, q)
-walked (walk.Refused x) a q = never q
+walked (Ok e) a q = (e, refl, q)
+walked (Err x) a q = never q
 
 neither : (s t : Bool) → (s || t) ≡ false → (s ≡ false) × (t ≡ false)
 neither true t q = (q, let z : ◌≡◌ {A = ℕ} 0 1 = cc in absurd (omega arith))
@@ -62,7 +60,7 @@ long_lists b answers work e =
       enough_work = ltb-false work (work_needed (scene_of b)) n.1;
     }
 
-pub answers_refused : (b : List ℕ) (answers work : ℕ) {r : Refusal} → step_answer b answers work ≡ Refused r
+pub answers_refused : (b : List ℕ) (answers work : ℕ) {r : Refusal} → step_answer b answers work ≡ Err r
     → (old : List Float) → answers_after b answers work old ≡ old
 unfolding answers_after is_done choose
 answers_refused b answers work q old = rw q
@@ -70,12 +68,12 @@ answers_refused b answers work q old = rw q
 -- of a call with answer and work lists of these lengths
 pub record IsDone (b : List ℕ) (answers work : ℕ) (r : Report) : Type 0 where
   pub end : ℕ
-  pub accepted : checked b ≡ walk.At end
+  pub accepted : checked b ≡ Ok end
   pub long : LongEnough b answers work
-  pub scene : scene_answer (λ i. (location_of Fluid b i).at) (scene_of b) ≡ Done r
+  pub scene : scene_answer (λ i. (location_of Fluid b i).at) (scene_of b) ≡ Ok r
   pub report : report_of (scene_of b) ≡ r
 
-module _ (b : List ℕ) (answers work : ℕ) {r : Report} (q : step_answer b answers work ≡ Done r) where
+module _ (b : List ℕ) (answers work : ℕ) {r : Report} (q : step_answer b answers work ≡ Ok r) where
   pub step_done : IsDone b answers work r
   unfolding step_answer
   step_done =
@@ -90,7 +88,7 @@ module _ (b : List ℕ) (answers work : ℕ) {r : Report} (q : step_answer b ans
       }
 
   -- with any other long enough lists it is done too
-  step_long : (answers' work' : ℕ) → LongEnough b answers' work' → step_answer b answers' work' ≡ Done r
+  step_long : (answers' work' : ℕ) → LongEnough b answers' work' → step_answer b answers' work' ≡ Ok r
   unfolding step_answer after_check choose
   step_long answers' work' h =
       rw (

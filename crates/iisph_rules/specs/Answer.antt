@@ -3,8 +3,8 @@
 use Rattle.std.specs.Prelude.{ℕ, ◌≤◌, ◌≡◌, Bool, true, false, ◌||◌, List, ◌++◌, leb, ltb, drop, replicate, Float}
 use Rattle.math.specs.Real.{+0}
 use Rattle.lists.specs.Lists.{choose}
-use Rattle.scene_format.specs.declared.Walk.{Walk}
-use Rattle.scene_format.specs.declared.Walk.TheVariants as walk
+use Rattle.scene_format.specs.Refusals.{Walk}
+use Rattle.std.specs.declared.result.Result.TheVariants.{Ok, Err}
 use Rattle.scene_format.specs.declared.Refusal.TheVariants.{ShortList}
 use Rattle.scene_format.specs.Refusals.{number_of}
 use Rattle.scene_check.specs.Walk.{checked}
@@ -12,15 +12,13 @@ use Rattle.scene_format.specs.declared.Kind.TheVariants.{Fluid}
 use Rattle.scene_format.specs.Format.{location_of}
 use Rattle.scene_format.specs.SceneOf.{scene_of}
 use Rattle.scene_lengths.specs.Lengths.{answers_needed, work_needed}
-use Rattle.iisph_rules.specs.Step.{answers_of, scene_answer}
+use Rattle.iisph_rules.specs.Step.{answers_of, StepAnswer, scene_answer}
 use Rattle.iisph_rules.specs.declared.Report.{Report}
-use Rattle.iisph_rules.specs.declared.StepAnswer.{StepAnswer}
-use Rattle.iisph_rules.specs.declared.StepAnswer.TheVariants.{Done, Refused}
 
 -- refusals 1 to 7 come first
 unfoldable pub after_check : Walk → StepAnswer → StepAnswer
-after_check (walk.At end) answer = answer
-after_check (walk.Refused r) answer = Refused r
+after_check (Ok end) answer = answer
+after_check (Err r) answer = Err r
 
 -- whether a list is too short
 abbrev pub lists_short : List ℕ → ℕ → ℕ → Bool
@@ -30,7 +28,7 @@ lists_short b answers work = ltb answers (answers_needed (scene_of b)) || ltb wo
 unfoldable pub step_answer : List ℕ → ℕ → ℕ → StepAnswer
 step_answer b answers work =
     after_check (checked b)
-    (choose (lists_short b answers work) (Refused ShortList)
+    (choose (lists_short b answers work) (Err ShortList)
     (scene_answer (λ i. (location_of Fluid b i).at) (scene_of b)))
 
 -- lists of these lengths are as long as a step needs them
@@ -41,12 +39,12 @@ pub record LongEnough (b : List ℕ) (answers work : ℕ) : Type 0 where
 -- an accepted packed scene: a step with long enough lists does not refuse it; and what such a step reports
 pub record Accepted (b : List ℕ) : Type 0 where
   pub report : Report
-  pub done : (answers work : ℕ) → LongEnough b answers work → step_answer b answers work ≡ Done report
+  pub done : (answers work : ℕ) → LongEnough b answers work → step_answer b answers work ≡ Ok report
 
 -- whether there are answers to write
 unfoldable pub is_done : StepAnswer → Bool
-is_done (Done r) = true
-is_done (Refused r) = false
+is_done (Ok r) = true
+is_done (Err r) = false
 
 -- the needed front part is the rules' values; the old elements stay behind
 unfoldable pub answers_after : List ℕ → ℕ → ℕ → List Float → List Float
@@ -56,8 +54,8 @@ answers_after b answers work old =
 
 -- whether the passes have used the work list, so that it is cleared: unless 1 to 8 refused
 unfoldable pub clears_work : StepAnswer → Bool
-clears_work (Done r) = true
-clears_work (Refused r) = leb 9 (number_of r)
+clears_work (Ok r) = true
+clears_work (Err r) = leb 9 (number_of r)
 
 unfoldable pub work_after : List ℕ → ℕ → ℕ → List Float → List Float
 work_after b answers work old =

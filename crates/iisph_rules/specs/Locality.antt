@@ -20,7 +20,7 @@ use Rattle.iisph_rules.specs.Iteration as rules
 use Rattle.iisph_rules.specs.Step.{solution, new_position, new_velocity, answers_of}
 use Rattle.iisph_rules.specs.Answer.{step_answer, LongEnough, Accepted, answers_after}
 use Rattle.iisph_rules.specs.declared.Report.{Report}
-use Rattle.iisph_rules.specs.declared.StepAnswer.TheVariants.{Done}
+use Rattle.std.specs.declared.result.Result.TheVariants.{Ok}
 
 -- ---- links
 
@@ -132,13 +132,13 @@ MostIterations =
 abbrev pub AcceptedAnswered : Type 0
 AcceptedAnswered =
     (b : List ℕ) (a : Accepted b) (answers work : ℕ) → LongEnough b answers work → (old : List Float)
-    → (step_answer b answers work ≡ Done a.report)
+    → (step_answer b answers work ≡ Ok a.report)
     × (answers_after b answers work old ≡ answers_of (scene_of b) ++ drop (answers_needed (scene_of b)) old)
 
 -- a call that was done, with lists of whatever lengths, shows that its scene is accepted and what is reported
 abbrev pub DoneAccepted : Type 0
 DoneAccepted =
-    (b : List ℕ) (answers work : ℕ) (r : Report) → step_answer b answers work ≡ Done r
+    (b : List ℕ) (answers work : ℕ) (r : Report) → step_answer b answers work ≡ Ok r
     → (a : Accepted b) × (a.report ≡ r)
 
 -- what an answer list of the scene b holds for fluid particle i: position, velocity, pressure

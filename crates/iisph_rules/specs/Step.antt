@@ -1,5 +1,5 @@
 -- The step (METHOD 7) on a scene: the iterations and how they end, the answers from given pressures, the
--- report, and refusals 9 and 10. Definitions only.
+-- report, what a step answers, and refusals 9 and 10. Definitions only.
 use Rattle.std.specs.Prelude.{ℕ, zero, suc, Bool, ◌&&◌, leb, ltb, eqb, length, Float}
 use mathlib.Core.List.{List, [], ◌∷◌, ◌++◌, map, flatten}
 use Rattle.std.specs.Float.Ieee
@@ -16,8 +16,8 @@ use Rattle.iisph_rules.specs.declared.IterationError.{IterationError}
 use Rattle.iisph_rules.specs.declared.Ending.{Ending}
 use Rattle.iisph_rules.specs.declared.Ending.TheVariants.{Unswept, Settled, RanOut}
 use Rattle.iisph_rules.specs.declared.Report.{Report}
-use Rattle.iisph_rules.specs.declared.StepAnswer.{StepAnswer}
-use Rattle.iisph_rules.specs.declared.StepAnswer.TheVariants.{Done, Refused}
+use Rattle.std.specs.declared.result.Result.{Result}
+use Rattle.std.specs.declared.result.Result.TheVariants.{Ok, Err}
 
 -- ---- the iterations
 
@@ -123,6 +123,16 @@ answers_of s = answers_from s (solution s).pressures
 unfoldable pub report_of : Scene → Report
 report_of s = let w = solution s in record { clock = clock_of s; iterations = w.iterations; ending = w.ending }
 
+-- ---- what a step answers
+
+-- its report, or why it is refused
+abbrev pub StepAnswer : Type 0
+StepAnswer = Result Report Refusal
+
+-- that its iterations can begin, or why it is refused before them
+abbrev pub Readiness : Type 0
+Readiness = Result Unit Refusal
+
 -- ---- refusals 9 and 10: `assert!(!density.is_zero())`, `assert!(!predicted_density.is_zero())`
 
 -- the number of the first zero of either sign, or how many numbers there are
@@ -132,7 +142,7 @@ first_zero (x ∷ xs) = choose (is_zero x) 0 (suc (first_zero xs))
 
 -- refused at the record of the first zero, where there is one; `at` gives the offset of a particle's record
 unfoldable pub unless_zero : (ℕ → ℕ) → (ℕ → Refusal) → List Float → StepAnswer → StepAnswer
-unless_zero at refusal xs answer = let i = first_zero xs in choose (ltb i (length xs)) (Refused (refusal (at i))) answer
+unless_zero at refusal xs answer = let i = first_zero xs in choose (ltb i (length xs)) (Err (refusal (at i))) answer
 
 -- 9 if any density is zero; 10 only where none is
 unfoldable pub scene_answer : (ℕ → ℕ) → Scene → StepAnswer
@@ -140,4 +150,4 @@ scene_answer at s =
     let co = coefficients s in
     unless_zero at ZeroDensity (map (λ k. k.density) co)
     (unless_zero at ZeroPredictedDensity (map (λ k. k.predicted_density) co)
-    (Done (report_of s)))
+    (Ok (report_of s)))

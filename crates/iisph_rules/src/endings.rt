@@ -1,23 +1,16 @@
 // How the iterations ended, as the text and the C interface tell it.
 ghost use Rattle.std.specs.Prelude.{◌≡◌};
-ghost use Rattle.iisph_rules.specs.Endings.{yes_or_no, told_of};
+ghost use Rattle.iisph_rules.specs.Endings.{told_of};
 
 use crate::Ending;
 
-// The number of an ending, 0 for one without iterations; the last iteration's error, +0 where there was none; and 1
-// where an average was passed over in it, else 0.
+// In the numbers of the C interface: that of an ending, 0 for one without iterations; the last iteration's error, +0
+// where there was none; and 1 where an average was passed over in it, else 0.
 #[derive(Clone, Copy)]
 pub struct Told {
     pub number: u64,
     pub error: f64,
     pub passed_over: u64,
-}
-
-// 1 for yes, 0 for no.
-fn yes_or_no(yes: bool) -> u64
-    ensures { result ≡ yes_or_no yes }
-{
-    if yes { 1 } else { 0 }
 }
 
 pub fn tell(ending: Ending) -> Told
@@ -32,12 +25,12 @@ pub fn tell(ending: Ending) -> Told
         Ending::Settled(error, passed_over) => Told {
             number: 1,
             error,
-            passed_over: yes_or_no(passed_over),
+            passed_over: u64::from(passed_over),
         },
         Ending::RanOut(error, passed_over) => Told {
             number: 2,
             error,
-            passed_over: yes_or_no(passed_over),
+            passed_over: u64::from(passed_over),
         },
     }
 }

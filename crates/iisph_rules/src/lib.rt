@@ -37,9 +37,3 @@ pub struct Report {
     pub iterations: u32,
     pub ending: Ending,
 }
-
-#[derive(Clone, Copy)]
-pub enum StepAnswer {
-    Done(Report),
-    Refused(Refusal),
-}

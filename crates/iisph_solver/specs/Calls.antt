@@ -12,8 +12,8 @@ use Rattle.iisph_rules.specs.Answer.{LongEnough, Accepted}
 use Rattle.iisph_rules.specs.Locality.{SameAround, answers_for}
 use Rattle.iisph_rules.specs.Step.{answers_of}
 use Rattle.iisph_rules.specs.declared.Report.{Report}
-use Rattle.iisph_rules.specs.declared.StepAnswer.{StepAnswer}
-use Rattle.iisph_rules.specs.declared.StepAnswer.TheVariants.{Done}
+use Rattle.iisph_rules.specs.Step.{StepAnswer}
+use Rattle.std.specs.declared.result.Result.TheVariants.{Ok}
 use Rattle.iisph_lent.specs.Step.{Steps}
 
 -- a call on the bytes b that is done: its report, and both lists before and after
@@ -24,7 +24,7 @@ pub record DoneCall (b : List ℕ) : Type 0 where
   pub answers' : List Float
   pub work' : List Float
   pub bytes : Bytes b
-  pub steps : Steps b answers work (Done report) answers' work'
+  pub steps : Steps b answers work (Ok report) answers' work'
 
 -- ---- one call
 
@@ -33,7 +33,7 @@ abbrev pub AcceptedCalled : Type 0
 AcceptedCalled =
     (b : List ℕ) (a : Accepted b) (answers work answers' work' : List Float) (r : StepAnswer)
     → LongEnough b (length answers) (length work) → Steps b answers work r answers' work'
-    → (r ≡ Done a.report) × (answers' ≡ answers_of (scene_of b) ++ drop (answers_needed (scene_of b)) answers)
+    → (r ≡ Ok a.report) × (answers' ≡ answers_of (scene_of b) ++ drop (answers_needed (scene_of b)) answers)
 
 -- a call that is done shows that its scene is accepted and what is reported
 abbrev pub CallAccepted : Type 0

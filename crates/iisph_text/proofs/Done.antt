@@ -10,15 +10,14 @@ use Rattle.lists.specs.Stores.{Writes}
 use Rattle.scene_format.specs.Bytes.{Bytes}
 use Rattle.scene_format.specs.SceneOf.{scene_of}
 use Rattle.scene_format.specs.declared.Kind.TheVariants.{Fluid, Boundary}
-use Rattle.scene_format.specs.declared.Walk.TheVariants.{At}
+use Rattle.std.specs.declared.result.Result.TheVariants.{Ok}
 use Rattle.scene_check.proofs.Accepted.{accepted_length}
 use Rattle.scene_lengths.specs.Lengths.{answers_in, answers_needed}
 use Rattle.scene_lengths.proofs.Needed.{fluid_answers, answers_needed_lem}
 use Rattle.iisph_rules.specs.Answer.{step_answer, answers_after}
 use Rattle.iisph_rules.specs.Step.{answers_of}
 use Rattle.iisph_rules.specs.declared.Report.{Report}
-use Rattle.iisph_rules.specs.declared.StepAnswer.{StepAnswer}
-use Rattle.iisph_rules.specs.declared.StepAnswer.TheVariants.{Done}
+use Rattle.iisph_rules.specs.Step.{StepAnswer}
 use Rattle.iisph_rules.proofs.Reports.{step_done, answers_done}
 use Rattle.iisph_rules.proofs.Sizes.{length_answers, beyond_answers}
 use Rattle.iisph_lines.specs.Lines.{step_line, clock_line, particles_text}
@@ -31,11 +30,11 @@ use Rattle.iisph_text.proofs.Texts.{done_room}
 
 -- ---- what a step's answer says
 
-module _ (b : List ℕ) (answers work : ℕ) {r : Report} (q : step_answer b answers work ≡ Done r) where
+module _ (b : List ℕ) (answers work : ℕ) {r : Report} (q : step_answer b answers work ≡ Ok r) where
   reported : Reported b r
   reported =
       let d = step_done b answers work q in
-      record { accepted = d.accepted ∙ ap At (accepted_length b d.accepted); report = d.report }
+      record { accepted = d.accepted ∙ ap Ok (accepted_length b d.accepted); report = d.report }
 
   -- the answers stand in front of the list
   answers_front : (old : List Float) {xs : List Float} → xs ≡ answers_after b answers work old
@@ -81,15 +80,15 @@ module _ (b : List ℕ) (y : Bytes b) where
 
     lines_written : (r : Report) {out o : List ℕ} {n : ℕ}
         → Writes out 0 (step_line r ++ clock_line r.clock ++ particles_text b xs) o n
-        → Writes out 0 (answer_text b (Done r)) o n
+        → Writes out 0 (answer_text b (Ok r)) o n
     unfolding answer_text
     lines_written r w = rw lines_same at w
 
 -- ---- what a step that is done comes to, from its contract
 
 module _ {b : List ℕ} (y : Bytes b) {answers work answers' work' : List Float} {a : StepAnswer}
-    (s : Steps b answers work a answers' work') {r : Report} (q : a ≡ Done r) where
-  abbrev is_done_lem : step_answer b (length answers) (length work) ≡ Done r
+    (s : Steps b answers work a answers' work') {r : Report} (q : a ≡ Ok r) where
+  abbrev is_done_lem : step_answer b (length answers) (length work) ≡ Ok r
   is_done_lem = sym s.answer ∙ q
 
   front : answers' ≡ answers_of (scene_of b) ++ drop (answers_needed (scene_of b)) answers'

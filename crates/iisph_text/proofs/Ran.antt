@@ -20,8 +20,8 @@ use Rattle.scene_format.specs.declared.Kind.TheVariants.{Fluid, Boundary}
 use Rattle.scene_lengths.specs.Lengths.{fluid_answer_width, answers_in}
 use Rattle.iisph_lines.specs.Lines.{step_line, clock_line, models_text, particles_text, refused_line}
 use Rattle.iisph_rules.specs.declared.Report.{Report}
-use Rattle.iisph_rules.specs.declared.StepAnswer.{StepAnswer}
-use Rattle.iisph_rules.specs.declared.StepAnswer.TheVariants.{Refused}
+use Rattle.iisph_rules.specs.Step.{StepAnswer}
+use Rattle.std.specs.declared.result.Result.TheVariants.{Err}
 use Rattle.iisph_lent.specs.Step.{Steps}
 use Rattle.iisph_text.specs.Text.{most_bytes, too_long, text_with, text_of, answer_text}
 use Rattle.iisph_text.specs.Run.{text_room, enough_answers, enough_work, written, if_stepped, text_in, Runs, behind}
@@ -87,7 +87,7 @@ module _ {b : List ℕ} {answers work : List Float} {out : List ℕ} where
 
     -- a refused step
     pub refused_run : length b ≤ most_bytes → {answer : StepAnswer} {answers' work' : List Float}
-        → Steps b answers work answer answers' work' → {refusal : Refusal} → answer ≡ Refused refusal
+        → Steps b answers work answer answers' work' → {refusal : Refusal} → answer ≡ Err refusal
         → Writes out 0 (refused_line refusal) o r → Runs b answers work out r answers' work' o
     unfolding answer_text
     refused_run h s q w = scene_run h s (rw q w)

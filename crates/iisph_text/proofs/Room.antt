@@ -19,7 +19,7 @@ use Rattle.scene_format.specs.Format.{keeps_of}
 use Rattle.scene_format.specs.SceneOf.{scene_of}
 use Rattle.scene_format.specs.declared.Kind.{Kind}
 use Rattle.scene_format.specs.declared.Kind.TheVariants.{Fluid, Boundary}
-use Rattle.scene_format.specs.declared.Walk.TheVariants.{At}
+use Rattle.std.specs.declared.result.Result.TheVariants.{Ok}
 use Rattle.scene_format.proofs.Forms.{axes_of_lem}
 use Rattle.scene_layout.proofs.Locations.{counts_at, keeps_of_lem}
 use Rattle.scene_check.specs.Walk.{checked}
@@ -122,7 +122,7 @@ module _ (κ : Kind) (b : List ℕ) (head : ℕ) {k : ℕ} (e : k ≡ keeps_at b
 
 -- ---- an accepted scene, kind by kind: from the first model's head to behind the last model
 
-module _ (b : List ℕ) {e : ℕ} (q : checked b ≡ At e) where
+module _ (b : List ℕ) {e : ℕ} (q : checked b ≡ Ok e) where
   kind_room : (κ : Kind) (k : ℕ) (xs : List Float)
       → line_bytes * length (models_text κ b k xs) + line_text * first_head κ b ≤ line_text * head_at κ b
       (model_number κ b)

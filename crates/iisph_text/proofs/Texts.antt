@@ -16,8 +16,8 @@ use Rattle.scene_format.specs.Format.{axes_of, max_pressure_iter_offset}
 use Rattle.scene_format.specs.Scene.{Scene, BoundaryParticle, fluid_size, boundary_size}
 use Rattle.scene_format.specs.SceneOf.{header_of, scene_of}
 use Rattle.scene_format.specs.declared.Kind.TheVariants.{Fluid, Boundary}
-use Rattle.scene_format.specs.declared.Walk.{Walk}
-use Rattle.scene_format.specs.declared.Walk.TheVariants as walk
+use Rattle.scene_format.specs.Refusals.{Walk}
+use Rattle.std.specs.declared.result.Result.TheVariants.{Ok, Err}
 use Rattle.scene_format.proofs.Forms.{axes_of_lem}
 use Rattle.scene_layout.specs.declared.Layout.{Layout}
 use Rattle.scene_index.specs.Index.{index_needed}
@@ -141,8 +141,8 @@ module _ (b : List ℕ) (y : Bytes b) {answers work : ℕ} (a : enough_answers �
   step_same : length b ≤ most_bytes → (v : Walk) → checked b ≡ v
       → step_answer b answers work ≡ step_answer b (answers_needed (scene_of b)) (work_needed (scene_of b))
   unfolding step_answer after_check choose
-  step_same short (walk.Refused r) q = rw q
-  step_same short (walk.At e) q =
+  step_same short (Err r) q = rw q
+  step_same short (Ok e) q =
       let n = answers_few b q y in
       let l = needed_work b in
       rw (

@@ -3,7 +3,7 @@ use Rattle.std.specs.Prelude.{ℕ, ◌+◌, ◌*◌, ◌≤◌, ◌≡◌, List,
 use Rattle.lists.specs.Lists.{choose}
 use Rattle.lists.specs.Stores.{Writes}
 use Rattle.scene_format.specs.SceneOf.{scene_of}
-use Rattle.scene_format.specs.declared.Walk.TheVariants.{At}
+use Rattle.std.specs.declared.result.Result.TheVariants.{Ok}
 use Rattle.scene_check.specs.Walk.{checked}
 use Rattle.iisph_lines.specs.Lines.{step_line, clock_line, models_text}
 use Rattle.scene_format.specs.Format.{axes_of, most_models}
@@ -45,7 +45,7 @@ if_stepped b out after old = choose (ltb out text_room) old (choose (ltb most_by
 
 -- the scene is accepted, and a step reports this
 pub record Reported (b : List ℕ) (r : Report) : Type 0 where
-  pub accepted : checked b ≡ At (length b)
+  pub accepted : checked b ≡ Ok (length b)
   pub report : report_of (scene_of b) ≡ r
 
 -- on the bytes b, with lists for answers, work and text; the text's length is answered

@@ -6,14 +6,14 @@ use Rattle.scene_format.specs.SceneOf.{scene_of}
 use Rattle.scene_lengths.specs.Lengths.{answers_needed, work_needed}
 use Rattle.iisph_rules.specs.Answer.{step_answer}
 use Rattle.iisph_rules.specs.Step.{answers_of}
-use Rattle.iisph_rules.specs.declared.StepAnswer.{StepAnswer}
-use Rattle.iisph_rules.specs.declared.StepAnswer.TheVariants.{Done, Refused}
+use Rattle.iisph_rules.specs.Step.{StepAnswer}
+use Rattle.std.specs.declared.result.Result.TheVariants.{Ok, Err}
 use Rattle.iisph_lines.specs.Lines.{step_line, clock_line, particles_text, refused_line}
 
 -- the text for what a step answers on the bytes b
 unfoldable pub answer_text : List ℕ → StepAnswer → List ℕ
-answer_text b (Done r) = step_line r ++ clock_line r.clock ++ particles_text b (answers_of (scene_of b))
-answer_text b (Refused r) = refused_line r
+answer_text b (Ok r) = step_line r ++ clock_line r.clock ++ particles_text b (answers_of (scene_of b))
+answer_text b (Err r) = refused_line r
 
 -- "too long"
 unfoldable pub too_long : List ℕ

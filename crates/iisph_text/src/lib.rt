@@ -12,8 +12,8 @@ ghost use Rattle.iisph_text.specs.Run.{text_room, LinesReady, Runs};
 
 use iisph_lent::{lists_short, step_long};
 use iisph_lines::lines::{put_clock, put_models, put_refused, put_step};
-use iisph_rules::{Report, StepAnswer};
-use scene_check::{Verdict, check};
+use iisph_rules::Report;
+use scene_check::check;
 use scene_format::format::MAX_MODELS;
 use scene_format::read::axes;
 use scene_format::{Kind, Refusal};
@@ -51,12 +51,17 @@ fn put_done(scene: &[u8], layout: Layout, answers: &[f64], report: Report, out: 
 }
 
 // A step on an accepted scene that is short enough, with an index of its own.
-fn step_short(scene: &[u8], layout: Layout, answers: &mut [f64], work: &mut [f64]) -> StepAnswer
+fn step_short(
+    scene: &[u8],
+    layout: Layout,
+    answers: &mut [f64],
+    work: &mut [f64],
+) -> Result<Report, Refusal>
     requires { Passed scene.now layout × (length scene.now ≤ most_bytes) }
     ensures { Steps scene.now answers.old work.old result answers.new work.new }
 {
     if lists_short(scene, layout, answers.len(), work.len()) {
-        return StepAnswer::Refused(Refusal::ShortList);
+        return Err(Refusal::ShortList);
     }
     let mut index = [0usize; ENOUGH_INDEX];
     step_long(scene, layout, answers, work, &mut index)
@@ -75,10 +80,9 @@ fn put_accepted(
     ensures { Runs scene.now answers.old work.old out.old
         result answers.new work.new out.new }
 {
-    let answer = step_short(scene, layout, answers, work);
-    match answer {
-        StepAnswer::Done(report) => put_done(scene, layout, answers, report, out),
-        StepAnswer::Refused(refusal) => put_refused(out, 0, refusal),
+    match step_short(scene, layout, answers, work) {
+        Ok(report) => put_done(scene, layout, answers, report, out),
+        Err(refusal) => put_refused(out, 0, refusal),
     }
 }
 
@@ -88,11 +92,8 @@ pub fn put_scene(scene: &[u8], answers: &mut [f64], work: &mut [f64], out: &mut 
     ensures { Runs scene.now answers.old work.old out.old
         result answers.new work.new out.new }
 {
-    let found = check(scene);
-    let verdict = found.verdict;
-    let layout = found.layout;
-    match verdict {
-        Verdict::Refused(refusal) => put_refused(out, 0, refusal),
-        Verdict::Accepted => put_accepted(scene, layout, answers, work, out),
+    match check(scene) {
+        Ok(layout) => put_accepted(scene, layout, answers, work, out),
+        Err(refusal) => put_refused(out, 0, refusal),
     }
 }

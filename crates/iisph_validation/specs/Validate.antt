@@ -5,7 +5,7 @@ use Rattle.scene_format.specs.SceneOf.{scene_of}
 use Rattle.scene_lengths.specs.Lengths.{answers_needed}
 use Rattle.iisph_rules.specs.Answer.{step_answer, work_after}
 use Rattle.iisph_preparation.specs.Prepare.{readiness}
-use Rattle.iisph_preparation.specs.declared.Readiness.{Readiness}
+use Rattle.iisph_rules.specs.Step.{Readiness}
 
 -- of the bytes b and a work list, which is left as that step leaves it
 pub record Validates (b : List ℕ) (work : List Float) (r : Readiness) (after : List Float) : Type 0 where

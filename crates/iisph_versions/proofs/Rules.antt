@@ -29,11 +29,10 @@ use Rattle.iisph_rules.specs.Step.{first_pressures, solution, boundary_accelerat
 use Rattle.iisph_rules.specs.Step.{new_velocity}
 use Rattle.iisph_rules.specs.Step.{new_position, fluid_answer, force_from, boundary_force, boundary_answer}
 use Rattle.iisph_rules.specs.Step.{answers_from}
-use Rattle.iisph_rules.specs.Step.{answers_of, report_of, unless_zero, scene_answer}
+use Rattle.iisph_rules.specs.Step.{answers_of, report_of, StepAnswer, unless_zero, scene_answer}
 use Rattle.iisph_rules.specs.PassedOver.{iteration_at}
 use Rattle.iisph_rules.specs.declared.Report.{Report}
-use Rattle.iisph_rules.specs.declared.StepAnswer.{StepAnswer}
-use Rattle.iisph_rules.specs.declared.StepAnswer.TheVariants.{Done, Refused}
+use Rattle.std.specs.declared.result.Result.TheVariants.{Ok, Err}
 use Rattle.iisph_rules.proofs.Cases.{scene_answer_lem}
 use Rattle.iisph_rules.proofs.Iterations.{pressures_after, solution_pressures}
 use Rattle.iisph_rules.proofs.Locality.{needed, accepted_report}
@@ -118,15 +117,15 @@ same_pressures criterion summation s k =
 -- ---- refusals 9 and 10
 
 -- a test that lets one answer pass lets the other pass too
-passed_too : (t : Bool) (x x' : Refusal) (a a' : StepAnswer) {r r' : Report} → (a ≡ Done r → a' ≡ Done r')
-    → choose t (Refused x) a ≡ Done r → choose t (Refused x') a' ≡ Done r'
+passed_too : (t : Bool) (x x' : Refusal) (a a' : StepAnswer) {r r' : Report} → (a ≡ Ok r → a' ≡ Ok r')
+    → choose t (Err x) a ≡ Ok r → choose t (Err x') a' ≡ Ok r'
 unfolding choose
 passed_too true x x' a a' h q = never q
 passed_too false x x' a a' h q = h q
 
 done_too : (criterion : Criterion) (summation : Summation) (s : Scene) (at at' : ℕ → ℕ) {r : Report}
-    → scene_answer at s ≡ Done r
-    → let other = scene_by criterion summation s in scene_answer at' other ≡ Done (report_of other)
+    → scene_answer at s ≡ Ok r
+    → let other = scene_by criterion summation s in scene_answer at' other ≡ Ok (report_of other)
 unfolding scene_answer unless_zero
 done_too criterion summation s at at' q =
     rw (coefficients_same criterion summation s)

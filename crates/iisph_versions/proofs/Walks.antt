@@ -17,8 +17,8 @@ use Rattle.scene_format.specs.Format.{boundary_record_width, keeps_at, first_rec
 use Rattle.scene_format.specs.declared.Kind.{Kind}
 use Rattle.scene_format.specs.declared.Kind.TheVariants.{Fluid, Boundary}
 use Rattle.scene_format.specs.declared.Refusal.{Refusal}
-use Rattle.scene_format.specs.declared.Walk.{Walk}
-use Rattle.scene_format.specs.declared.Walk.TheVariants.{At, Refused}
+use Rattle.scene_format.specs.Refusals.{Walk}
+use Rattle.std.specs.declared.result.Result.TheVariants.{Ok, Err}
 use Rattle.scene_fields.specs.Fields.{◌▹◌, times, refused_if, field, plain, double, count, half_byte, halves, ended}
 use Rattle.scene_fields.specs.declared.fields.Half.TheVariants.{Version, Rule, ModelCount}
 use Rattle.scene_walk.specs.Walk.{header, contact, fluid_record, boundary_record, record_of, head_of, model_of}
@@ -35,8 +35,8 @@ use Rattle.iisph_versions.proofs.Scenes.{counts_same}
 
 -- both are refused alike, or both come to one offset, of which P holds
 data Together (P : ℕ → Type 0) : Walk → Walk → Type 0 where
-  reached : {at : ℕ} → P at → Together P (At at) (At at)
-  refused : {r : Refusal} → Together P (Refused r) (Refused r)
+  reached : {at : ℕ} → P at → Together P (Ok at) (Ok at)
+  refused : {r : Refusal} → Together P (Err r) (Err r)
 
 -- so do two steps, from every offset of which P holds to one of which Q does
 abbrev StepsTogether : (ℕ → Type 0) → (ℕ → Type 0) → (ℕ → Walk) → (ℕ → Walk) → Type 0

@@ -24,10 +24,8 @@ fn put_digits(out: &mut [u8], at: usize, base: u64, k: usize, n: u64) -> usize
     requires { (0 < base) × (base ≤ 16) × (at + k ≤ length out.old) }
     ensures { Writes out.old at (digits base k n) out.new result }
 {
-    let mut i = k;
     let mut rest = n;
-    while i > 0 {
-        i -= 1;
+    for i in (0..k).rev() {
         out[at + i] = digit(rest % base);
         rest /= base;
     }
@@ -42,7 +40,7 @@ pub fn put_hex(out: &mut [u8], at: usize, x: f64) -> usize
     put_digits(out, at, 16, HEX_DIGITS, math::to_bits(x))
 }
 
-// How many decimal digits n has.
+// How many decimal digits n has. The loop takes digits off until one is left: no range says how often.
 fn places(n: u64) -> usize
     ensures { result ≡ places_of n }
 {

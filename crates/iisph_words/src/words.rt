@@ -21,12 +21,9 @@ pub fn put_word(out: &mut [u8], at: usize, word: &[u8]) -> usize
     requires { at + length word.now ≤ length out.old }
     ensures { Writes out.old at word.now out.new result }
 {
-    let mut i = 0;
-    while i < word.len() {
-        out[at + i] = word[i];
-        i += 1;
-    }
-    at + i
+    let next = at + word.len();
+    out[at..next].copy_from_slice(word);
+    next
 }
 
 // The word that a particle's line begins with.
@@ -40,7 +37,7 @@ pub fn put_kind(out: &mut [u8], at: usize, kind: Kind) -> usize
     }
 }
 
-// The word for the ending with this number.
+// The word for the ending with this number, which is the C interface's.
 pub fn put_ending_word(out: &mut [u8], at: usize, number: u64) -> usize
     requires { at + length (ending_word number) ≤ length out.old }
     ensures { Writes out.old at (ending_word number) out.new result }
@@ -78,10 +75,8 @@ pub fn put_doubles(out: &mut [u8], at: usize, xs: &[f64], k: usize, w: usize) ->
     ensures { Writes out.old at (doubles_text xs.now k w) out.new result }
 {
     let mut next = at;
-    let mut e = 0;
-    while e < w {
-        next = put_double(out, next, xs[k + e]);
-        e += 1;
+    for x in &xs[k..k + w] {
+        next = put_double(out, next, *x);
     }
     next
 }

@@ -18,7 +18,7 @@ use Rattle.scene_format.specs.Format.{next_record, model_end, first_head, head_a
 use Rattle.scene_format.specs.Within.{ModelsWithin}
 use Rattle.scene_format.specs.declared.Kind.{Kind}
 use Rattle.scene_format.specs.declared.Kind.TheVariants.{Fluid, Boundary}
-use Rattle.scene_format.specs.declared.Walk.TheVariants.{At}
+use Rattle.std.specs.declared.result.Result.TheVariants.{Ok}
 use Rattle.scene_fields.proofs.Reached.{Leads, Steps, restated, ◌then◌, times-steps, parts-steps, stay}
 use Rattle.scene_fields.proofs.Reached.{refused_if_leads}
 use Rattle.scene_check.specs.Walk.{name, names, record_names_of, model_names_of, models_names_of, all_names, checked}
@@ -119,14 +119,14 @@ module _ (b : List ℕ) where
   checked_leads =
       restated (fields_leads b then λ end. names_leads) (λ h. (h.0.ends, record { fields = h.0; names = h.1 }))
 
-  pub accepted : {e : ℕ} → checked b ≡ At e → SceneOk b
+  pub accepted : {e : ℕ} → checked b ≡ Ok e → SceneOk b
   accepted q = (checked_leads _ q).1
 
-  pub accepted_length : {e : ℕ} → checked b ≡ At e → e ≡ length b
+  pub accepted_length : {e : ℕ} → checked b ≡ Ok e → e ≡ length b
   accepted_length q = (checked_leads _ q).0
 
-  pub accepted_within : {e : ℕ} → checked b ≡ At e → (κ : Kind) → ModelsWithin κ b
+  pub accepted_within : {e : ℕ} → checked b ≡ Ok e → (κ : Kind) → ModelsWithin κ b
   accepted_within q = models_within (accepted q).fields
 
-  pub accepted_header : {e : ℕ} → checked b ≡ At e → header_width (axes_of b) ≤ length b
+  pub accepted_header : {e : ℕ} → checked b ≡ Ok e → header_width (axes_of b) ≤ length b
   accepted_header q = (accepted q).fields.header.room

@@ -14,39 +14,41 @@ use Rattle.scene_format.specs.Within.{ModelsWithin}
 use Rattle.scene_format.specs.declared.Kind.{Kind}
 use Rattle.scene_format.specs.declared.Kind.TheVariants.{Fluid, Boundary}
 use Rattle.scene_format.specs.declared.Refusal.{Refusal}
-use Rattle.scene_format.specs.declared.Walk.{Walk}
-use Rattle.scene_format.specs.declared.Walk.TheVariants.{At, Refused}
+use Rattle.scene_format.specs.Refusals.{Walk}
+use Rattle.std.specs.declared.result.Result.{Result}
+use Rattle.std.specs.declared.result.Result.TheVariants.{Ok, Err}
 use Rattle.scene_layout.specs.Layout.{layout_models, layout_of}
-use Rattle.scene_check.specs.Check.{refused_with, verdict_of, layout_for, ChecksTo, Passed, CountsOfKind}
+use Rattle.scene_check.specs.Check.{verdict_of, ChecksTo, Passed, CountsOfKind}
 use Rattle.scene_check.specs.Check.{CountsAre}
 use Rattle.scene_walk.specs.Walk.{fields}
+use Rattle.scene_walk.proofs.Walked.{fields_leads}
 use Rattle.scene_check.specs.Walk.{all_names, checked}
-use Rattle.scene_check.specs.declared.Checked.{Checked}
 use Rattle.scene_layout.specs.declared.Layout.{Layout}
-use Rattle.scene_check.specs.declared.Verdict.TheVariants as verdict
-use Rattle.scene_check.specs.declared.Verdict.TheVariants.{Accepted}
 use Rattle.scene_check.proofs.Accepted.{accepted_length, accepted_within}
 use Rattle.scene_layout.proofs.Filled.{padded_at, stored-padded}
 use Rattle.scene_layout.proofs.Locations.{length_counts, fluid_size-sum, boundary_size-sum}
 use Rattle.scene_layout.proofs.Turns.{Turn, this_turn}
 
 module _ (b : List ℕ) where
-  pub fields_refused : {r : Refusal} → fields b ≡ Refused r → checked b ≡ Refused r
+  -- accepted fields end with the bytes
+  pub fields_passed : {w : Walk} {e : ℕ} → w ≡ fields b → w ≡ Ok e → fields b ≡ Ok (length b)
+  fields_passed s q = let p = sym s ∙ q in p ∙ ap Ok (fields_leads b _ p).0
+
+  pub fields_refused : {r : Refusal} → fields b ≡ Err r → checked b ≡ Err r
   unfolding checked ◌▹◌
   fields_refused q = rw q
 
-  pub names_decide : {e : ℕ} → fields b ≡ At e → checked b ≡ all_names b
+  pub names_decide : {e : ℕ} → fields b ≡ Ok e → checked b ≡ all_names b
   unfolding checked ◌▹◌
   names_decide q = rw q
 
-  pub checks_refused : {r : Refusal} {c : Checked} → checked b ≡ Refused r → c ≡ refused_with r → ChecksTo b c
-  unfolding refused_with verdict_of layout_for
-  checks_refused q e = record { verdict = rw (q, e); layout = rw (q, e) }
+  pub checks_refused : {r : Refusal} → checked b ≡ Err r → ChecksTo b (Err r)
+  unfolding verdict_of
+  checks_refused q = record { verdict = rw q }
 
-  pub checks_accepted : {e : ℕ} {l : Layout} → checked b ≡ At e → l ≡ layout_of b
-      → ChecksTo b (record { verdict = Accepted; layout = l })
-  unfolding verdict_of layout_for
-  checks_accepted q e = record { verdict = rw q; layout = rw q e }
+  pub checks_accepted : {e : ℕ} {l : Layout} → checked b ≡ Ok e → l ≡ layout_of b → ChecksTo b (Ok l)
+  unfolding verdict_of
+  checks_accepted q e = record { verdict = rw (q, e) }
 
   -- what the names are walked by
   pub fluids_are : {l : Layout} → l ≡ layout_of b → l.fluids ≡ layout_models Fluid b
@@ -85,24 +87,22 @@ module _ (b : List ℕ) where
 
 -- ---- what the verdict tells
 
-module _ (b : List ℕ) {found : Checked} (h : ChecksTo b found) where
-  pub verdict_refused : {r : Refusal} → found.verdict ≡ verdict.Refused r → checked b ≡ Refused r
+module _ (b : List ℕ) {found : Result Layout Refusal} (h : ChecksTo b found) where
+  pub verdict_refused : {r : Refusal} → found ≡ Err r → checked b ≡ Err r
   unfolding verdict_of
   verdict_refused q = go (checked b) (sym h.verdict ∙ q)
     where
-      go : {r : Refusal} (w : Walk) → verdict_of w ≡ verdict.Refused r → w ≡ Refused r
-      go (At e) p = let z : ◌≡◌ {A = ℕ} 0 1 = cc in absurd (omega arith)
-      go (Refused r) p = cc
+      go : {r : Refusal} (w : Walk) → verdict_of b w ≡ Err r → w ≡ Err r
+      go (Ok e) p = let z : ◌≡◌ {A = ℕ} 0 1 = cc in absurd (omega arith)
+      go (Err r) p = cc
 
-  pub verdict_accepted : Bytes b → found.verdict ≡ Accepted → Passed b found.layout
-  unfolding verdict_of layout_for
-  verdict_accepted y q =
-      let whole = go (checked b) refl (sym h.verdict ∙ q) in
-      record { bytes = y; walk = whole; layout_is = h.layout ∙ ap (layout_for b) whole }
+  pub verdict_accepted : {l : Layout} → Bytes b → found ≡ Ok l → Passed b l
+  unfolding verdict_of
+  verdict_accepted y q = go (checked b) refl (sym h.verdict ∙ q)
     where
-      go : (w : Walk) → checked b ≡ w → verdict_of w ≡ Accepted → w ≡ At (length b)
-      go (At e) p v = ap At (accepted_length b p)
-      go (Refused r) p v = let z : ◌≡◌ {A = ℕ} 0 1 = cc in absurd (omega arith)
+      go : {l : Layout} (w : Walk) → checked b ≡ w → verdict_of b w ≡ Ok l → Passed b l
+      go (Ok e) p v = record { bytes = y; walk = p ∙ ap Ok (accepted_length b p); layout_is = cc }
+      go (Err r) p v = let z : ◌≡◌ {A = ℕ} 0 1 = cc in absurd (omega arith)
 
 -- ---- a scene that passed the check, with its layout
 

@@ -14,8 +14,8 @@ use Rattle.scene_format.specs.Refusals.{number_of}
 use Rattle.scene_format.specs.declared.Kind.{Kind}
 use Rattle.scene_format.specs.declared.Kind.TheVariants.{Fluid, Boundary}
 use Rattle.scene_format.specs.declared.Refusal.{Refusal}
-use Rattle.scene_format.specs.declared.Walk.{Walk}
-use Rattle.scene_format.specs.declared.Walk.TheVariants.{At, Refused}
+use Rattle.scene_format.specs.Refusals.{Walk}
+use Rattle.std.specs.declared.result.Result.TheVariants.{Ok, Err}
 use Rattle.scene_fields.specs.declared.fields.Half.{Half}
 use Rattle.scene_fields.specs.declared.fields.Half.TheVariants.{Version, Rule, ModelCount}
 use Rattle.scene_walk.specs.Walk as fields
@@ -24,18 +24,18 @@ use Rattle.scene_check.specs.Walk.{checked}
 
 -- if the walk w is refused, then by a number up to the last
 abbrev Early : ℕ → Walk → Type 0
-Early last w = (r : Refusal) → w ≡ Refused r → number_of r ≤ last
+Early last w = (r : Refusal) → w ≡ Err r → number_of r ≤ last
 
 -- ---- walks joined
 
 module _ {last : ℕ} where
-  passed_early : {at : ℕ} → Early last (At at)
+  passed_early : {at : ℕ} → Early last (Ok at)
   passed_early r q = never (sym q)
 
   then_early : (w : Walk) (f : ℕ → Walk) → Early last w → ((at : ℕ) → Early last (f at)) → Early last (w ▹ f)
   unfolding ◌▹◌
-  then_early (At at) f h k = k at
-  then_early (Refused r) f h k = h
+  then_early (Ok at) f h k = k at
+  then_early (Err r) f h k = h
 
   times_early : (n : ℕ) (f : ℕ → Walk) → ((at : ℕ) → Early last (f at)) → (at : ℕ) → Early last (times n f at)
   unfolding times
@@ -123,7 +123,7 @@ module _ (b : List ℕ) where
       (then_early _ _ (then_early _ _ (header_early 0) (models_early Fluid)) (models_early Boundary))
       (λ at. refused_if_early _ _ _ (lit≤ tt) passed_early)
 
-  pub fields_refused_early : {r : Refusal} → fields.fields b ≡ Refused r → number_of r ≤ 6
+  pub fields_refused_early : {r : Refusal} → fields.fields b ≡ Err r → number_of r ≤ 6
   fields_refused_early q = fields_early _ q
 
 -- ---- names, and the whole check
@@ -148,5 +148,5 @@ module _ (b : List ℕ) where
       then_early _ _ (raised (lit≤ tt) (fields_early b))
       (λ end. then_early _ _ (models_names_early Fluid _) (models_names_early Boundary))
 
-  pub refused_early : {r : Refusal} → checked b ≡ Refused r → number_of r ≤ 7
+  pub refused_early : {r : Refusal} → checked b ≡ Err r → number_of r ≤ 7
   refused_early q = checked_early _ q

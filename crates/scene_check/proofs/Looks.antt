@@ -11,7 +11,7 @@ use Rattle.scene_fields.proofs.Stopped.{parts_refused, refused_if_by}
 use Rattle.scene_format.specs.Format.{name_width}
 use Rattle.scene_format.specs.declared.Refusal.{Refusal}
 use Rattle.scene_format.specs.declared.Refusal.TheVariants.{DanglingContact}
-use Rattle.scene_format.specs.declared.Walk.TheVariants.{At, Refused}
+use Rattle.std.specs.declared.result.Result.TheVariants.{Ok, Err}
 use Rattle.scene_check.specs.Looks.{looks_of, names_looked, LooksTold}
 use Rattle.scene_check.specs.Walk.{name, names}
 use Rattle.scene_check.specs.declared.contact_list.Looked.{Looked}
@@ -23,12 +23,12 @@ number_in w from k wide =
     ap (λ (x : ℕ). x / w) e ∙ mul-div_cancel k (omega (arith, wide))
 
 stopped_at : (w n from : ℕ) {r : Refusal} → name_width ≤ w → (k : ℕ) → r ≡ DanglingContact (from + w * k)
-    → looks_of w n from (Refused r) ≡ k + 1
+    → looks_of w n from (Err r) ≡ k + 1
 unfolding looks_of
 stopped_at w n from wide k e = rw (e, number_in w from k wide)
 
 -- a refusal is of one of the list's contacts
-refused_contact : (b counts : List ℕ) (w n from : ℕ) {r : Refusal} → names b counts w n from ≡ Refused r
+refused_contact : (b counts : List ℕ) (w n from : ℕ) {r : Refusal} → names b counts w n from ≡ Err r
     → (k : ℕ) × (k < n) × (r ≡ DanglingContact (from + w * k))
 unfolding names name
 refused_contact b counts w n from q =
@@ -41,14 +41,14 @@ module _ (b counts : List ℕ) (w n from : ℕ) where
   unfolding names_looked
   walk_is e = ap (λ (a : Looked). a.walk) e
 
-  pub all_looked : {end looks : ℕ} → At end ≡ names b counts w n from → looks ≡ n
-      → ◌≡◌ {A = Looked} (record { walk = At end; looks = looks }) (names_looked b counts w n from)
+  pub all_looked : {end looks : ℕ} → Ok end ≡ names b counts w n from → looks ≡ n
+      → ◌≡◌ {A = Looked} (record { walk = Ok end; looks = looks }) (names_looked b counts w n from)
   unfolding names_looked looks_of
   all_looked q e = rw (sym q, e)
 
-  pub looked_up_to : {at looks : ℕ} → name_width ≤ w → Refused (DanglingContact at) ≡ names b counts w n from → (k : ℕ)
+  pub looked_up_to : {at looks : ℕ} → name_width ≤ w → Err (DanglingContact at) ≡ names b counts w n from → (k : ℕ)
       → at ≡ from + w * k → looks ≡ k + 1
-      → ◌≡◌ {A = Looked} (record { walk = Refused (DanglingContact at); looks = looks })
+      → ◌≡◌ {A = Looked} (record { walk = Err (DanglingContact at); looks = looks })
       (names_looked b counts w n from)
   unfolding names_looked
   looked_up_to wide q k p e = rw (sym q, e, stopped_at w n from wide k (ap DanglingContact p))

@@ -7,14 +7,14 @@ use Rattle.scene_fields.specs.Fields.{times}
 use Rattle.scene_format.specs.Format.{model_at, counts_of}
 use Rattle.scene_format.specs.declared.Kind.{Kind}
 use Rattle.scene_format.specs.declared.Kind.TheVariants.{Fluid, Boundary}
-use Rattle.scene_format.specs.declared.Walk.{Walk}
-use Rattle.scene_format.specs.declared.Walk.TheVariants.{At}
+use Rattle.scene_format.specs.Refusals.{Walk}
+use Rattle.std.specs.declared.result.Result.TheVariants.{Ok}
 use Rattle.scene_fields.proofs.Reached.{parts-steps, stay, refused_if_leads}
 use Rattle.scene_check.specs.Check.{CountsOfKind, CountsAre}
 use Rattle.scene_check.specs.Walk.{name, names}
 
 -- a list that is passed ends behind its contacts
-pub names_end : (b counts : List ℕ) (w n at e : ℕ) → names b counts w n at ≡ At e → e ≡ at + w * n
+pub names_end : (b counts : List ℕ) (w n at e : ℕ) → names b counts w n at ≡ Ok e → e ≡ at + w * n
 unfolding names name
 names_end b counts w n at e q = (parts-steps w (λ at. refused_if_leads _ _ (stay _)) n at e q).0
 

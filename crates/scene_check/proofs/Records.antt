@@ -12,7 +12,7 @@ use Rattle.scene_format.specs.Scene.{fluid_size, boundary_size, size_of}
 use Rattle.scene_format.specs.SceneOf.{target_at, scene_of}
 use Rattle.scene_format.specs.declared.Kind.{Kind}
 use Rattle.scene_format.specs.declared.Kind.TheVariants.{Fluid, Boundary}
-use Rattle.scene_format.specs.declared.Walk.TheVariants.{At}
+use Rattle.std.specs.declared.result.Result.TheVariants.{Ok}
 use Rattle.scene_check.specs.Accepted.{TargetOk, FluidParticleOk, BoundaryParticleOk}
 use Rattle.scene_check.specs.Walk.{checked}
 use Rattle.scene_check.proofs.Accepted.{NameOk, RecordNamed, accepted}
@@ -31,7 +31,7 @@ target_ok {κ} {b} h =
 abbrev Met : Kind → List ℕ → Location → Type 0
 Met κ b p = HeadOk κ b p.head × RecordOk κ b p × RecordNamed κ b p
 
-module _ (b : List ℕ) {e : ℕ} (q : checked b ≡ At e) where
+module _ (b : List ℕ) {e : ℕ} (q : checked b ≡ Ok e) where
   met : (κ : Kind) (i : ℕ) → i < size_of κ (scene_of b) → Met κ b (location_of κ b i)
   met κ i h =
       let s = accepted b q in

@@ -10,15 +10,15 @@ use Rattle.scene_format.specs.Format.{boundary_record_width, boundary_contact_co
 use Rattle.scene_format.specs.declared.Kind.{Kind}
 use Rattle.scene_format.specs.declared.Kind.TheVariants.{Fluid, Boundary}
 use Rattle.scene_format.specs.declared.Refusal.TheVariants.{DanglingContact}
-use Rattle.scene_format.specs.declared.Walk.{Walk}
-use Rattle.scene_format.specs.declared.Walk.TheVariants.{At}
+use Rattle.scene_format.specs.Refusals.{Walk}
+use Rattle.std.specs.declared.result.Result.TheVariants.{Ok}
 
 -- ---- names
 
 -- one contact of w bytes
 unfoldable pub name : List ℕ → List ℕ → ℕ → ℕ → Walk
 name b counts w at = refused_if (leb (get_or counts (model_at b at) 0) (number_at b at)) (DanglingContact at)
-    (At (at + w))
+    (Ok (at + w))
 
 -- a list of n contacts
 unfoldable pub names : List ℕ → List ℕ → ℕ → ℕ → ℕ → Walk

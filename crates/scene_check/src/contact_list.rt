@@ -6,13 +6,13 @@ ghost use Rattle.scene_format.specs.Format.{name_width};
 ghost use Rattle.scene_check.specs.Looks.{names_looked};
 
 use crate::look::look;
+use scene_format::Refusal;
 use scene_format::format::NAMEABLE_MODELS;
-use scene_format::{Refusal, Walk};
 
 // How a walk through a list ended, and how many looks at its contacts it took.
 #[derive(Clone, Copy)]
 pub struct Looked {
-    pub walk: Walk,
+    pub walk: Result<usize, Refusal>,
     pub looks: usize,
 }
 
@@ -24,23 +24,21 @@ pub fn names(s: &[u8], counts: &[usize; NAMEABLE_MODELS], w: usize, n: usize, fr
 {
     let mut looks = 0;
     let mut at = from;
-    let mut i = 0;
-    while i < n {
+    for _ in 0..n {
         let seen = look(s, at, looks);
         let model = seen.name.model.0;
         let particle = seen.name.particle.0;
         if counts[model] <= particle {
             return Looked {
-                walk: Walk::Refused(Refusal::DanglingContact(at)),
+                walk: Err(Refusal::DanglingContact(at)),
                 looks: seen.looks,
             };
         }
         looks = seen.looks;
         at += w;
-        i += 1;
     }
     Looked {
-        walk: Walk::At(at),
+        walk: Ok(at),
         looks,
     }
 }

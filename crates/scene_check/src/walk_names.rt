@@ -8,6 +8,7 @@ ghost use Rattle.scene_layout.specs.Layout.{layout_models, layout_of};
 ghost use Rattle.scene_check.specs.Check.{CountsAre};
 ghost use Rattle.scene_check.specs.Walk as walk;
 ghost use Rattle.scene_walk.specs.Walk.{fields};
+ghost use Rattle.std.specs.declared.result.Result.TheVariants.{Ok};
 
 use crate::contact_list::names;
 use scene_format::format::{
@@ -15,7 +16,7 @@ use scene_format::format::{
     header_width,
 };
 use scene_format::read::{axes, byte, first_record, keeps, particles};
-use scene_format::{Kind, Walk};
+use scene_format::{Kind, Refusal};
 use scene_layout::{Layout, Models};
 
 // The record at an offset, of the model with that head. `fluids` and `boundaries` are the counts by model.
@@ -26,7 +27,7 @@ fn record_names(
     boundaries: &[usize; NAMEABLE_MODELS],
     head: usize,
     at: usize,
-) -> Walk
+) -> Result<usize, Refusal>
     requires counts_are { CountsAre s.now fluids.now boundaries.now }
     requires record_within { RecordWithin kind s.now head at }
     ensures { result ≡ walk.record_names_of kind s.now head at }
@@ -37,10 +38,7 @@ fn record_names(
             let counts = contact_counts(dim);
             let width = contact_width(dim);
             let n = byte(s, at + counts);
-            let w = names(s, fluids, width, n, at + (counts + 2)).walk;
-            let Walk::At(middle) = w else {
-                return w;
-            };
+            let middle = names(s, fluids, width, n, at + (counts + 2)).walk?;
             let n = byte(s, at + (counts + 1));
             names(s, boundaries, width, n, middle).walk
         }
@@ -59,24 +57,16 @@ fn model_names(
     fluids: &[usize; NAMEABLE_MODELS],
     boundaries: &[usize; NAMEABLE_MODELS],
     head: usize,
-) -> Walk
+) -> Result<usize, Refusal>
     requires counts_are { CountsAre s.now fluids.now boundaries.now }
     requires model_within { ModelWithin kind s.now head }
     ensures { result ≡ walk.model_names_of kind s.now head }
 {
-    let n = particles(s, kind, head);
-    let from = first_record(kind, head);
-    let mut at = from;
-    let mut i = 0;
-    while i < n {
-        let w = record_names(s, kind, fluids, boundaries, head, at);
-        let Walk::At(next) = w else {
-            return w;
-        };
-        at = next;
-        i += 1;
+    let mut at = first_record(kind, head);
+    for _ in 0..particles(s, kind, head) {
+        at = record_names(s, kind, fluids, boundaries, head, at)?;
     }
-    Walk::At(at)
+    Ok(at)
 }
 
 // The n models of a kind, of which the first has its head at an offset.
@@ -87,23 +77,17 @@ fn models_names(
     boundaries: &[usize; NAMEABLE_MODELS],
     n: usize,
     from: usize,
-) -> Walk
+) -> Result<usize, Refusal>
     requires counts_are { CountsAre s.now fluids.now boundaries.now }
     requires models_within { ModelsWithin kind s.now }
     requires n_value { (n ≡ model_number kind s.now) × (from ≡ first_head kind s.now) }
     ensures { result ≡ walk.models_names_of kind s.now from }
 {
     let mut at = from;
-    let mut i = 0;
-    while i < n {
-        let w = model_names(s, kind, fluids, boundaries, at);
-        let Walk::At(next) = w else {
-            return w;
-        };
-        at = next;
-        i += 1;
+    for _ in 0..n {
+        at = model_names(s, kind, fluids, boundaries, at)?;
     }
-    Walk::At(at)
+    Ok(at)
 }
 
 // The count of each model of a kind, in front of a list.
@@ -112,18 +96,15 @@ pub fn fill_counts(s: &[u8], kind: Kind, models: Models, counts: &mut [usize])
     requires most_models_in_bounds { most_models ≤ length counts.old }
     ensures { counts.new ≡ sets counts.old 0 (counts_of kind s.now) }
 {
-    let heads = models.heads;
-    let number = models.number;
-    let mut m = 0;
-    while m < number {
-        counts[m] = particles(s, kind, heads[m]);
-        m += 1;
+    let heads = &models.heads[..models.number];
+    for (m, &head) in heads.iter().enumerate() {
+        counts[m] = particles(s, kind, head);
     }
 }
 
 // All contacts of a scene, by its layout.
-pub fn all_names(s: &[u8], layout: Layout) -> Walk
-    requires { (fields s.now ≡ Walk.At (length s.now)) × (layout ≡ layout_of s.now) }
+pub fn all_names(s: &[u8], layout: Layout) -> Result<usize, Refusal>
+    requires { (fields s.now ≡ Ok (length s.now)) × (layout ≡ layout_of s.now) }
     ensures { result ≡ walk.all_names s.now }
 {
     let fluid_models = layout.fluids;
@@ -134,10 +115,7 @@ pub fn all_names(s: &[u8], layout: Layout) -> Walk
     fill_counts(s, Kind::Boundary, boundary_models, &mut boundaries);
     let number = fluid_models.number;
     let first = header_width(axes(s));
-    let w = models_names(s, Kind::Fluid, &fluids, &boundaries, number, first);
-    let Walk::At(at) = w else {
-        return w;
-    };
+    let at = models_names(s, Kind::Fluid, &fluids, &boundaries, number, first)?;
     let number = boundary_models.number;
     models_names(s, Kind::Boundary, &fluids, &boundaries, number, at)
 }

@@ -1,4 +1,5 @@
 pub mod Reached
 pub mod Stopped
 pub mod Walks
+pub mod Folded
 pub mod Found

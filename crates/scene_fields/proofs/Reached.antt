@@ -17,13 +17,13 @@ use Rattle.scene_fields.specs.Fields.{◌▹◌, times, refused_if, field, plain
 use Rattle.scene_format.specs.declared.Kind.{Kind}
 use Rattle.scene_fields.specs.declared.fields.Half.{Half}
 use Rattle.scene_fields.specs.declared.fields.Half.TheVariants.{Version, Rule, ModelCount}
-use Rattle.scene_format.specs.declared.Walk.{Walk}
-use Rattle.scene_format.specs.declared.Walk.TheVariants.{At, Refused}
+use Rattle.scene_format.specs.Refusals.{Walk}
+use Rattle.std.specs.declared.result.Result.TheVariants.{Ok, Err}
 use Rattle.scene_format.specs.declared.Refusal.{Refusal}
 
 -- if the walk w is not refused, it has come to x, and Q holds
 abbrev pub Leads : Walk → ℕ → Type 0 → Type 0
-Leads w x Q = (e : ℕ) → w ≡ At e → (e ≡ x) × Q
+Leads w x Q = (e : ℕ) → w ≡ Ok e → (e ≡ x) × Q
 
 -- from any offset, f leads to where g says, and Q holds of the offset
 abbrev pub Steps : (ℕ → Walk) → (ℕ → ℕ) → (ℕ → Type 0) → Type 0
@@ -31,11 +31,11 @@ Steps f g Q = (at : ℕ) → Leads (f at) (g at) (Q at)
 
 -- ---- walks joined
 
-pub never : {A : Type 0} {r : Refusal} {e : ℕ} → Refused r ≡ At e → A
+pub never : {A : Type 0} {r : Refusal} {e : ℕ} → Err r ≡ Ok e → A
 never q = let z : ◌≡◌ {A = ℕ} 0 1 = cc in absurd (omega arith)
 
 -- a walk of no step
-pub stay : (x : ℕ) → Leads (At x) x Unit
+pub stay : (x : ℕ) → Leads (Ok x) x Unit
 stay x e q = (cc, tt)
 
 -- the same, said otherwise
@@ -43,10 +43,10 @@ pub restated : {w : Walk} {x x' : ℕ} {Q Q' : Type 0} → Leads w x Q → (Q �
 restated l h e q = let k = l e q in let m = h k.1 in (k.0 ∙ m.0, m.1)
 
 -- a walk and a step that are not refused come to an offset between them
-pub both : (w : Walk) (f : ℕ → Walk) {e : ℕ} → w ▹ f ≡ At e → (at : ℕ) × (w ≡ At at) × (f at ≡ At e)
+pub both : (w : Walk) (f : ℕ → Walk) {e : ℕ} → w ▹ f ≡ Ok e → (at : ℕ) × (w ≡ Ok at) × (f at ≡ Ok e)
 unfolding ◌▹◌
-both (At at) f q = (at, refl, q)
-both (Refused r) f q = never q
+both (Ok at) f q = (at, refl, q)
+both (Err r) f q = never q
 
 infixl 60 ◌then◌
 -- a walk, and then a step

@@ -14,8 +14,11 @@ use Rattle.lists.specs.Lists.{choose, iter}
 use Rattle.scene_fields.specs.Fields.{◌▹◌, times, refused_if, field, plain}
 use Rattle.scene_format.specs.declared.Refusal.{Refusal}
 use Rattle.scene_format.specs.declared.Refusal.TheVariants.{MissingField}
-use Rattle.scene_format.specs.declared.Walk.{Walk}
-use Rattle.scene_format.specs.declared.Walk.TheVariants.{At, Refused}
+use Rattle.scene_format.specs.Refusals.{Walk}
+use Rattle.std.specs.declared.result.Result.{Result}
+use Rattle.std.specs.declared.result.Result.TheVariants.{Ok, Err}
+use Rattle.std.proofs.Common.{IsErrAnd}
+use Rattle.std.proofs.lemmas.Result.{err_from_is_err_and}
 use Rattle.scene_fields.proofs.Reached.{never}
 
 -- ---- fields
@@ -25,17 +28,17 @@ module _ (b : List ℕ) (k : ℕ) (rule : ℕ → Walk) (at : ℕ) where
   unfolding field refused_if choose
   field_there h = rw (le-leb _ _ h)
 
-  pub field_missing : length b < at + k → field b k rule at ≡ Refused (MissingField at)
+  pub field_missing : length b < at + k → field b k rule at ≡ Err (MissingField at)
   unfolding field refused_if choose
   field_missing h = rw (lt-leb _ _ h)
 
-pub plain_there : (b : List ℕ) (k at : ℕ) → at + k ≤ length b → plain b k at ≡ At (at + k)
+pub plain_there : (b : List ℕ) (k at : ℕ) → at + k ≤ length b → plain b k at ≡ Ok (at + k)
 unfolding plain
 plain_there b k at h = field_there b k _ at h
 
 -- a field whose bytes are refused is refused so
 pub field_refused : (b : List ℕ) (k : ℕ) (rule : ℕ → Walk) (at : ℕ) {w : Walk} {r : Refusal}
-    → w ≡ plain b k at → w ≡ Refused r → w ≡ field b k rule at
+    → w ≡ plain b k at → w ≡ Err r → w ≡ field b k rule at
 unfolding plain
 field_refused b k rule at {w} {r} e q = told (leb (at + k) (length b)) refl
   where
@@ -44,28 +47,23 @@ field_refused b k rule at {w} {r} e q = told (leb (at + k) (length b)) refl
     told false h = let l = leb-false (at + k) (length b) h in e ∙ field_missing b k _ at l
         ∙ sym (field_missing b k rule at l)
 
--- ---- a step from where a walk has come to
+-- ---- refusals that are handed on
 
--- a walk that is refused goes no further
-pub stopped : {w : Walk} {r : Refusal} (f : ℕ → Walk) → w ≡ Refused r → w ≡ w ▹ f
-unfolding ◌▹◌
-stopped f q = rw q
+-- what `?` hands on is the refusal
+pub handed_on : {T : Type 0} {w : Result T Refusal} {r : Refusal} → IsErrAnd w (λ (e : Refusal). e ≡ r) → w ≡ Err r
+handed_on {w} h = let p = err_from_is_err_and w h in p.1 ∙ ap Err p.2
 
-pub gone_on : {w v : Walk} {at : ℕ} (f : ℕ → Walk) → w ≡ At at → v ≡ f at → v ≡ w ▹ f
-unfolding ◌▹◌
-gone_on f q e = rw q e
-
--- a step from where w has come to, where w is v
-pub onward : {w v x : Walk} (f : ℕ → Walk) → x ≡ w ▹ f → w ≡ v → x ≡ v ▹ f
-onward f e q = e ∙ ap (λ (y : Walk). y ▹ f) q
+-- so it is the walk v that was refused
+pub same_walk : {w v : Walk} {r : Refusal} → IsErrAnd w (λ (e : Refusal). e ≡ r) → v ≡ Err r → w ≡ v
+same_walk h q = handed_on h ∙ sym q
 
 -- ---- steps one after the other
 
 -- a step h that is f and then g
 in_two : (w : Walk) (f g h : ℕ → Walk) → ((at : ℕ) → h at ≡ f at ▹ g) → w ▹ h ≡ w ▹ f ▹ g
 unfolding ◌▹◌
-in_two (At at) f g h e = e at
-in_two (Refused r) f g h e = refl
+in_two (Ok at) f g h e = e at
+in_two (Err r) f g h e = refl
 
 pub times-add : (n m : ℕ) (f : ℕ → Walk) (at : ℕ) → times (n + m) f at ≡ times n f at ▹ times m f
 unfolding times ◌▹◌
@@ -73,17 +71,17 @@ times-add zero m f at = rw (zero-add m)
 times-add (suc n) m f at = rw (suc-add n m) (in_two (f at) _ _ _ (times-add n m f))
 
 -- n steps of c bytes each, none of which is refused
-pub parts_there : (f : ℕ → Walk) (c n at : ℕ) → ((k : ℕ) → k < n → f (at + c * k) ≡ At (at + c * k + c))
-    → times n f at ≡ At (at + c * n)
+pub parts_there : (f : ℕ → Walk) (c n at : ℕ) → ((k : ℕ) → k < n → f (at + c * k) ≡ Ok (at + c * k + c))
+    → times n f at ≡ Ok (at + c * n)
 unfolding times ◌▹◌
 parts_there f c zero at h = rw (mul-zero, add-zero)
 parts_there f c (suc n) at h =
     rw (step 0 at (rw (mul-zero, add-zero)) (omega arith))
     (parts_there f c n (at + c) (λ k l. step (suc k) _ (omega (arith, mul-suc c k)) (omega arith))
-    ∙ ap At (omega (arith, mul-suc c n)))
+    ∙ ap Ok (omega (arith, mul-suc c n)))
   where
-    step : (k x : ℕ) → at + c * k ≡ x → k < suc n → f x ≡ At (x + c)
-    step k x e l = subst (λ (y : ℕ). f y ≡ At (y + c)) e (h k l)
+    step : (k x : ℕ) → at + c * k ≡ x → k < suc n → f x ≡ Ok (x + c)
+    step k x e l = subst (λ (y : ℕ). f y ≡ Ok (y + c)) e (h k l)
 
 -- ---- loops
 
@@ -97,16 +95,16 @@ module _ {f : ℕ → Walk} {n from : ℕ} where
   none_done = record { within = omega arith; whole = rw sub-zero }
 
   module _ {i at : ℕ} (here : Remains f n from i at) where
-    pub all_done : n ≤ i → At at ≡ times n f from
+    pub all_done : n ≤ i → Ok at ≡ times n f from
     unfolding times
     all_done h = let e : n - i ≡ zero = omega arith in rw (here.whole, e)
 
     module _ {w : Walk} (h : i < n) (step : w ≡ f at) where
-      pub turn_refused : {r : Refusal} → w ≡ Refused r → w ≡ times n f from
+      pub turn_refused : {r : Refusal} → w ≡ Err r → w ≡ times n f from
       unfolding times ◌▹◌
       turn_refused q = let e : n - i ≡ suc (n - (i + 1)) = omega arith in rw (here.whole, e, sym step ∙ q) q
 
-      pub one_more_done : {next : ℕ} → w ≡ At next → Remains f n from (i + 1) next
+      pub one_more_done : {next : ℕ} → w ≡ Ok next → Remains f n from (i + 1) next
       unfolding times ◌▹◌
       one_more_done q =
           let e : n - i ≡ suc (n - (i + 1)) = omega arith in

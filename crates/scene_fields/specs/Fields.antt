@@ -7,8 +7,8 @@ use Rattle.scene_format.specs.Bytes.{byte_at, exponent_at, double_width, non_fin
 use Rattle.scene_format.specs.Format.{most_models, most_particles, upper_half, lower_half, version_known, count_width}
 use Rattle.scene_format.specs.Format.{particles_at}
 use Rattle.scene_format.specs.declared.Kind.{Kind}
-use Rattle.scene_format.specs.declared.Walk.{Walk}
-use Rattle.scene_format.specs.declared.Walk.TheVariants.{At, Refused}
+use Rattle.scene_format.specs.Refusals.{Walk}
+use Rattle.std.specs.declared.result.Result.TheVariants.{Ok, Err}
 use Rattle.scene_fields.specs.declared.fields.Half.{Half}
 use Rattle.scene_fields.specs.declared.fields.Half.TheVariants.{Version, Rule, ModelCount}
 use Rattle.scene_format.specs.declared.Refusal.{Refusal}
@@ -20,17 +20,17 @@ use Rattle.scene_format.specs.declared.Refusal.TheVariants.{TrailingBytes, NotFi
 infixl 60 ◌▹◌
 -- a step from where a walk has come to
 unfoldable pub ◌▹◌ : Walk → (ℕ → Walk) → Walk
-At at ▹ f = f at
-Refused r ▹ f = Refused r
+Ok at ▹ f = f at
+Err r ▹ f = Err r
 
 -- n times
 unfoldable pub times : ℕ → (ℕ → Walk) → ℕ → Walk
-times zero f at = At at
+times zero f at = Ok at
 times (suc n) f at = f at ▹ times n f
 
 -- refused if a test holds, else a walk goes on
 unfoldable pub refused_if : Bool → Refusal → Walk → Walk
-refused_if b r w = choose b (Refused r) w
+refused_if b r w = choose b (Err r) w
 
 -- a field of k bytes: present, then its own rule
 unfoldable pub field : List ℕ → ℕ → (ℕ → Walk) → ℕ → Walk
@@ -40,19 +40,19 @@ field b k rule at = refused_if (not (leb (at + k) (length b))) (MissingField at)
 
 -- k bytes with no rule of their own
 unfoldable pub plain : List ℕ → ℕ → ℕ → Walk
-plain b k = field b k (λ at. At (at + k))
+plain b k = field b k (λ at. Ok (at + k))
 
 -- a double is finite
 unfoldable pub double : List ℕ → ℕ → Walk
 double b =
     field b double_width
-    (λ at. refused_if (eqb (exponent_at b at) non_finite_exponent) (NotFinite at) (At (at + double_width)))
+    (λ at. refused_if (eqb (exponent_at b at) non_finite_exponent) (NotFinite at) (Ok (at + double_width)))
 
 -- the count of a model of a kind
 unfoldable pub count : Kind → List ℕ → ℕ → Walk
 count κ b =
     field b count_width
-    (λ at. refused_if (ltb most_particles (particles_at κ b at)) (TooManyParticles at) (At (at + count_width)))
+    (λ at. refused_if (ltb most_particles (particles_at κ b at)) (TooManyParticles at) (Ok (at + count_width)))
 
 -- half a byte x at an offset, and how the walk goes on
 unfoldable pub half_byte : Half → ℕ → ℕ → Walk → Walk
@@ -65,8 +65,8 @@ unfoldable pub halves : List ℕ → Half → Half → ℕ → Walk
 halves b upper lower =
     field b 1
     (λ at. half_byte upper (upper_half (byte_at b at)) at
-    (half_byte lower (lower_half (byte_at b at)) at (At (at + 1))))
+    (half_byte lower (lower_half (byte_at b at)) at (Ok (at + 1))))
 
 -- nothing follows
 unfoldable pub ended : List ℕ → ℕ → Walk
-ended b at = refused_if (ltb at (length b)) (TrailingBytes at) (At at)
+ended b at = refused_if (ltb at (length b)) (TrailingBytes at) (Ok at)

@@ -9,9 +9,10 @@ use native.Mathlib.Omega.{arith}
 use lib.Dec.{eqb}
 use lib.ListN.{length}
 use borrow.Author.Tests.{eq-eqb, ne_eqb}
+use Rattle.std.specs.Int.{from_bool}
 use Rattle.math.specs.Vector.{plane, space, Axes}
 use Rattle.scene_format.specs.Bytes.{AllFinite}
-use Rattle.scene_format.specs.Format.{version_of, flat_version, axes_of, contact_width, contact_count_offset}
+use Rattle.scene_format.specs.Format.{version_of, flat_version, axes_of, bit, contact_width, contact_count_offset}
 use Rattle.scene_format.specs.Format.{record_width}
 use Rattle.scene_format.specs.declared.Kind.TheVariants.{Fluid}
 
@@ -65,6 +66,11 @@ second-within at d e q r t u h = rw (u, e, q, r, t) (omega (arith, h))
 -- a part that is there once or not at all
 pub kept_fits : {w m k : ℕ} → w < m → k < 2 → w * k < m
 kept_fits {w} {m} {k} l h = omega (arith, mul-le-mul_left w (le_of_suc-le-suc h), mul-one w)
+
+-- the number that the code makes of a bool
+pub from_bit : (answer : Bool) → from_bool answer ≡ bit answer
+from_bit true = refl
+from_bit false = refl
 
 -- as many contacts as two bytes count are few bytes, whatever the number of axes is
 pub two_bytes : {m n : ℕ} → m < 256 → n < 256 → m + n < 2 * 256

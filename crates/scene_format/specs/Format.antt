@@ -149,6 +149,10 @@ head_width Boundary = count_width
 abbrev pub particles_at : Kind → List ℕ → ℕ → ℕ
 particles_at κ b head = be16_at b head % count_modulus κ
 
+-- 1 for yes, 0 for no
+abbrev pub bit : Bool → ℕ
+bit answer = cond answer 1 0
+
 -- whether a boundary keeps forces: 1 or 0
 abbrev pub keeps_at : List ℕ → ℕ → ℕ
 keeps_at b head = be16_at b head / count_modulus Boundary

@@ -1,5 +1,7 @@
--- The number and the place of a refusal of a packed scene (FORMAT 2.1). Definitions only.
+-- The number and the place of a refusal of a packed scene (FORMAT 2.1), and what a walk over its fields comes to.
+-- Definitions only.
 use Rattle.std.specs.Prelude.{ℕ}
+use Rattle.std.specs.declared.result.Result.{Result}
 use Rattle.scene_format.specs.declared.Refusal.{Refusal}
 use Rattle.scene_format.specs.declared.Refusal.TheVariants.{MissingField, UnknownForm, TooManyModels}
 use Rattle.scene_format.specs.declared.Refusal.TheVariants.{TooManyParticles, TrailingBytes, NotFinite}
@@ -30,3 +32,7 @@ place_of (DanglingContact at) = at
 place_of ShortList = 0
 place_of (ZeroDensity at) = at
 place_of (ZeroPredictedDensity at) = at
+
+-- how far a walk over the fields has come, or why the scene is refused
+abbrev pub Walk : Type 0
+Walk = Result ℕ Refusal

@@ -4,7 +4,7 @@ ghost use Rattle.std.specs.Prelude.{◌≡◌, ◌<◌};
 ghost use Rattle.scene_format.specs.Format.{vector_width, header_doubles, header_width, contact_doubles};
 ghost use Rattle.scene_format.specs.Format.{contact_width, record_doubles, acceleration_offset, volume_offset};
 ghost use Rattle.scene_format.specs.Format.{warm_pressure_offset, contact_count_offset, record_width};
-ghost use Rattle.scene_format.specs.Format.{boundary_record_doubles, boundary_count_offset};
+ghost use Rattle.scene_format.specs.Format.{bit, boundary_record_doubles, boundary_count_offset};
 ghost use Rattle.scene_format.specs.declared.Kind.TheVariants.{Fluid};
 
 // At most so many models of a kind, and so many particles of a model.
@@ -64,25 +64,18 @@ pub const BOUNDARY_CONTACT_DOUBLES: usize = 1;
 
 pub const BOUNDARY_CONTACT_WIDTH: usize = CONTACT_GRADIENT;
 
-// A byte, such as a number of axes, as a wider number.
-pub fn wide(dim: u8) -> usize
-    ensures { (result ≡ dim) × (result < 256) }
-{
-    dim as usize
-}
-
 // A vector has a double for each axis.
 pub fn vector_width(dim: u8) -> usize
     ensures { (result ≡ vector_width dim) × (result < 2048) }
 {
-    DOUBLE_WIDTH * wide(dim)
+    DOUBLE_WIDTH * usize::from(dim)
 }
 
 // Of the header: its doubles, and its width.
 pub fn header_doubles(dim: u8) -> usize
     ensures { result ≡ header_doubles dim }
 {
-    HEADER_NUMBERS + wide(dim)
+    HEADER_NUMBERS + usize::from(dim)
 }
 
 pub fn header_width(dim: u8) -> usize
@@ -95,7 +88,7 @@ pub fn header_width(dim: u8) -> usize
 pub fn contact_doubles(dim: u8) -> usize
     ensures { result ≡ contact_doubles dim }
 {
-    1 + wide(dim)
+    1 + usize::from(dim)
 }
 
 pub fn contact_width(dim: u8) -> usize
@@ -108,7 +101,7 @@ pub fn contact_width(dim: u8) -> usize
 pub fn record_doubles(dim: u8) -> usize
     ensures { result ≡ record_doubles dim }
 {
-    3 * wide(dim) + 2
+    3 * usize::from(dim) + 2
 }
 
 pub fn acceleration(dim: u8) -> usize
@@ -143,20 +136,18 @@ pub fn record_width(dim: u8) -> usize
     contact_counts(dim) + 2
 }
 
-// Of a boundary record, whose boundary keeps forces if `keeps` is 1 and else does not: its doubles, velocity and force,
-// and where its count of contacts stands behind them.
-pub fn boundary_doubles(dim: u8, keeps: usize) -> usize
-    requires { keeps < 2 }
-    ensures { result ≡ boundary_record_doubles dim keeps }
+// Of a boundary record, by whether its boundary keeps forces: its doubles, velocity and force, and where its count of
+// contacts stands behind them.
+pub fn boundary_doubles(dim: u8, keeps: bool) -> usize
+    ensures { result ≡ boundary_record_doubles dim (bit keeps) }
 {
-    let axes = wide(dim);
-    axes + axes * keeps
+    let axes = usize::from(dim);
+    if keeps { 2 * axes } else { axes }
 }
 
-pub fn boundary_count(dim: u8, keeps: usize) -> usize
-    requires { keeps < 2 }
-    ensures { (result ≡ boundary_count_offset dim keeps) × (result < 4096) }
+pub fn boundary_count(dim: u8, keeps: bool) -> usize
+    ensures { (result ≡ boundary_count_offset dim (bit keeps)) × (result < 4096) }
 {
     let width = vector_width(dim);
-    width + width * keeps
+    if keeps { 2 * width } else { width }
 }

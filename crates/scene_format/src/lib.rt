@@ -68,13 +68,6 @@ pub fn place(refusal: Refusal) -> usize
     }
 }
 
-// How far a walk over the fields has come, or why the scene is refused.
-#[derive(Clone, Copy)]
-pub enum Walk {
-    At(usize),
-    Refused(Refusal),
-}
-
 // The two kinds of models. A boundary is the customer's wall.
 #[derive(Clone, Copy)]
 pub enum Kind {

@@ -4,32 +4,26 @@ ghost use Rattle.math.specs.Vector.{Axes, coordinates};
 ghost use Rattle.scene_format.specs.Bytes.{byte_at, be16_at, be32_at, be64_at, double_width, exponent_at, double_at};
 ghost use Rattle.scene_format.specs.Bytes.{non_finite_exponent, plainly_finite};
 ghost use Rattle.scene_format.specs.Bytes.{vector_at, FiniteAt, AllFinite};
-ghost use Rattle.scene_format.specs.Format.{axes_of, count_width, keeps_at, name_width, particles_at, first_record};
-ghost use Rattle.scene_format.specs.Format.{next_record, count_modulus, min_pressure_iter_offset, model_number};
-ghost use Rattle.scene_format.specs.Format.{version_of, rule_of, most_rule, criterion_of, summation_of};
+ghost use Rattle.scene_format.specs.Format.{axes_of, bit, count_width, keeps_at, name_width, particles_at};
+ghost use Rattle.scene_format.specs.Format.{first_record, next_record, count_modulus, min_pressure_iter_offset};
+ghost use Rattle.scene_format.specs.Format.{model_number, version_of, rule_of, most_rule, criterion_of};
+ghost use Rattle.scene_format.specs.Format.{summation_of};
 ghost use Rattle.scene_format.specs.Within.{NameIs, RecordWithin};
 
 use crate::format::{
     BOUNDARY_CONTACT_WIDTH, BOUNDARY_COUNT_MODULUS, COUNT_WIDTH, CRITERIA, DOUBLE_WIDTH,
     FIRST_VERSION, FLAT_VERSION, FLUID_HEAD_WIDTH, HALF_MODULUS, LAST_RULE, NAMEABLE_PARTICLES,
-    boundary_count, contact_counts, contact_width, wide,
+    boundary_count, contact_counts, contact_width,
 };
 use crate::{ContactName, Criterion, Kind, ModelNumber, ParticleNumber, Summation};
 use math::{PLANE, SPACE, Vec3};
-
-// A byte as a wider number.
-fn wider(x: u8) -> u64
-    ensures { (result ≡ x) × (result < 256) }
-{
-    x as u64
-}
 
 // The byte at an offset.
 pub fn byte(s: &[u8], at: usize) -> usize
     requires { at < length s.now }
     ensures { (result ≡ byte_at s.now at) × (result < 256) }
 {
-    wide(s[at])
+    usize::from(s[at])
 }
 
 // The number in two bytes, the first of which has the upper bits.
@@ -37,14 +31,7 @@ pub fn be16(s: &[u8], at: usize) -> usize
     requires { at + 2 ≤ length s.now }
     ensures { (result ≡ be16_at s.now at) × (result < 65536) }
 {
-    wide(s[at]) * 256 + wide(s[at + 1])
-}
-
-fn be32(s: &[u8], at: usize) -> u64
-    requires { at + 4 ≤ length s.now }
-    ensures { (result ≡ be32_at s.now at) × (result < 4294967296) }
-{
-    ((wider(s[at]) * 256 + wider(s[at + 1])) * 256 + wider(s[at + 2])) * 256 + wider(s[at + 3])
+    usize::from(u16::from_be_bytes([s[at], s[at + 1]]))
 }
 
 // In the first two bytes of a double, the sign comes first, then the exponent, then the front of the fraction.
@@ -91,7 +78,16 @@ fn be64(s: &[u8], at: usize) -> u64
     requires { at + double_width ≤ length s.now }
     ensures { result ≡ be64_at s.now at }
 {
-    be32(s, at) * 4294967296 + be32(s, at + 4)
+    u64::from_be_bytes([
+        s[at],
+        s[at + 1],
+        s[at + 2],
+        s[at + 3],
+        s[at + 4],
+        s[at + 5],
+        s[at + 6],
+        s[at + 7],
+    ])
 }
 
 // The double at an offset, which is finite.
@@ -110,7 +106,7 @@ pub fn vector(s: &[u8], at: usize, dim: u8) -> Vec3
     Vec3 {
         x: double(s, at),
         y: double(s, at + DOUBLE_WIDTH),
-        z: double(s, at + DOUBLE_WIDTH * (wide(dim) - 1)),
+        z: double(s, at + DOUBLE_WIDTH * (usize::from(dim) - 1)),
     }
 }
 
@@ -195,12 +191,12 @@ pub fn most_rule(s: &[u8]) -> usize
     }
 }
 
-// Of a boundary's head: 1 if the boundary keeps forces, else 0.
-pub fn keeps(s: &[u8], head: usize) -> usize
+// Of a boundary's head: whether the boundary keeps forces.
+pub fn keeps(s: &[u8], head: usize) -> bool
     requires { head + count_width ≤ length s.now }
-    ensures { (result ≡ keeps_at s.now head) × (result < 2) }
+    ensures { keeps_at s.now head ≡ bit result }
 {
-    be16(s, head) / BOUNDARY_COUNT_MODULUS
+    be16(s, head) >= BOUNDARY_COUNT_MODULUS
 }
 
 // Of a model's head: how many particles the model has.

@@ -1,15 +1,19 @@
 -- The index that is filled from a layout, section behind section, which is one store of the whole; and how long it is
 -- at most. Assumes nothing.
-use Prim.Native.Nat.{ℕ, ◌+◌, ◌*◌, ◌≤◌}
+use Prim.Native.Nat.{ℕ, ◌+◌, ◌-◌, ◌*◌, ◌≤◌}
 use mathlib.Core.Path.{◌≡◌, sym, ap, ◌∙◌}
-use mathlib.Core.List.{List, map}
+use mathlib.Core.List.{List, map, append_assoc}
 use native.Mathlib.Omega.{arith}
-use lib.ListN.{length, replicate}
+use borrow.Rule.Slice.PartMut.{put_mid}
+use lib.ListN.{length, replicate, take, drop, length-take, length-drop, length-replicate}
 use lib.Seq.{sets, length-sets}
+use Rattle.std.proofs.lemmas.List.{drop-drop}
+use Rattle.std.proofs.lemmas.List.Edits.{sets-eq}
 use Rattle.lists.proofs.Fills.{table_copies}
 use Rattle.lists.proofs.Stores.{sets_in}
-use Rattle.scene_check.proofs.Accepted.{accepted}
-use Rattle.scene_check.proofs.Checks.{fluid-number, boundary-number, fluid-total, boundary-total}
+use Rattle.scene_check.proofs.Accepted.{accepted, accepted_within}
+use Rattle.scene_check.proofs.Checks.{fluid-number, boundary-number, fluid-total, boundary-total, fluids_are}
+use Rattle.scene_check.proofs.Checks.{boundaries_are}
 use Rattle.scene_check.proofs.Records.{fluid_size_few, boundary_size_few}
 use Rattle.scene_check.specs.Check.{Passed}
 use Rattle.scene_format.specs.Format.{most_models, most_of_a_kind, model_number, particles_at, model_locations}
@@ -18,6 +22,8 @@ use Rattle.scene_format.specs.Scene.{fluid_size, boundary_size, size_of}
 use Rattle.scene_format.specs.SceneOf.{scene_of}
 use Rattle.scene_format.specs.declared.Kind.{Kind}
 use Rattle.scene_format.specs.declared.Kind.TheVariants.{Fluid, Boundary}
+use Rattle.scene_format.specs.Within.{ModelsWithin}
+use Rattle.scene_layout.specs.Layout.{layout_models}
 use Rattle.scene_layout.specs.declared.Layout.{Layout}
 use Rattle.scene_layout.proofs.Locations.{size_locations}
 use Rattle.scene_index.specs.Index.{model_blocks, starts_length, bases_at, heads_at, records_at, index_needed}
@@ -30,11 +36,27 @@ use Rattle.scene_index.proofs.Traversals.{model_table}
 
 -- ---- filling
 
+-- a part that is filled with x has stored x in each of its places
+part_filled : {A : Type 0} (x : A) (l : List A) (k n : ℕ) → k + n ≤ length l → {part : List A}
+    → part ≡ replicate (length (take (k + n - k) (drop k l))) x
+    → put_mid k (k + n - k) l part ≡ sets l k (replicate n x)
+part_filled x l k n room p =
+    let width : k + n - k ≡ n = omega arith in
+    let size : length (take (k + n - k) (drop k l)) ≡ n = simp (length-take, length-drop) (omega arith) in
+    let copies = p ∙ ap (λ (j : ℕ). replicate j x) size in
+    let end : k + length (replicate n x) ≡ k + n = omega (arith, length-replicate n x) in
+    let xs = replicate n x in
+    let stored = sets-eq xs l k (omega (arith, end)) ∙ rw end (append_assoc (take k l) xs (drop (k + n) l)) in
+    rw (copies, width, drop-drop n k l) (sym stored)
+
 -- of each record of a model the head is the same
-pub heads_copied : (κ : Kind) (b : List ℕ) (head : ℕ) {n : ℕ} → n ≡ particles_at κ b head
-    → replicate n head ≡ map (entry_of Head) (model_locations κ b head)
+pub heads_filled : (κ : Kind) (b : List ℕ) (head : ℕ) {n : ℕ} → n ≡ particles_at κ b head → (l : List ℕ) (k : ℕ)
+    → k + n ≤ length l → {part : List ℕ} → part ≡ replicate (length (take (k + n - k) (drop k l))) head
+    → put_mid k (k + n - k) l part ≡ sets l k (map (entry_of Head) (model_locations κ b head))
 unfolding entry_of
-heads_copied κ b head {n} e = sym (table_copies n head) ∙ model_table κ b (entry_of Head) head e
+heads_filled κ b head {n} e l k room p =
+    part_filled head l k n room p
+    ∙ ap (sets l k) (sym (table_copies n head) ∙ model_table κ b (entry_of Head) head e)
 
 -- few models and particles of each kind, so that no sum overflows
 pub record CountsFew (layout : Layout) : Type 0 where
@@ -65,6 +87,13 @@ sections_are e =
 module _ {b : List ℕ} {layout : Layout} (passed : Passed b layout) where
   pub number_few : (κ : Kind) → model_number κ b ≤ most_models
   number_few κ = (accepted b passed.walk).fields.header.few κ
+
+  -- the models of each kind are within the bytes, and the layout has them
+  pub fluids_within : ModelsWithin Fluid b × (layout.fluids ≡ layout_models Fluid b)
+  fluids_within = (accepted_within b passed.walk Fluid, fluids_are b passed.layout_is)
+
+  pub boundaries_within : ModelsWithin Boundary b × (layout.boundaries ≡ layout_models Boundary b)
+  boundaries_within = (accepted_within b passed.walk Boundary, boundaries_are b passed.layout_is)
 
   -- as many places as particles
   pub fluid_places : length (locations_of Fluid b) ≡ fluid_size (scene_of b)

@@ -12,7 +12,7 @@ use Rattle.scene_format.specs.Scene.{fluid_size, boundary_size}
 use Rattle.scene_format.specs.SceneOf.{scene_of}
 use Rattle.scene_format.specs.declared.Kind.{Kind}
 use Rattle.scene_format.specs.declared.Kind.TheVariants.{Fluid, Boundary}
-use Rattle.scene_format.specs.declared.Walk.TheVariants.{At}
+use Rattle.std.specs.declared.result.Result.TheVariants.{Ok}
 use Rattle.scene_index.specs.declared.index.Entry.{Entry}
 use Rattle.scene_index.specs.declared.index.Sections.{Sections}
 use Rattle.scene_index.specs.declared.index.Entry.TheVariants.{Offset, Head}
@@ -114,7 +114,7 @@ index_of b =
 -- a list with the index of the bytes b, which are accepted, in front
 pub record Indexed (b index : List ℕ) : Type 0 where
   pub bytes : Bytes b
-  pub accepted : checked b ≡ At (length b)
+  pub accepted : checked b ≡ Ok (length b)
   pub room : index_needed b ≤ length index
   pub few_fluid : fluid_size (scene_of b) ≤ most_of_a_kind
   pub few_boundary : boundary_size (scene_of b) ≤ most_of_a_kind

@@ -1,6 +1,6 @@
 // The index of an accepted scene, filled into a lent list: the bases of contacts' names, and where each record and its
 // model's head stand.
-ghost use Rattle.std.specs.Prelude.{◌≡◌, map, ◌+◌, ◌≤◌, length, replicate};
+ghost use Rattle.std.specs.Prelude.{◌≡◌, map, ◌+◌, ◌≤◌, length};
 ghost use Rattle.std.proofs.lemmas.List.Edits.{sets};
 ghost use Rattle.scene_check.specs.Check.{Passed};
 ghost use Rattle.scene_format.specs.Format.{most_of_a_kind, particles_at, model_locations, locations_of};
@@ -106,42 +106,25 @@ fn fill_blocks(start: usize, k: usize, index: &mut [usize])
     requires { (start ≤ most_of_a_kind) × (k + model_blocks ≤ length index.old) }
     ensures { index.new ≡ sets index.old k (blocks_from start) }
 {
-    let mut x = 0;
-    while x < MODEL_BLOCKS {
+    for x in 0..MODEL_BLOCKS {
         index[k + x] = start + BLOCK_SIZE * x;
-        x += 1;
     }
 }
 
 // The bases of one kind, from element k on.
+#[tactic(auto, using(scene_layout::proofs::Turns::number_few))]
 fn fill_bases(scene: &[u8], kind: Kind, models: Models, k: usize, index: &mut [usize])
     requires models_within { ModelsWithin kind scene.now × (models ≡ layout_models kind scene.now) }
     requires scene_bound { (size_of kind (scene_of scene.now) ≤ most_of_a_kind)
         × (k + bases_length kind scene.now ≤ length index.old) }
     ensures { index.new ≡ sets index.old k (kind_bases kind scene.now) }
 {
-    let heads = models.heads;
-    let number = models.number;
     let mut start = 0;
     let mut to = k;
-    let mut m = 0;
-    while m < number {
+    for &head in &models.heads[..models.number] {
         fill_blocks(start, to, index);
-        start += particles(scene, kind, heads[m]);
+        start += particles(scene, kind, head);
         to += MODEL_BLOCKS;
-        m += 1;
-    }
-}
-
-// n times x, from element k on.
-fn fill_copies(x: usize, n: usize, k: usize, index: &mut [usize])
-    requires { k + n ≤ length index.old }
-    ensures { index.new ≡ sets index.old k (replicate n x) }
-{
-    let mut i = 0;
-    while i < n {
-        index[k + i] = x;
-        i += 1;
     }
 }
 
@@ -153,11 +136,9 @@ fn fill_offsets(scene: &[u8], kind: Kind, head: usize, n: usize, k: usize, index
         ≡ sets index.old k (map (entry_of Entry.Offset) (model_locations kind scene.now head)) }
 {
     let mut at = first_record(kind, head);
-    let mut i = 0;
-    while i < n {
+    for i in 0..n {
         index[k + i] = at;
         at = next_record(scene, kind, head, at);
-        i += 1;
     }
 }
 
@@ -178,11 +159,12 @@ fn fill_model(
 {
     match entry {
         Entry::Offset => fill_offsets(scene, kind, head, n, k, index),
-        Entry::Head => fill_copies(head, n, k, index),
+        Entry::Head => index[k..k + n].fill(head),
     }
 }
 
 // One entry of each record of a kind, from element k on.
+#[tactic(auto, using(scene_layout::proofs::Turns::number_few))]
 fn fill_models(
     scene: &[u8],
     kind: Kind,
@@ -195,16 +177,11 @@ fn fill_models(
     requires scene_in_bounds { k + length (locations_of kind scene.now) ≤ length index.old }
     ensures { index.new ≡ sets index.old k (entries_of entry kind scene.now) }
 {
-    let heads = models.heads;
-    let number = models.number;
     let mut to = k;
-    let mut m = 0;
-    while m < number {
-        let head = heads[m];
+    for &head in &models.heads[..models.number] {
         let n = particles(scene, kind, head);
         fill_model(scene, kind, entry, head, n, to, index);
         to += n;
-        m += 1;
     }
 }
 

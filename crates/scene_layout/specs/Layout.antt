@@ -24,10 +24,3 @@ layout_models κ b =
 
 unfoldable pub layout_of : List ℕ → Layout
 layout_of b = record { fluids = layout_models Fluid b; boundaries = layout_models Boundary b }
-
--- the layout of no scene
-abbrev pub no_models : Models
-no_models = record { number = 0; total = 0; heads = replicate most_models 0; end = 0 }
-
-unfoldable pub no_layout : Layout
-no_layout = record { fluids = no_models; boundaries = no_models }

@@ -7,10 +7,11 @@ ghost use Rattle.scene_format.specs.Format.{model_number, particles_at, model_en
 ghost use Rattle.scene_format.specs.Within.{ModelWithin, ModelsWithin};
 ghost use Rattle.scene_layout.specs.Layout.{layout_models, layout_of};
 ghost use Rattle.scene_walk.specs.Walk as walk;
+ghost use Rattle.std.specs.declared.result.Result.TheVariants.{Ok};
 
+use scene_format::Kind;
 use scene_format::format::{MAX_MODELS, header_width};
 use scene_format::read::{axes, first_record, model_number, next_record, particles};
-use scene_format::{Kind, Walk};
 
 // The models of one kind: how many there are and how many particles they have in all; the offset of each head, 0 beyond
 // the last model; and the offset behind the last. What else is asked of a model is read at its head: a layout is handed
@@ -36,10 +37,8 @@ pub fn record_offset(s: &[u8], kind: Kind, head: usize, j: usize) -> usize
     ensures { result ≡ (record_at kind s.now head j).at }
 {
     let mut at = first_record(kind, head);
-    let mut i = 0;
-    while i < j {
+    for _ in 0..j {
         at = next_record(s, kind, head, at);
-        i += 1;
     }
     at
 }
@@ -61,12 +60,10 @@ fn models_of(s: &[u8], kind: Kind, n: usize, from: usize) -> Models
     let mut heads = [0usize; MAX_MODELS];
     let mut total = 0;
     let mut at = from;
-    let mut i = 0;
-    while i < n {
-        heads[i] = at;
+    for head in &mut heads[..n] {
+        *head = at;
         total += particles(s, kind, at);
         at = model_end(s, kind, at);
-        i += 1;
     }
     Models {
         number: n,
@@ -78,7 +75,7 @@ fn models_of(s: &[u8], kind: Kind, n: usize, from: usize) -> Models
 
 // The layout of both kinds; the boundaries begin where the fluids end.
 pub fn layout_of(s: &[u8]) -> Layout
-    requires { walk.fields s.now ≡ Walk.At (length s.now) }
+    requires { walk.fields s.now ≡ Ok (length s.now) }
     ensures { result ≡ layout_of s.now }
 {
     let first = header_width(axes(s));

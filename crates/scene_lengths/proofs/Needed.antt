@@ -25,7 +25,7 @@ use Rattle.scene_format.specs.declared.Kind.TheVariants.{Fluid, Boundary}
 use Rattle.scene_format.specs.declared.Refusal.{Refusal}
 use Rattle.scene_format.specs.declared.Summation.{Summation}
 use Rattle.scene_format.specs.declared.Summation.TheVariants.{InOrder, ByHalves}
-use Rattle.scene_format.specs.declared.Walk.TheVariants as walk
+use Rattle.std.specs.declared.result.Result.TheVariants.{Ok, Err}
 use Rattle.scene_check.specs.Check.{Passed}
 use Rattle.scene_lengths.specs.Lengths.{fluid_answer_width, kept_answer_width, answer_width, boundary_answer_width}
 use Rattle.scene_lengths.specs.Lengths.{work_width, added_width, answers_needed, work_needed, lengths_needed}
@@ -33,7 +33,6 @@ use Rattle.scene_lengths.specs.Lengths.{needs_after, needs_of, width_in, answers
 use Rattle.scene_check.specs.Walk.{checked}
 use Rattle.scene_layout.specs.declared.Layout.{Layout}
 use Rattle.scene_lengths.specs.declared.Lengths.{Lengths}
-use Rattle.scene_lengths.specs.declared.Needs.TheVariants.{Lists, Refused}
 use Rattle.scene_check.proofs.Accepted.{accepted}
 use Rattle.scene_check.proofs.Checks.{fluid-total, boundary-total}
 use Rattle.scene_layout.proofs.Locations.{counts_at, keeps_of_lem, fluid_size-sum}
@@ -207,10 +206,10 @@ module _ {b : List ℕ} {layout : Layout} (passed : Passed b layout) where
         ← answers_needed_lem b passed.bytes,
       )
 
-  pub accepted_needs : {l : Lengths} → l ≡ lengths_needed (scene_of b) → Lists l ≡ needs_of b
+  pub accepted_needs : {l : Lengths} → l ≡ lengths_needed (scene_of b) → Ok l ≡ needs_of b
   unfolding needs_of needs_after
   accepted_needs e = rw (passed.walk, e)
 
-pub refused_needs : (b : List ℕ) {r : Refusal} → checked b ≡ walk.Refused r → Refused r ≡ needs_of b
+pub refused_needs : (b : List ℕ) {r : Refusal} → checked b ≡ Err r → Err r ≡ needs_of b
 unfolding needs_of needs_after
 refused_needs b q = rw q

@@ -10,12 +10,12 @@ use Rattle.scene_format.specs.declared.Kind.{Kind}
 use Rattle.scene_format.specs.declared.Kind.TheVariants.{Fluid, Boundary}
 use Rattle.scene_format.specs.declared.Summation.{Summation}
 use Rattle.scene_format.specs.declared.Summation.TheVariants.{InOrder, ByHalves}
-use Rattle.scene_format.specs.declared.Walk.{Walk}
-use Rattle.scene_format.specs.declared.Walk.TheVariants as walk
+use Rattle.scene_format.specs.declared.Refusal.{Refusal}
+use Rattle.scene_format.specs.Refusals.{Walk}
 use Rattle.scene_check.specs.Walk.{checked}
 use Rattle.scene_lengths.specs.declared.Lengths.{Lengths}
-use Rattle.scene_lengths.specs.declared.Needs.{Needs}
-use Rattle.scene_lengths.specs.declared.Needs.TheVariants.{Lists, Refused}
+use Rattle.std.specs.declared.result.Result.{Result}
+use Rattle.std.specs.declared.result.Result.TheVariants.{Ok, Err}
 
 -- ---- a particle, for d axes
 
@@ -59,11 +59,11 @@ abbrev pub lengths_needed : Scene → Lengths
 lengths_needed s = record { answers = answers_needed s; work = work_needed s }
 
 -- refusals 1 to 7 come first
-unfoldable pub needs_after : List ℕ → Walk → Needs
-needs_after b (walk.At end) = Lists (lengths_needed (scene_of b))
-needs_after b (walk.Refused r) = Refused r
+unfoldable pub needs_after : List ℕ → Walk → Result Lengths Refusal
+needs_after b (Ok end) = Ok (lengths_needed (scene_of b))
+needs_after b (Err r) = Err r
 
-unfoldable pub needs_of : List ℕ → Needs
+unfoldable pub needs_of : List ℕ → Result Lengths Refusal
 needs_of b = needs_after b (checked b)
 
 -- ---- scaffolding for the code: models of a kind, by whether each keeps forces and how many particles each has

@@ -11,8 +11,7 @@ ghost use Rattle.scene_lengths.specs.Lengths.{fluid_answer_width, kept_answer_wi
 ghost use Rattle.scene_lengths.specs.Lengths.{added_width, lengths_needed};
 ghost use Rattle.scene_lengths.specs.Lengths.{needs_of, answers_in};
 
-use scene_check::{Verdict, check};
-use scene_format::format::wide;
+use scene_check::check;
 use scene_format::read::{axes, keeps, particles};
 use scene_format::{Kind, Refusal, Summation, read};
 use scene_layout::Layout;
@@ -22,20 +21,20 @@ use scene_layout::Layout;
 pub fn fluid_answer_width(dim: u8) -> usize
     ensures { (result ≡ fluid_answer_width dim) × (result < 1024) }
 {
-    1 + 2 * wide(dim)
+    1 + 2 * usize::from(dim)
 }
 
 pub fn kept_answer_width(dim: u8) -> usize
     ensures { (result ≡ kept_answer_width dim) × (result < 1024) }
 {
-    1 + wide(dim)
+    1 + usize::from(dim)
 }
 
 // In doubles of the work list, for each fluid particle: what the passes keep of it.
 pub fn work_width(dim: u8) -> usize
     ensures { (result ≡ work_width dim) × (result < 1024) }
 {
-    5 + 3 * wide(dim)
+    5 + 3 * usize::from(dim)
 }
 
 // The length of each list.
@@ -45,14 +44,8 @@ pub struct Lengths {
     pub work: usize,
 }
 
-// What a step on a scene needs, or why the scene is refused: 1 to 7.
-#[derive(Clone, Copy)]
-pub enum Needs {
-    Lists(Lengths),
-    Refused(Refusal),
-}
-
-// How many answers a particle has, by whether a boundary keeps forces: 1 or 0.
+// How many answers a particle has, by whether a boundary keeps forces: 0 if not. A bool in its place would ask more of
+// callers, who may hand over any number.
 pub fn answer_width(dim: u8, kind: Kind, keeps: usize) -> usize
     ensures { (result ≡ answer_width dim kind keeps) × (result < 1024) }
 {
@@ -74,16 +67,12 @@ fn boundary_answers(scene: &[u8], layout: Layout) -> usize
     ensures { (result ≤ kept_answer_width space * most_of_a_kind) × (result ≡ answers_in Kind.Boundary scene.now) }
 {
     let dim = axes(scene);
-    let boundaries = layout.boundaries;
-    let heads = boundaries.heads;
-    let number = boundaries.number;
-    let mut needed = 0usize;
-    let mut m = 0usize;
-    while m < number {
-        let head = heads[m];
-        let width = answer_width(dim, Kind::Boundary, keeps(scene, head));
+    let heads = &layout.boundaries.heads[..layout.boundaries.number];
+    let mut needed = 0;
+    for &head in heads {
+        let keeps = usize::from(keeps(scene, head));
+        let width = answer_width(dim, Kind::Boundary, keeps);
         needed += width * particles(scene, Kind::Boundary, head);
-        m += 1;
     }
     needed
 }
@@ -115,14 +104,9 @@ pub fn lengths_of(scene: &[u8], layout: Layout) -> Lengths
 }
 
 // The lengths that the answer list and the work list of a step on a scene must have at least.
-pub fn lengths_needed(scene: &[u8]) -> Needs
+pub fn lengths_needed(scene: &[u8]) -> Result<Lengths, Refusal>
     ensures { result ≡ needs_of scene.now }
 {
-    let found = check(scene);
-    let verdict = found.verdict;
-    let layout = found.layout;
-    match verdict {
-        Verdict::Refused(refusal) => Needs::Refused(refusal),
-        Verdict::Accepted => Needs::Lists(lengths_of(scene, layout)),
-    }
+    let layout = check(scene)?;
+    Ok(lengths_of(scene, layout))
 }

@@ -10,14 +10,14 @@ use Rattle.scene_walk.specs.Walk.{fields}
 use Rattle.scene_format.specs.Format.{model_number, particles_at, head_at, counts_of, record_at}
 use Rattle.scene_format.specs.declared.Kind.{Kind}
 use Rattle.scene_format.specs.declared.Refusal.{Refusal}
-use Rattle.scene_format.specs.declared.Walk.TheVariants as walk
 use Rattle.scene_check.specs.Check.{CountsOfKind}
 use Rattle.scene_check.specs.Looks.{names_looked}
 use Rattle.scene_check.specs.declared.contact_list.Looked.{Looked}
 use Rattle.scene_check.proofs.Named.{names_same}
 use Rattle.scene_lists.specs.Lists.{owner_of, list_looked, list_there, owner_at, answer_after, list_answer}
 use Rattle.scene_lists.specs.declared.Contacts.{Contacts}
-use Rattle.scene_lists.specs.declared.ListAnswer.TheVariants.{Checked, NoList, Refused}
+use Rattle.std.specs.declared.result.Result.TheVariants.{Ok, Err}
+use Rattle.std.specs.declared.option.Option.TheVariants.{Some, None}
 
 -- the check of a list depends only on what each model number counts
 pub looked_same : {κ : Kind} {b counts : List ℕ} → CountsOfKind κ b counts → (w n from : ℕ)
@@ -26,7 +26,7 @@ unfolding names_looked
 looked_same are w n from = rw (names_same are w n from)
 
 module _ (b : List ℕ) (c : Contacts) (m j : ℕ) where
-  pub refused_before : {r : Refusal} → fields b ≡ walk.Refused r → Refused r ≡ list_answer b c m j
+  pub refused_before : {r : Refusal} → fields b ≡ Err r → Err r ≡ list_answer b c m j
   unfolding list_answer answer_after
   refused_before q = rw q
 
@@ -36,21 +36,23 @@ module _ (b : List ℕ) (c : Contacts) (m j : ℕ) where
   unfolding list_there
   list_there_lem k i = rw (lt-ltb _ _ k, lt-ltb _ _ i)
 
-  pub list_answered : {end : ℕ} → fields b ≡ walk.At end → list_there b c m j ≡ true
-      → list_answer b c m j ≡ Checked (list_looked c b (owner_at b c m j))
+  pub list_answered : {end : ℕ} → fields b ≡ Ok end → list_there b c m j ≡ true
+      → list_answer b c m j ≡ Ok (Some (list_looked c b (owner_at b c m j)))
   unfolding list_answer answer_after choose
   list_answered q t = rw (q, t)
 
-  module _ {end : ℕ} (q : fields b ≡ walk.At end) {κ : Kind} (is : κ ≡ owner_of c) where
-    pub no_model : model_number κ b ≤ m → NoList ≡ list_answer b c m j
+  module _ {end : ℕ} (q : fields b ≡ Ok end) {κ : Kind} (is : κ ≡ owner_of c) where
+    pub no_model : model_number κ b ≤ m → (Ok None) ≡ list_answer b c m j
     unfolding list_answer answer_after list_there choose
     no_model k = rw (q, ← is, le-ltb _ _ k)
 
     module _ (k : m < model_number κ b) where
-      pub no_particle : particles_at κ b (head_at κ b m) ≤ j → NoList ≡ list_answer b c m j
+      pub no_particle : particles_at κ b (head_at κ b m) ≤ j → (Ok None) ≡ list_answer b c m j
       unfolding list_answer answer_after list_there choose
       no_particle i = rw (q, ← is, lt-ltb _ _ k, le-ltb _ _ i)
 
       pub list_checked : j < particles_at κ b (head_at κ b m) → {a : Looked}
-          → a ≡ list_looked c b (record_at κ b (head_at κ b m) j) → Checked a ≡ list_answer b c m j
-      list_checked i e = ap Checked (e ∙ rw is) ∙ sym (list_answered q (list_there_lem (rw is at k) (rw is at i)))
+          → a ≡ list_looked c b (record_at κ b (head_at κ b m) j) → Ok (Some a) ≡ list_answer b c m j
+      list_checked i e =
+          ap (λ (a : Looked). Ok (Some a)) (e ∙ rw is)
+          ∙ sym (list_answered q (list_there_lem (rw is at k) (rw is at i)))

@@ -15,8 +15,7 @@ use Rattle.scene_fields.proofs.Walks.{parts_there}
 use Rattle.scene_format.specs.Format.{name_width, model_number, particles_at, head_at, counts_of, Location}
 use Rattle.scene_format.specs.declared.Kind.{Kind}
 use Rattle.scene_format.specs.declared.Kind.TheVariants.{Fluid, Boundary}
-use Rattle.scene_format.specs.declared.Walk.{Walk}
-use Rattle.scene_format.specs.declared.Walk.TheVariants as walk
+use Rattle.scene_format.specs.Refusals.{Walk}
 use Rattle.scene_check.specs.Looks.{LooksTold}
 use Rattle.scene_check.specs.Walk.{name, names, checked}
 use Rattle.scene_check.specs.declared.contact_list.Looked.{Looked}
@@ -27,8 +26,9 @@ use Rattle.scene_lists.specs.Lists.{owner_at, answer_after, list_answer}
 use Rattle.scene_lists.specs.Order.{list_passed}
 use Rattle.scene_lists.specs.declared.Contacts.{Contacts}
 use Rattle.scene_lists.specs.declared.Contacts.TheVariants.{FluidFluid, FluidBoundary, BoundaryBoundary}
-use Rattle.scene_lists.specs.declared.ListAnswer.TheVariants.{Checked}
 use Rattle.scene_lists.proofs.Listed.{list_answered}
+use Rattle.std.specs.declared.result.Result.TheVariants.{Ok, Err}
+use Rattle.std.specs.declared.option.Option.TheVariants.{Some}
 
 -- ---- the answer
 
@@ -41,17 +41,17 @@ list_wide BoundaryBoundary b = omega arith
 
 module _ (b : List ℕ) (c : Contacts) (m j : ℕ) where
   -- what a list that is checked is answered
-  checked_is : {a : Looked} → list_answer b c m j ≡ Checked a → list_looked c b (owner_at b c m j) ≡ a
+  checked_is : {a : Looked} → list_answer b c m j ≡ Ok (Some a) → list_looked c b (owner_at b c m j) ≡ a
   unfolding list_answer answer_after choose
   checked_is {a} q = told (fields b) refl (list_there b c m j) refl
     where
       told : (w : Walk) → fields b ≡ w → (t : Bool) → list_there b c m j ≡ t → list_looked c b (owner_at b c m j) ≡ a
-      told (walk.At end) e true h = let p = rw (e, h) at q in cc
-      told (walk.At end) e false h = let p = rw (e, h) at q in cc
-      told (walk.Refused r) e t h = let p = rw e at q in cc
+      told (Ok end) e true h = let p = rw (e, h) at q in cc
+      told (Ok end) e false h = let p = rw (e, h) at q in cc
+      told (Err r) e t h = let p = rw e at q in cc
 
   -- the looks, told of the answer alone
-  pub checked_told : {a : Looked} → list_answer b c m j ≡ Checked a
+  pub checked_told : {a : Looked} → list_answer b c m j ≡ Ok (Some a)
       → let p = owner_at b c m j in LooksTold (list_width c b) (list_count c b p) (list_start c b p) a
   unfolding list_looked
   checked_told q = subst (LooksTold _ _ _) (checked_is q) (looks_told _ _ _ _ _ (list_wide c b))
@@ -71,11 +71,11 @@ module _ (b : List ℕ) (c : Contacts) (m j : ℕ) where
 -- ---- a list that is passed
 
 module _ (b : List ℕ) (κ : Kind) (w : ℕ) where
-  name_passed : (at : ℕ) → NameOk κ b at → name b (counts_of κ b) w at ≡ walk.At (at + w)
+  name_passed : (at : ℕ) → NameOk κ b at → name b (counts_of κ b) w at ≡ Ok (at + w)
   unfolding name refused_if choose
   name_passed at h = rw (lt-leb _ _ h.number)
 
-  names_passed : (n at : ℕ) → NamesOk κ b w n at → names b (counts_of κ b) w n at ≡ walk.At (at + w * n)
+  names_passed : (n at : ℕ) → NamesOk κ b w n at → names b (counts_of κ b) w n at ≡ Ok (at + w * n)
   unfolding names
   names_passed n at h = parts_there _ w n at (λ k l. name_passed _ (h k l))
 
@@ -91,17 +91,17 @@ list_named FluidBoundary b p h = h Boundary
 list_named BoundaryBoundary b p h = h
 
 module _ (b : List ℕ) (c : Contacts) (m j : ℕ) where
-  pub list_passed_lem : {end : ℕ} → fields b ≡ walk.At end → list_there b c m j ≡ true →
+  pub list_passed_lem : {end : ℕ} → fields b ≡ Ok end → list_there b c m j ≡ true →
       ListNamed c b (owner_at b c m j)
-      → list_answer b c m j ≡ Checked (list_passed c b (owner_at b c m j))
+      → list_answer b c m j ≡ Ok (Some (list_passed c b (owner_at b c m j)))
   unfolding list_looked
   list_passed_lem q t h =
       list_answered b c m j q t
-      ∙ ap Checked (sym (all_looked _ _ _ _ _ (sym (names_passed _ _ _ _ _ h)) refl))
+      ∙ ap (λ (a : Looked). Ok (Some a)) (sym (all_looked _ _ _ _ _ (sym (names_passed _ _ _ _ _ h)) refl))
 
   -- in an accepted scene every list that is there is passed, and each of its contacts looked at once
-  pub accepted_looked : {e : ℕ} → checked b ≡ walk.At e → list_there b c m j ≡ true
-      → list_answer b c m j ≡ Checked (list_passed c b (owner_at b c m j))
+  pub accepted_looked : {e : ℕ} → checked b ≡ Ok e → list_there b c m j ≡ true
+      → list_answer b c m j ≡ Ok (Some (list_passed c b (owner_at b c m j)))
   unfolding checked
   accepted_looked q t =
       let (k, l) = there_list b c m j t in

@@ -16,7 +16,7 @@ use Rattle.scene_format.specs.declared.Kind.{Kind}
 use Rattle.scene_format.specs.declared.Kind.TheVariants.{Fluid, Boundary}
 use Rattle.scene_format.specs.declared.Refusal.{Refusal}
 use Rattle.scene_format.specs.declared.Refusal.TheVariants.{DanglingContact}
-use Rattle.scene_format.specs.declared.Walk.TheVariants as walk
+use Rattle.std.specs.declared.result.Result.TheVariants.{Ok, Err}
 use Rattle.scene_check.specs.Walk.{names, record_names_of, model_names_of, models_names_of, all_names, checked}
 use Rattle.scene_check.proofs.Accepted.{RecordNamed, names-steps, record_names-steps, model_names-steps}
 use Rattle.scene_check.proofs.Accepted.{models_names-steps}
@@ -43,11 +43,11 @@ record RecordRefused (κ : Kind) (b : List ℕ) (r : Refusal) : Type 0 where
   particle : ℕ
   model_there : model < model_number κ b
   there : particle < particles_at κ b (head_at κ b model)
-  refused : let p = record_at κ b (head_at κ b model) particle in record_names_of κ b p.head p.at ≡ walk.Refused r
+  refused : let p = record_at κ b (head_at κ b model) particle in record_names_of κ b p.head p.at ≡ Err r
   models : ModelsNamed κ b model
   records : (j : ℕ) → j < particle → RecordNamed κ b (record_at κ b (head_at κ b model) j)
 
-record_refused : (κ : Kind) (b : List ℕ) {r : Refusal} → models_names_of κ b (first_head κ b) ≡ walk.Refused r
+record_refused : (κ : Kind) (b : List ℕ) {r : Refusal} → models_names_of κ b (first_head κ b) ≡ Err r
     → RecordRefused κ b r
 unfolding models_names_of model_names_of
 record_refused κ b q =
@@ -90,13 +90,13 @@ before_named lists h t = h.own refl
 
 -- ---- the list
 
-module _ (b : List ℕ) {end : ℕ} (q : fields b ≡ walk.At end) {at : ℕ} where
+module _ (b : List ℕ) {end : ℕ} (q : fields b ≡ Ok end) {at : ℕ} where
   -- a list whose walk is refused
   refused_here : (c : Contacts) (m j : ℕ) → m < model_number (owner_of c) b
       → j < particles_at (owner_of c) b (head_at (owner_of c) b m)
       → let p = owner_at b c m j in
       names b (counts_of (named_of c) b) (list_width c b) (list_count c b p) (list_start c b p)
-      ≡ walk.Refused (DanglingContact at)
+      ≡ Err (DanglingContact at)
       → Met b c m j → RefusedList b at
   unfolding list_looked
   refused_here c m j k l p met =
@@ -137,7 +137,7 @@ module _ (b : List ℕ) {end : ℕ} (q : fields b ≡ walk.At end) {at : ℕ} wh
         own = λ e. apart (sym (ap owner_of e));
       })
 
-  in_names : all_names b ≡ walk.Refused (DanglingContact at) → RefusedList b at
+  in_names : all_names b ≡ Err (DanglingContact at) → RefusedList b at
   unfolding all_names first_head
   in_names p =
       elim (then_refused _ (models_names-steps b Fluid (header_width (axes_of b))) p) [
@@ -146,7 +146,7 @@ module _ (b : List ℕ) {end : ℕ} (q : fields b ≡ walk.At end) {at : ℕ} wh
       ]
 
 -- the refusal of a scene by 7 is that of one of its lists, the first that is refused
-pub refused_list : (b : List ℕ) {at : ℕ} → checked b ≡ walk.Refused (DanglingContact at) → RefusedList b at
+pub refused_list : (b : List ℕ) {at : ℕ} → checked b ≡ Err (DanglingContact at) → RefusedList b at
 unfolding checked
 refused_list b q =
     elim (either_refused _ _ q) [

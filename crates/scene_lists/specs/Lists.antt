@@ -9,14 +9,16 @@ use Rattle.scene_format.specs.Format.{head_at}
 use Rattle.scene_format.specs.Format.{counts_of, Location, record_at}
 use Rattle.scene_format.specs.declared.Kind.{Kind}
 use Rattle.scene_format.specs.declared.Kind.TheVariants.{Fluid, Boundary}
-use Rattle.scene_format.specs.declared.Walk.{Walk}
-use Rattle.scene_format.specs.declared.Walk.TheVariants as walk
+use Rattle.scene_format.specs.Refusals.{Walk}
+use Rattle.scene_format.specs.declared.Refusal.{Refusal}
 use Rattle.scene_check.specs.Looks.{names_looked}
 use Rattle.scene_check.specs.declared.contact_list.Looked.{Looked}
 use Rattle.scene_lists.specs.declared.Contacts.{Contacts}
 use Rattle.scene_lists.specs.declared.Contacts.TheVariants.{FluidFluid, FluidBoundary, BoundaryBoundary}
-use Rattle.scene_lists.specs.declared.ListAnswer.{ListAnswer}
-use Rattle.scene_lists.specs.declared.ListAnswer.TheVariants.{Checked, NoList, Refused}
+use Rattle.std.specs.declared.result.Result.{Result}
+use Rattle.std.specs.declared.option.Option.{Option}
+use Rattle.std.specs.declared.result.Result.TheVariants.{Ok, Err}
+use Rattle.std.specs.declared.option.Option.TheVariants.{Some, None}
 
 -- ---- a list
 
@@ -61,10 +63,15 @@ list_there b c m j = ltb m (model_number (owner_of c) b)
 abbrev pub owner_at : List ℕ → Contacts → ℕ → ℕ → Location
 owner_at b c m j = record_at (owner_of c) b (head_at (owner_of c) b m) j
 
+-- the check of a list, with the looks at its contacts, if there is such a list; or why the scene is refused before any
+-- list is looked at
+abbrev pub ListAnswer : Type 0
+ListAnswer = Result (Option Looked) Refusal
+
 -- once the walk through the fields has ended
 unfoldable pub answer_after : Walk → List ℕ → Contacts → ℕ → ℕ → ListAnswer
-answer_after (walk.At end) b c m j = choose (list_there b c m j) (Checked (list_looked c b (owner_at b c m j))) NoList
-answer_after (walk.Refused r) b c m j = Refused r
+answer_after (Ok end) b c m j = choose (list_there b c m j) (Ok (Some (list_looked c b (owner_at b c m j)))) (Ok None)
+answer_after (Err r) b c m j = Err r
 
 unfoldable pub list_answer : List ℕ → Contacts → ℕ → ℕ → ListAnswer
 list_answer b = answer_after (fields b) b

@@ -4,17 +4,17 @@ use Rattle.std.specs.Prelude.{ℕ, ◌+◌, ◌*◌, ◌<◌, ◌≡◌, true, L
 use Rattle.scene_format.specs.Format.{Location}
 use Rattle.scene_format.specs.declared.Kind.TheVariants.{Fluid, Boundary}
 use Rattle.scene_format.specs.declared.Refusal.TheVariants.{DanglingContact}
-use Rattle.scene_format.specs.declared.Walk.TheVariants as walk
 use Rattle.scene_check.specs.declared.contact_list.Looked.{Looked}
 use Rattle.scene_lists.specs.Lists.{owner_of, list_width, list_count, list_start, list_there, owner_at, list_answer}
 use Rattle.scene_lists.specs.declared.Contacts.{Contacts}
 use Rattle.scene_lists.specs.declared.Contacts.TheVariants.{FluidFluid, FluidBoundary}
-use Rattle.scene_lists.specs.declared.ListAnswer.TheVariants.{Checked}
+use Rattle.std.specs.declared.result.Result.TheVariants.{Ok, Err}
+use Rattle.std.specs.declared.option.Option.TheVariants.{Some}
 
 -- a list of the record at p that is passed: the walk ends behind its last contact, each is looked at once
 abbrev pub list_passed : Contacts → List ℕ → Location → Looked
 list_passed c b p =
-    record { walk = walk.At (list_start c b p + list_width c b * list_count c b p); looks = list_count c b p }
+    record { walk = Ok (list_start c b p + list_width c b * list_count c b p); looks = list_count c b p }
 
 -- the list c of particle j of model m comes before the list c' of particle j' of model m': fluids before boundaries,
 -- then model by model, particle by particle, and contacts with fluids before those with boundaries
@@ -31,7 +31,7 @@ pub record RefusedList (b : List ℕ) (at : ℕ) : Type 0 where
   pub particle : ℕ
   pub there : list_there b contacts model particle ≡ true
   pub answer : Looked
-  pub answered : list_answer b contacts model particle ≡ Checked answer
-  pub refused : answer.walk ≡ walk.Refused (DanglingContact at)
+  pub answered : list_answer b contacts model particle ≡ Ok (Some answer)
+  pub refused : answer.walk ≡ Err (DanglingContact at)
   pub before : (c : Contacts) (m j : ℕ) → Before c m j contacts model particle → list_there b c m j ≡ true
-      → list_answer b c m j ≡ Checked (list_passed c b (owner_at b c m j))
+      → list_answer b c m j ≡ Ok (Some (list_passed c b (owner_at b c m j)))

@@ -13,7 +13,7 @@ use scene_format::format::{
     BOUNDARY_CONTACT_WIDTH, NAMEABLE_MODELS, boundary_count, contact_counts, contact_width,
 };
 use scene_format::read::{axes, byte, keeps, particles};
-use scene_format::{Kind, Refusal, Walk};
+use scene_format::{Kind, Refusal};
 use scene_layout::{Layout, Models, layout_of, record_offset};
 use scene_walk::fields;
 
@@ -25,17 +25,6 @@ pub enum Contacts {
     FluidFluid,
     FluidBoundary,
     BoundaryBoundary,
-}
-
-// What is answered of a list.
-#[derive(Clone, Copy)]
-pub enum ListAnswer {
-    // The walk through it, and the looks at its contacts.
-    Checked(Looked),
-    // There is no such list.
-    NoList,
-    // The scene is refused before any list is looked at: 1 to 6.
-    Refused(Refusal),
 }
 
 // The kind of the particles that have such contacts.
@@ -108,26 +97,28 @@ fn list_looked(
 }
 
 // The check of one contact list: that of particle `particle` of model `model`.
-pub fn check_list(scene: &[u8], contacts: Contacts, model: usize, particle: usize) -> ListAnswer
+pub fn check_list(
+    scene: &[u8],
+    contacts: Contacts,
+    model: usize,
+    particle: usize,
+) -> Result<Option<Looked>, Refusal>
     ensures { result ≡ list_answer scene.now contacts model particle }
 {
-    if let Walk::Refused(r) = fields(scene) {
-        return ListAnswer::Refused(r);
-    }
+    fields(scene)?;
     let layout = layout_of(scene);
     let owner = owner_of(contacts);
     let owners = models_of(scene, layout, owner);
-    let heads = owners.heads;
     if owners.number <= model {
-        return ListAnswer::NoList;
+        return Ok(None);
     }
-    let head = heads[model];
+    let head = owners.heads[model];
     if particles(scene, owner, head) <= particle {
-        return ListAnswer::NoList;
+        return Ok(None);
     }
     let named = named_of(contacts);
     let mut counts = [0usize; NAMEABLE_MODELS];
     fill_counts(scene, named, models_of(scene, layout, named), &mut counts);
     let at = record_offset(scene, owner, head, particle);
-    ListAnswer::Checked(list_looked(scene, &counts, contacts, head, at))
+    Ok(Some(list_looked(scene, &counts, contacts, head, at)))
 }

@@ -20,7 +20,7 @@ use Rattle.scene_format.specs.Format.{boundary_contact_doubles, record_doubles, 
 use Rattle.scene_format.proofs.Forms.{axes_of_lem}
 use Rattle.scene_format.specs.declared.Kind.{Kind}
 use Rattle.scene_format.specs.declared.Kind.TheVariants.{Fluid, Boundary}
-use Rattle.scene_format.specs.declared.Walk.TheVariants.{At}
+use Rattle.std.specs.declared.result.Result.TheVariants.{Ok}
 use Rattle.scene_fields.proofs.Reached.{Leads, Steps, restated, ◌then◌, times-steps, parts-steps, iter_within, HalfOk}
 use Rattle.scene_fields.proofs.Reached.{plain-steps, double-steps, count-steps, halves-steps, ended-steps}
 use Rattle.scene_walk.specs.Accepted.{ContactOk, ContactsOk, FluidRecordOk, BoundaryRecordOk, HeaderOk}
@@ -281,5 +281,5 @@ module _ (b : List ℕ) where
       each f g Fluid = f
       each f g Boundary = g
 
-  pub fields_accepted : {e : ℕ} → fields b ≡ At e → FieldsOk b
+  pub fields_accepted : {e : ℕ} → fields b ≡ Ok e → FieldsOk b
   fields_accepted q = (fields_leads _ q).1

@@ -11,7 +11,7 @@ use Rattle.scene_format.specs.Format.{Location}
 use Rattle.scene_format.specs.Within.{RecordWithin, ModelWithin, ModelsWithin}
 use Rattle.scene_format.specs.declared.Kind.{Kind}
 use Rattle.scene_format.specs.declared.Kind.TheVariants.{Fluid, Boundary}
-use Rattle.scene_format.specs.declared.Walk.TheVariants.{At}
+use Rattle.std.specs.declared.result.Result.TheVariants.{Ok}
 use Rattle.scene_walk.specs.Walk.{head_of, fields}
 use Rattle.scene_walk.proofs.Walked.{RecordOk, head_steps, ModelOk, FieldsOk, fields_accepted}
 
@@ -26,7 +26,7 @@ head_room_lem Fluid b head h = omega arith
 head_room_lem Boundary b head h = h
 
 -- a head that is passed is there
-pub passed_head : (κ : Kind) (b : List ℕ) (head : ℕ) {e : ℕ} → head_of κ b head ≡ At e → head + count_width ≤ length b
+pub passed_head : (κ : Kind) (b : List ℕ) (head : ℕ) {e : ℕ} → head_of κ b head ≡ Ok e → head + count_width ≤ length b
 passed_head κ b head q = head_room_lem κ b head (head_steps b κ head _ q).1.0
 
 model_within : {κ : Kind} {b : List ℕ} {head : ℕ} → ModelOk κ b head → ModelWithin κ b head
@@ -37,7 +37,7 @@ model_within {κ} {b} {head} m =
 pub models_within : {b : List ℕ} → FieldsOk b → (κ : Kind) → ModelsWithin κ b
 models_within ok κ = record { few = ok.header.few κ; models = λ m l. model_within (ok.models κ m l) }
 
-module _ (b : List ℕ) {e : ℕ} (q : fields b ≡ At e) where
+module _ (b : List ℕ) {e : ℕ} (q : fields b ≡ Ok e) where
   pub header_within : header_width (axes_of b) ≤ length b
   header_within = (fields_accepted b q).header.room
 

@@ -8,7 +8,7 @@ use Rattle.scene_format.specs.Format.{header_doubles, contact_doubles, boundary_
 use Rattle.scene_format.specs.Format.{boundary_record_doubles, boundary_contact_count}
 use Rattle.scene_format.specs.declared.Kind.{Kind}
 use Rattle.scene_format.specs.declared.Kind.TheVariants.{Fluid, Boundary}
-use Rattle.scene_format.specs.declared.Walk.{Walk}
+use Rattle.scene_format.specs.Refusals.{Walk}
 use Rattle.scene_fields.specs.declared.fields.Half.TheVariants.{Version, Rule, ModelCount}
 
 -- the version and the number of fluids, the number of boundaries and the rule, the least and the most iterations; step

@@ -22,7 +22,7 @@ use Rattle.iisph_rules.specs.Step.{report_of}
 use Rattle.iisph_rules.specs.Answer.{step_answer, Accepted}
 use Rattle.iisph_rules.specs.Locality.{contacts_with, Names, Within, Compared, SameAt}
 use Rattle.iisph_rules.specs.Locality.Within.{itself, onward}
-use Rattle.iisph_rules.specs.declared.StepAnswer.TheVariants.{Done}
+use Rattle.std.specs.declared.result.Result.TheVariants.{Ok}
 use Rattle.iisph_rules.proofs.Reports.{done_accepted}
 use Rattle.iisph_rules.proofs.Locality.{most_iterations, fluid_locality}
 use Rattle.worked_examples.specs.TwoScenes.{pair_at_boundary, apart, two_fluids, calm, stirred, Instance}
@@ -103,7 +103,7 @@ stirred_bytes = bytes_shown stirred refl
 
 -- of a step with lists that are just long enough
 abbrev IsDone : List ℕ → Type 0
-IsDone b = step_answer b (answers_needed (scene_of b)) (work_needed (scene_of b)) ≡ Done (report_of (scene_of b))
+IsDone b = step_answer b (answers_needed (scene_of b)) (work_needed (scene_of b)) ≡ Ok (report_of (scene_of b))
 
 calm_done : IsDone calm
 unfolding evaluated

@@ -3,12 +3,12 @@
 use Rattle.std.specs.Prelude.{ℕ, List, [], ◌∷◌, take}
 use Rattle.scene_format.specs.Packed.{contact, zero3}
 use Rattle.scene_format.specs.declared.Refusal.TheVariants.{MissingField, DanglingContact}
-use Rattle.scene_format.specs.declared.Walk.TheVariants as walk
 use Rattle.scene_lists.specs.declared.Contacts.{Contacts}
 use Rattle.scene_lists.specs.declared.Contacts.TheVariants.{FluidFluid, FluidBoundary, BoundaryBoundary}
-use Rattle.scene_lists.specs.declared.ListAnswer.TheVariants.{Checked, NoList, Refused}
 use Rattle.worked_examples.specs.Row.{Row, looks}
 use Rattle.worked_examples.specs.Scenes.{scene_a, boundary_scene, bits·2}
+use Rattle.std.specs.declared.result.Result.TheVariants.{Ok, Err}
+use Rattle.std.specs.declared.option.Option.TheVariants.{Some, None}
 
 -- scene A with three contacts, which name these particles of its fluid; it has one, number 0
 unfoldable pub three : ℕ → ℕ → ℕ → List ℕ
@@ -17,11 +17,11 @@ three i j k =
 
 -- a list of the first particle of the first model, which is passed up to an offset, after so many looks
 abbrev pub passes : List ℕ → Contacts → ℕ → ℕ → Row
-passes b c end n = looks b c 0 0 (Checked (record { walk = walk.At end; looks = n }))
+passes b c end n = looks b c 0 0 (Ok (Some (record { walk = Ok end; looks = n })))
 
 -- one that is refused at an offset, after so many looks
 abbrev pub dangles : List ℕ → Contacts → ℕ → ℕ → Row
-dangles b c at n = looks b c 0 0 (Checked (record { walk = walk.Refused (DanglingContact at); looks = n }))
+dangles b c at n = looks b c 0 0 (Ok (Some (record { walk = Err (DanglingContact at); looks = n })))
 
 unfoldable pub look_rows : List Row
 look_rows =
@@ -41,8 +41,8 @@ look_rows =
     ∷ passes (boundary_scene 0) BoundaryBoundary 281 1
     ∷ dangles (boundary_scene 1) BoundaryBoundary 271 1
     -- no such boundary, no such fluid, no such particle; a scene that is cut short
-    ∷ looks (three 0 0 0) BoundaryBoundary 0 0 NoList
-    ∷ looks (three 0 0 0) FluidFluid 1 0 NoList
-    ∷ looks (three 0 0 0) FluidFluid 0 1 NoList
-    ∷ looks (take 253 (three 0 1 0)) FluidFluid 0 0 (Refused (MissingField 246))
+    ∷ looks (three 0 0 0) BoundaryBoundary 0 0 (Ok None)
+    ∷ looks (three 0 0 0) FluidFluid 1 0 (Ok None)
+    ∷ looks (three 0 0 0) FluidFluid 0 1 (Ok None)
+    ∷ looks (take 253 (three 0 1 0)) FluidFluid 0 0 (Err (MissingField 246))
     ∷ []

@@ -5,7 +5,7 @@ use Rattle.scene_format.specs.Packed.{be16, be64, contact, zero3}
 use Rattle.scene_format.specs.declared.Refusal.{Refusal}
 use Rattle.scene_format.specs.declared.Refusal.TheVariants.{MissingField, UnknownForm, TooManyModels, TooManyParticles}
 use Rattle.scene_format.specs.declared.Refusal.TheVariants.{TrailingBytes, NotFinite, DanglingContact}
-use Rattle.scene_format.specs.declared.Walk.TheVariants.{At, Refused}
+use Rattle.std.specs.declared.result.Result.TheVariants.{Ok, Err}
 use Rattle.worked_examples.specs.Row.{Row, checks}
 use Rattle.worked_examples.specs.Scenes.{empty_scene, scene_a, scene_b, boundary_scene, bits·1, bits·-1, bits·2}
 use Rattle.worked_examples.specs.Scenes.{bits·∞, bits·nan}
@@ -20,11 +20,11 @@ naming model number = scene_a (contact model number bits·2 zero3 ∷ [])
 
 -- a scene that is refused
 abbrev pub refuses : List ℕ → Refusal → Row
-refuses b r = checks b (Refused r)
+refuses b r = checks b (Err r)
 
 -- a scene that is accepted, whose walk ends where it does
 abbrev pub accepts : List ℕ → ℕ → Row
-accepts b end = checks b (At end)
+accepts b end = checks b (Ok end)
 
 unfoldable pub refusal_rows : List Row
 refusal_rows =

@@ -8,20 +8,19 @@ use Rattle.scene_format.specs.Scene.{Scene}
 use Rattle.scene_format.specs.SceneOf.{scene_of}
 use Rattle.scene_format.specs.declared.Criterion.{Criterion}
 use Rattle.scene_format.specs.declared.Refusal.{Refusal}
-use Rattle.scene_format.specs.declared.Walk.{Walk}
+use Rattle.scene_format.specs.Refusals.{Walk}
 use Rattle.scene_check.specs.Walk.{checked}
 use Rattle.scene_lists.specs.Lists.{list_answer}
 use Rattle.scene_lists.specs.declared.Contacts.{Contacts}
-use Rattle.scene_lists.specs.declared.ListAnswer.{ListAnswer}
 use Rattle.iisph_rules.specs.Coefficients as rules
 use Rattle.iisph_rules.specs.Coefficients.{Coefficients, boundary_volume}
 use Rattle.iisph_rules.specs.Iteration.{error_of, Iteration, iteration}
-use Rattle.iisph_rules.specs.Step.{first_pressures}
+use Rattle.iisph_rules.specs.Step.{first_pressures, StepAnswer}
 use Rattle.iisph_rules.specs.Answer.{step_answer, answers_after, work_after}
 use Rattle.iisph_rules.specs.declared.Ending.{Ending}
 use Rattle.iisph_rules.specs.declared.Report.{Report}
-use Rattle.iisph_rules.specs.declared.StepAnswer.{StepAnswer}
-use Rattle.iisph_rules.specs.declared.StepAnswer.TheVariants.{Done, Refused}
+use Rattle.scene_lists.specs.Lists.{ListAnswer}
+use Rattle.std.specs.declared.result.Result.TheVariants.{Ok, Err}
 
 -- ---- rows
 
@@ -110,11 +109,11 @@ Holds (checks b w) = checked b ≡ w
 Holds (looks b c m j a) = list_answer b c m j ≡ a
 Holds (done b r answers work) =
     called b (length answers + 1) (work + 1)
-    ≡ record { answer = Done r; answers = map bits answers ++ old 1; work = replicate work (bits 0) ++ old 1 }
+    ≡ record { answer = Ok r; answers = map bits answers ++ old 1; work = replicate work (bits 0) ++ old 1 }
 Holds (refused b answers work r cleared) =
     called b answers work
     ≡ record {
-      answer = Refused r;
+      answer = Err r;
       answers = old answers;
       work = replicate cleared (bits 0) ++ old (work - cleared);
     }

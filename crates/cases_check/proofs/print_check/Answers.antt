@@ -5,4 +5,4 @@ use Rattle.cases_check.specs.Printed.{printed}
 use Rattle.cases_check.proofs.print_check.Goals as goal
 
 pub returns : goal.returns
-returns g c = c.in_ok-n.ensures ∙ ap printed c.check-answer.ensures.verdict
+returns g c = c.in_ok-n.ensures ∙ ap printed c.check.ensures.verdict

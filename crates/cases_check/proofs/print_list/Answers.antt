@@ -4,20 +4,20 @@ use mathlib.Core.Path.{sym, ◌∙◌}
 use Rattle.cases_check.specs.Turns.{walk_turn, turn_of}
 use Rattle.cases_check.proofs.print_list.Goals as goal
 
-pub returns-in-At : goal.returns-in-At
+pub returns-in-Ok : goal.returns-in-Ok
 unfolding turn_of walk_turn
-returns-in-At g c =
-    rw (sym c.check_list.ensures ∙ c.in-Checked.is, c.in-At.is)
+returns-in-Ok g c =
+    rw (sym c.check_list.ensures ∙ c.in-Ok-Some.is, c.in-Ok-Some.field-0-is, c.in-Ok.is)
 
-pub returns-in-Refused-walk : goal.returns-in-Refused-walk
+pub returns-in-Err-walk : goal.returns-in-Err-walk
 unfolding turn_of walk_turn
-returns-in-Refused-walk g c =
-    rw (sym c.check_list.ensures ∙ c.in-Checked.is, c.in-Refused-walk.is)
+returns-in-Err-walk g c =
+    rw (sym c.check_list.ensures ∙ c.in-Ok-Some.is, c.in-Ok-Some.field-0-is, c.in-Err-walk.is)
 
-pub returns-in-NoList : goal.returns-in-NoList
+pub returns-in-Ok-None : goal.returns-in-Ok-None
 unfolding turn_of
-returns-in-NoList g c = rw (sym c.check_list.ensures ∙ c.in-NoList.is)
+returns-in-Ok-None g c = rw (sym c.check_list.ensures ∙ c.in-Ok-None.is, c.in-Ok-None.field-0-is)
 
-pub returns-in-Refused : goal.returns-in-Refused
+pub returns-in-Err : goal.returns-in-Err
 unfolding turn_of
-returns-in-Refused g c = rw (sym c.check_list.ensures ∙ c.in-Refused.is)
+returns-in-Err g c = rw (sym c.check_list.ensures ∙ c.in-Err.is)

@@ -3,16 +3,16 @@ use mathlib.Core.Path.{◌≡◌, refl, ap, ◌∙◌}
 use Rattle.std.proofs.lemmas.Result.{IfOk-weaker}
 use Rattle.timestep_manager.specs.declared.Clock.{Clock}
 use Rattle.timestep_manager.specs.Clock.{advanced}
-use Rattle.iisph_rules.specs.declared.StepAnswer.{StepAnswer}
-use Rattle.iisph_rules.specs.declared.StepAnswer.TheVariants.{Done, Refused}
+use Rattle.iisph_rules.specs.Step.{StepAnswer}
+use Rattle.std.specs.declared.result.Result.TheVariants.{Ok, Err}
 use Rattle.iisph_kept.specs.Kept.{clock_after}
 use Rattle.cases_clock.specs.Kept.{FromScene}
 use Rattle.cases_clock.proofs.steps_from.Goals as goal
 
 length-kept : (a : StepAnswer) (c : Clock) → (clock_after a c).total_step_size ≡ c.total_step_size
 unfolding clock_after advanced
-length-kept (Done r) c = refl
-length-kept (Refused r) c = refl
+length-kept (Ok r) c = refl
+length-kept (Err r) c = refl
 
 same : (c c' : Clock) → FromScene c c' → c'.total_step_size ≡ c.total_step_size
 same c c' s = ap (λ (x : Clock). x.total_step_size) s.clock ∙ length-kept _ c

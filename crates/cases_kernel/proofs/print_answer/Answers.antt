@@ -2,5 +2,5 @@
 -- hands back what it shows. Assumes nothing.
 use Rattle.cases_kernel.proofs.print_answer.Goals as goal
 
-pub returns-in-Value : goal.returns-in-Value
-returns-in-Value g c = rw c.in-Value.is c.print_bits.ensures
+pub returns-in-Ok : goal.returns-in-Ok
+returns-in-Ok g c = rw c.in-Ok.is c.print_bits.ensures

@@ -7,18 +7,16 @@ use Rattle.cases_texts.proofs.print_all.Goals as goal
 
 pub loop-scenes-preserved : goal.loop-scenes-preserved
 loop-scenes-preserved g c =
-    let n = c.loop-scenes.scenes in (
-      omega (arith, c.loop-scenes-test.true),
-      gives_more _ _ _ (n * (4 + room)) (4 + room) ((n + 1) * (4 + room)) c.loop-scenes.invariant.1
-          c.in_ok-print_next.ensures.left (omega arith),
-    )
+    let n = c.loop-scenes.scenes in
+    gives_more _ _ _ (n * (4 + room)) (4 + room) ((n + 1) * (4 + room)) c.loop-scenes.invariant
+    c.in_ok-print_next.ensures.left (omega arith)
 
 pub returns-in_err-print_next-clause-left : goal.returns-in_err-print_next-clause-left
 returns-in_err-print_next-clause-left g c =
-    gives_more _ _ _ (c.loop-scenes.scenes * (4 + room)) (4 + room) (65536 * (4 + room)) c.loop-scenes.invariant.1
+    gives_more _ _ _ (c.loop-scenes.scenes * (4 + room)) (4 + room) (65536 * (4 + room)) c.loop-scenes.invariant
     c.in_err-print_next.ensures.left (omega (arith, c.loop-scenes-test.true))
 
-pub returns-else-branch-gt0-clause-left : goal.returns-else-branch-gt0-clause-left
-returns-else-branch-gt0-clause-left g c =
-    gives_more _ _ _ (c.loop-scenes.scenes * (4 + room)) (4 + room) (65536 * (4 + room)) c.loop-scenes.invariant.1
+pub returns-then-branch-eq0-clause-left : goal.returns-then-branch-eq0-clause-left
+returns-then-branch-eq0-clause-left g c =
+    gives_more _ _ _ (c.loop-scenes.scenes * (4 + room)) (4 + room) (65536 * (4 + room)) c.loop-scenes.invariant
     c.in_ok-print_next.ensures.left (omega (arith, c.loop-scenes-test.true))

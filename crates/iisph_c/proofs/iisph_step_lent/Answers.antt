@@ -1,8 +1,9 @@
 -- `iisph_c::iisph_step_lent` meets its contract: by the lengths of the two small lists; then the step's answer is
 -- written, or the length that its index must have. Assumes nothing.
-use mathlib.Core.Path.{refl}
+use mathlib.Core.Path.{refl, ap, ◌∙◌}
 use native.Mathlib.Omega.{arith}
-use Rattle.iisph_c.proofs.Calls.{numbers_short_lent, counts_short_lent, answered_to, short_to}
+use Rattle.std.specs.declared.result.Result.TheVariants.{Err}
+use Rattle.iisph_c.proofs.Calls.{numbers_short_lent, counts_short_lent, reported_to, refused_to, short_to}
 use Rattle.iisph_c.proofs.Calls.{index_after}
 use Rattle.iisph_c.proofs.iisph_step_lent.Goals as goal
 
@@ -22,36 +23,52 @@ returns-then-counts-lt-COUNTS c =
       lent_index = λ _. refl;
     }
 
-pub write_answer-requires : goal.write_answer-requires
-write_answer-requires c =
+pub write_report-requires : goal.write_report-requires
+write_report-requires c =
     (omega (arith, c.if-numbers-lt-NUMBERS.false), omega (arith, c.if-counts-lt-COUNTS.false))
 
-pub write_index-requires : goal.write_index-requires
-write_index-requires c =
-    omega (arith, c.if-counts-lt-COUNTS.false)
+pub write_refusal-requires : goal.write_refusal-requires
+write_refusal-requires c = omega (arith, c.if-counts-lt-COUNTS.false)
 
-pub returns-in-Answered : goal.returns-in-Answered
-returns-in-Answered c =
-    let told = c.write_answer.ensures in
+pub write_index-requires : goal.write_index-requires
+write_index-requires c = omega (arith, c.if-counts-lt-COUNTS.false)
+
+pub returns-in-Ok : goal.returns-in-Ok
+returns-in-Ok c =
+    let told = c.write_report.ensures in
     record {
       lent_to =
-          answered_to _ _ _ _ _ _ (omega (arith, c.if-numbers-lt-NUMBERS.false))
+          reported_to _ _ _ _ _ _ (omega (arith, c.if-numbers-lt-NUMBERS.false))
           (omega (arith, c.if-counts-lt-COUNTS.false))
-          c.step_lent.ensures.steps_lent c.in-Answered.is told.0 told.1 told.2;
+          c.step_lent.ensures.steps_lent c.in-Ok.is told.0 told.1 told.2;
       lent_index =
           index_after _ c.args.answers.now c.args.work.now _ _ _
           (omega (arith, c.if-numbers-lt-NUMBERS.false)) (omega (arith, c.if-counts-lt-COUNTS.false))
           c.step_lent.ensures.index_after;
     }
 
-pub returns-in-ShortIndex : goal.returns-in-ShortIndex
-returns-in-ShortIndex c =
+pub returns-in-Err-Refused : goal.returns-in-Err-Refused
+returns-in-Err-Refused c =
+    let told = c.write_refusal.ensures in
+    record {
+      lent_to =
+          refused_to _ _ _ _ _ _ (omega (arith, c.if-numbers-lt-NUMBERS.false))
+          (omega (arith, c.if-counts-lt-COUNTS.false))
+          c.step_lent.ensures.steps_lent (c.in-Err-Refused.is ∙ ap Err c.in-Err-Refused.field-0-is) told.0 told.1;
+      lent_index =
+          index_after _ c.args.answers.now c.args.work.now _ _ _
+          (omega (arith, c.if-numbers-lt-NUMBERS.false)) (omega (arith, c.if-counts-lt-COUNTS.false))
+          c.step_lent.ensures.index_after;
+    }
+
+pub returns-in-Err-ShortIndex : goal.returns-in-Err-ShortIndex
+returns-in-Err-ShortIndex c =
     let told = c.write_index.ensures in
     record {
       lent_to =
           short_to _ _ _ _ _ _ (omega (arith, c.if-numbers-lt-NUMBERS.false))
           (omega (arith, c.if-counts-lt-COUNTS.false))
-          c.step_lent.ensures.steps_lent c.in-ShortIndex.is told.0 told.1;
+          c.step_lent.ensures.steps_lent (c.in-Err-ShortIndex.is ∙ ap Err c.in-Err-ShortIndex.field-0-is) told.0 told.1;
       lent_index =
           index_after _ c.args.answers.now c.args.work.now _ _ _
           (omega (arith, c.if-numbers-lt-NUMBERS.false)) (omega (arith, c.if-counts-lt-COUNTS.false))

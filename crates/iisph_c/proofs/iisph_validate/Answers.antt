@@ -7,11 +7,11 @@ use Rattle.iisph_c.proofs.iisph_validate.Goals as goal
 pub returns-then-counts-lt-COUNTS : goal.returns-then-counts-lt-COUNTS
 returns-then-counts-lt-COUNTS c = validate_short _ _ _ (omega (arith, c.if-counts-lt-COUNTS.true))
 
-pub returns-in-Ready : goal.returns-in-Ready
-returns-in-Ready c =
-    ready_to _ _ _ (omega (arith, c.if-counts-lt-COUNTS.false)) c.validate.ensures c.in-Ready.is
+pub returns-in-Ok : goal.returns-in-Ok
+returns-in-Ok c =
+    ready_to _ _ _ (omega (arith, c.if-counts-lt-COUNTS.false)) c.validate.ensures c.in-Ok.is
 
-pub returns-in-Refused : goal.returns-in-Refused
-returns-in-Refused c =
-    unready_to _ _ _ (omega (arith, c.if-counts-lt-COUNTS.false)) c.validate.ensures c.in-Refused.is
+pub returns-in-Err : goal.returns-in-Err
+returns-in-Err c =
+    unready_to _ _ _ (omega (arith, c.if-counts-lt-COUNTS.false)) c.validate.ensures c.in-Err.is
     c.write_refusal.ensures.0 c.write_refusal.ensures.1

@@ -3,13 +3,13 @@ use mathlib.Core.Path.{refl}
 use Rattle.iisph_c.specs.Step.{step_code, numbers_after, counts_after}
 use Rattle.iisph_c.proofs.write_answer.Goals as goal
 
-pub returns-in-Done : goal.returns-in-Done
+pub returns-in-Ok : goal.returns-in-Ok
 unfolding step_code numbers_after counts_after
-returns-in-Done c =
-    rw c.in-Done.is c.write_report.ensures
+returns-in-Ok c =
+    rw c.in-Ok.is c.write_report.ensures
 
-pub returns-in-Refused : goal.returns-in-Refused
+pub returns-in-Err : goal.returns-in-Err
 unfolding step_code numbers_after counts_after
-returns-in-Refused c =
+returns-in-Err c =
     let e = c.write_refusal.ensures in
-    rw c.in-Refused.is (e.0, refl, e.1)
+    rw c.in-Err.is (e.0, refl, e.1)

@@ -7,9 +7,9 @@ use Rattle.iisph_codes.proofs.write_kernel.Goals as goal
 pub returns-then-out-lt1 : goal.returns-then-out-lt1
 returns-then-out-lt1 c = out_empty _ _ (omega (arith, c.if-out-lt1.true))
 
-pub returns-in-Value : goal.returns-in-Value
-returns-in-Value c = value_given _ _ (omega (arith, c.if-out-lt1.false)) c.in-Value.is refl
+pub returns-in-Ok : goal.returns-in-Ok
+returns-in-Ok c = value_given _ _ (omega (arith, c.if-out-lt1.false)) c.in-Ok.is refl
 
-pub returns-in-Refused : goal.returns-in-Refused
-returns-in-Refused c =
-    refusal_given _ _ (omega (arith, c.if-out-lt1.false)) c.in-Refused.is c.refusal_code.ensures
+pub returns-in-Err : goal.returns-in-Err
+returns-in-Err c =
+    refusal_given _ _ (omega (arith, c.if-out-lt1.false)) c.in-Err.is c.refusal_code.ensures

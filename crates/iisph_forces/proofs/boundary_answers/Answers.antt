@@ -18,21 +18,12 @@ use Rattle.iisph_forces.proofs.boundary_answers.Goals as goal
 room : nameable_models ≤ length (replicate {A = ℕ} nameable_models 0)
 room = omega (arith, length-replicate {A = ℕ} nameable_models 0)
 
-pub put_initial-requires : goal.put_initial-requires
-put_initial-requires c =
-    let p = c.requires in
-    record { pass_over = p.pass_over; passed = (p.passed.0, room, p.passed.1) }
-
-pub gather_all-requires : goal.gather_all-requires
-gather_all-requires c =
-    let p = c.requires in
-    let k = fluid_answer_width c.args.dim * c.args.n in record {
-      pass_over = p.pass_over;
-      forces_known = (
-        starts_held _ _ p.passed.0.walk (replicate nameable_models 0) room c.put_initial.ensures.0,
-        still-room _ c.args.answers.now k c.put_initial.ensures.1 p.passed.1,
-      );
-    }
+pub gather_all-requires-clause-forces_known : goal.gather_all-requires-clause-forces_known
+gather_all-requires-clause-forces_known c =
+    let passed = c.requires.passed in (
+      starts_held _ _ passed.0.walk (replicate nameable_models 0) room c.put_initial.ensures.0,
+      still-room _ c.args.answers.now (fluid_answer_width c.args.dim * c.args.n) c.put_initial.ensures.1 passed.1,
+    )
 
 pub returns : goal.returns
 returns c =

@@ -4,9 +4,9 @@ use Rattle.std.proofs.Common.{sym, ◌∙◌}
 use Rattle.iisph_kept.proofs.Clocks.{moved, kept}
 use Rattle.iisph_kept.proofs.step_keeping.Goals as goal
 
-pub returns-then-is_done : goal.returns-then-is_done
-returns-then-is_done c =
-    (c.step-answer.ensures, c.advance_in_place.ensures ∙ moved _ _ (sym c.if-is_done.true ∙ c.is_done.ensures))
+pub returns-then-is_ok : goal.returns-then-is_ok
+returns-then-is_ok c =
+    (c.step-answer.ensures, c.advance_in_place.ensures ∙ moved _ _ (sym c.if-is_ok.true ∙ c.is_ok.ensures.value))
 
-pub returns-else-is_done : goal.returns-else-is_done
-returns-else-is_done c = (c.step-answer.ensures, kept _ _ (sym c.if-is_done.false ∙ c.is_done.ensures))
+pub returns-else-is_ok : goal.returns-else-is_ok
+returns-else-is_ok c = (c.step-answer.ensures, kept _ _ (sym c.if-is_ok.false ∙ c.is_ok.ensures.value))

@@ -5,22 +5,20 @@ use Rattle.iisph_pressures.proofs.IterationTerms.{axes-are}
 use Rattle.iisph_preparation.proofs.RowsFilled.{advected_ready, rows_filled_lem}
 use Rattle.iisph_preparation.proofs.fill_rows.Goals as goal
 
-pub traverse-requires : goal.traverse-requires
+pub traverse-requires-clause-room : goal.traverse-requires-clause-room
 unfolding Ready
-traverse-requires c = record { driven_pass = c.requires.driven_pass; room = (c.requires.room.0, tt) }
+traverse-requires-clause-room c = (c.requires.room.0, tt)
 
-pub traverse-requires-2 : goal.traverse-requires-2
+pub traverse-requires-2-clause-room : goal.traverse-requires-2-clause-room
 unfolding Ready
-traverse-requires-2 c =
-    let e = advected_ready c.args.scene.now c.requires.driven_pass.timed.over.axes
-    (axes-are c.args.scene.now c.requires.driven_pass.timed.over.axes) c.requires.driven_pass.timed.over.size
-    c.args.work.now c.requires.room.0
-    c.requires.room.1 c.traverse.ensures in
-    record { driven_pass = c.requires.driven_pass; room = (e.room, e) }
+traverse-requires-2-clause-room c =
+    let over = c.requires.driven_pass.timed.over in
+    let ready = advected_ready c.args.scene.now over.axes (axes-are c.args.scene.now over.axes) over.size
+    c.args.work.now c.requires.room.0 c.requires.room.1 c.traverse.ensures in
+    (ready.room, ready)
 
 pub returns : goal.returns
 returns c =
-    rows_filled_lem c.args.scene.now c.requires.driven_pass.timed.over.axes
-    (axes-are c.args.scene.now c.requires.driven_pass.timed.over.axes) c.requires.driven_pass.timed.over.size
-    c.args.work.now c.traverse.ensures
-    c.traverse-2.ensures
+    let over = c.requires.driven_pass.timed.over in
+    rows_filled_lem c.args.scene.now over.axes (axes-are c.args.scene.now over.axes) over.size c.args.work.now
+    c.traverse.ensures c.traverse-2.ensures

@@ -6,18 +6,18 @@ use Rattle.iisph_text.proofs.put_accepted.Goals as goal
 pub put_done-requires : goal.put_done-requires
 put_done-requires c = (
   c.requires.passed,
-  done_ready c.requires.passed.bytes c.step_short-answer.ensures c.in-Done.is
+  done_ready c.requires.passed.bytes c.step_short.ensures c.in-Ok.is
       c.requires.scene_len_bound.0
       c.requires.scene_len_bound.1,
 )
 
-pub returns-in-Done : goal.returns-in-Done
-returns-in-Done c =
-    done_run c.requires.passed.bytes c.step_short-answer.ensures c.in-Done.is c.requires.scene_len_bound.0
+pub returns-in-Ok : goal.returns-in-Ok
+returns-in-Ok c =
+    done_run c.requires.passed.bytes c.step_short.ensures c.in-Ok.is c.requires.scene_len_bound.0
     c.requires.scene_len_bound.1
     c.put_done.ensures
 
-pub returns-in-Refused : goal.returns-in-Refused
-returns-in-Refused c =
-    refused_run c.requires.scene_len_bound.1 c.requires.scene_len_bound.0 c.step_short-answer.ensures c.in-Refused.is
+pub returns-in-Err : goal.returns-in-Err
+returns-in-Err c =
+    refused_run c.requires.scene_len_bound.1 c.requires.scene_len_bound.0 c.step_short.ensures c.in-Err.is
     c.put_refused.ensures

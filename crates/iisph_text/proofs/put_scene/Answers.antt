@@ -9,14 +9,14 @@ use Rattle.iisph_text.proofs.put_scene.Goals as goal
 pub put_accepted-requires : goal.put_accepted-requires
 put_accepted-requires c =
     record {
-      passed = verdict_accepted _ c.check-found.ensures (λ i. omega (arith, c.shared_slice_known-1.given i))
-          c.in-Accepted.is;
+      passed = verdict_accepted _ c.check.ensures (λ i. omega (arith, c.shared_slice_known-1.given i))
+          c.in-Ok.is;
       scene_len_bound = c.requires;
     }
 
-pub returns-in-Refused : goal.returns-in-Refused
-returns-in-Refused c =
-    let q = verdict_refused _ c.check-found.ensures c.in-Refused.is in
+pub returns-in-Err : goal.returns-in-Err
+returns-in-Err c =
+    let q = verdict_refused _ c.check.ensures c.in-Err.is in
     refused_run c.requires.1 c.requires.0
     (refused_steps_lem c.args.scene.now c.args.answers.now c.args.work.now q)
     refl

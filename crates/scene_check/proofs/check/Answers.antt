@@ -1,41 +1,30 @@
 -- `scene_check::check` meets its contract: the fields decide, and then the names, by the counts of the layout. Accepted
 -- fields end with the bytes. Assumes nothing.
-use mathlib.Core.Path.{◌≡◌, sym, ap, ◌∙◌}
-use lib.ListN.{length}
-use Rattle.scene_walk.specs.Walk.{fields}
-use Rattle.scene_format.specs.declared.Walk.TheVariants.{At}
-use Rattle.scene_walk.proofs.Walked.{fields_leads}
-use Rattle.scene_check.proofs.Checks.{fields_refused, names_decide, checks_refused, checks_accepted}
+use mathlib.Core.Path.{sym, ◌∙◌}
+use Rattle.std.proofs.lemmas.Result.{err_from_is_err_and}
+use Rattle.scene_check.proofs.Checks.{fields_passed, fields_refused, names_decide, checks_refused, checks_accepted}
 use Rattle.scene_check.proofs.check.Goals as goal
 
-pub returns-in-Refused : goal.returns-in-Refused
-returns-in-Refused c =
-    checks_refused _ (fields_refused _ (sym c.fields.ensures ∙ c.in-Refused.is))
-    c.refused.ensures
+pub returns-in_err-fields : goal.returns-in_err-fields
+returns-in_err-fields c =
+    let p = err_from_is_err_and c.from_residual.result c.from_residual.ensures.1 in
+    rw (p.1, p.2) (checks_refused _ (fields_refused _ (sym c.fields.ensures ∙ c.in_err-fields.was)))
 
-pub layout_of-found-requires : goal.layout_of-found-requires
-layout_of-found-requires c =
-    let fields_passed : let b = c.args.scene.now in fields b ≡ At (length b) = let q =
-    sym c.fields.ensures ∙ c.in_default.is in q ∙ ap At (fields_leads _ _ q).0 in
-    fields_passed
+pub layout_of-layout-requires : goal.layout_of-layout-requires
+layout_of-layout-requires c = fields_passed _ c.fields.ensures c.in_ok-fields.was
 
 pub all_names-requires : goal.all_names-requires
-all_names-requires c =
-    let fields_passed : let b = c.args.scene.now in fields b ≡ At (length b) = let q =
-    sym c.fields.ensures ∙ c.in_default.is in q ∙ ap At (fields_leads _ _ q).0 in
-    (fields_passed, c.layout_of-found.ensures)
+all_names-requires c = (fields_passed _ c.fields.ensures c.in_ok-fields.was, c.layout_of-layout.ensures)
 
-pub returns-in-Refused-all_names : goal.returns-in-Refused-all_names
-returns-in-Refused-all_names c =
-    let fields_passed : let b = c.args.scene.now in fields b ≡ At (length b) = let q =
-    sym c.fields.ensures ∙ c.in_default.is in q ∙ ap At (fields_leads _ _ q).0 in
-    checks_refused _ (names_decide _ fields_passed ∙ sym c.all_names.ensures ∙ c.in-Refused-all_names.is)
-    c.refused-in-Refused-all_names.ensures
+pub returns-in_err-all_names : goal.returns-in_err-all_names
+returns-in_err-all_names c =
+    let p = err_from_is_err_and c.from_residual-in_err-all_names.result c.from_residual-in_err-all_names.ensures.1 in
+    let passed = fields_passed _ c.fields.ensures c.in_ok-fields.was in
+    rw (p.1, p.2)
+    (checks_refused _ (names_decide _ passed ∙ sym c.all_names.ensures ∙ c.in_err-all_names.was))
 
 pub returns : goal.returns
 returns c =
-    let fields_passed : let b = c.args.scene.now in fields b ≡ At (length b) = let q =
-    sym c.fields.ensures ∙ c.in_default.is in q ∙ ap At (fields_leads _ _ q).0 in
-    checks_accepted _
-    (names_decide _ fields_passed ∙ sym c.all_names.ensures ∙ c.in_default-all_names.is)
-    c.layout_of-found.ensures
+    let passed = fields_passed _ c.fields.ensures c.in_ok-fields.was in
+    checks_accepted _ (names_decide _ passed ∙ sym c.all_names.ensures ∙ c.in_ok-all_names.was)
+    c.layout_of-layout.ensures

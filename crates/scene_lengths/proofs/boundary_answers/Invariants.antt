@@ -1,18 +1,15 @@
 -- `scene_lengths::boundary_answers` meets its contract: boundary by boundary, each read at the head that the layout
 -- has. Assumes nothing.
-use Prim.Native.Nat.{◌*◌, ◌-◌, ◌≤◌}
+use Prim.Native.Nat.{◌*◌, ◌≤◌}
 use mathlib.Core.Path.{◌≡◌}
 use Rattle.math.specs.Vector.{space}
-use Rattle.scene_format.specs.Format.{axes_of, most_particles, model_number, counts_of, keeps_of}
+use Rattle.scene_format.specs.Format.{axes_of, most_particles, counts_of, keeps_of}
 use Rattle.scene_format.specs.declared.Kind.TheVariants.{Boundary}
 use Rattle.scene_lengths.specs.Lengths.{kept_answer_width, answers_before}
 use Rattle.scene_lengths.proofs.boundary_answers.Given as goal
 
-abbrev pub invariant-loop-m : goal.invariant-loop-m
-invariant-loop-m l =
-    (l.m ≤ model_number Boundary l.scene) × (l.needed ≤ kept_answer_width space * most_particles * l.m)
+abbrev pub invariant-loop-head : goal.invariant-loop-head
+invariant-loop-head l =
+    (l.needed ≤ kept_answer_width space * most_particles * l.head-index)
     × (l.needed ≡ answers_before (axes_of l.scene) Boundary (keeps_of Boundary l.scene) (counts_of Boundary l.scene)
-    l.m)
-
-abbrev pub decreases-loop-m : goal.decreases-loop-m
-decreases-loop-m l = l.number - l.m
+    l.head-index)

@@ -3,7 +3,7 @@
 use Prim.Native.Nat.{ℕ, ◌+◌, ◌*◌, ◌≤◌}
 use mathlib.Core.Path.{◌≡◌, ap, ◌∙◌}
 use native.Mathlib.Omega.{arith}
-use Rattle.scene_format.specs.Format.{axes_of, keeps_at, contact_width, contact_count_offset, boundary_count_offset}
+use Rattle.scene_format.specs.Format.{contact_width, contact_count_offset}
 use Rattle.scene_format.specs.Format.{record_width, own_width, contacts_width, next_record}
 use Rattle.scene_format.specs.declared.Kind.TheVariants.{Fluid}
 use Rattle.scene_format.proofs.Forms.{two_bytes, contacts_fit}
@@ -29,10 +29,8 @@ byte-n-requires c =
 pub names-requires : goal.names-requires
 unfolding owner_of next_record own_width contacts_width
 names-requires c =
-    let count_is : c.contact_counts-count.result ≡ contact_count_offset Fluid (axes_of c.args.s.now) =
-    c.contact_counts-count.ensures.0 ∙ ap (contact_count_offset Fluid) c.axes-dim.ensures.0 in
-    let width_is : c.contact_width-width.result ≡ contact_width (axes_of c.args.s.now) =
-    c.contact_width-width.ensures.0 ∙ ap contact_width c.axes-dim.ensures.0 in
+    let count_is = c.contact_counts-count.ensures.0 ∙ ap (contact_count_offset Fluid) c.axes-dim.ensures.0 in
+    let width_is = c.contact_width-width.ensures.0 ∙ ap contact_width c.axes-dim.ensures.0 in
     let ends = rw c.in-FluidFluid.is at c.requires.record_within.ends in
     (omega arith, first_within _ _ _ count_is width_is (rw count_is at c.byte-n.ensures.0) ends)
 
@@ -66,53 +64,47 @@ overflow_add-at-in-FluidBoundary-4 c =
 pub names-requires-in-FluidBoundary : goal.names-requires-in-FluidBoundary
 unfolding owner_of next_record own_width contacts_width
 names-requires-in-FluidBoundary c =
-    let count_is₂ : c.contact_counts-count-in-FluidBoundary.result ≡ contact_count_offset Fluid (axes_of c.args.s.now)
-    = c.contact_counts-count-in-FluidBoundary.ensures.0 ∙ ap (contact_count_offset Fluid) c.axes-dim.ensures.0 in
-    let width_is₂ : c.contact_width-width-in-FluidBoundary.result ≡ contact_width (axes_of c.args.s.now) =
-    c.contact_width-width-in-FluidBoundary.ensures.0 ∙ ap contact_width c.axes-dim.ensures.0 in
+    let count_is = c.contact_counts-count-in-FluidBoundary.ensures.0 ∙ ap (contact_count_offset Fluid)
+    c.axes-dim.ensures.0 in
+    let width_is = c.contact_width-width-in-FluidBoundary.ensures.0 ∙ ap contact_width c.axes-dim.ensures.0 in
     let ends = rw c.in-FluidBoundary.is at c.requires.record_within.ends in (
       omega arith,
-      second_within _ _ (count_is₂) (width_is₂) (rw (count_is₂) at c.byte-before.ensures.0)
-          (rw (count_is₂) at c.byte-n-in-FluidBoundary.ensures.0) ends,
+      second_within _ _ count_is width_is (rw count_is at c.byte-before.ensures.0)
+          (rw count_is at c.byte-n-in-FluidBoundary.ensures.0) ends,
     )
 
 pub byte-n-requires-in-BoundaryBoundary : goal.byte-n-requires-in-BoundaryBoundary
 unfolding owner_of own_width
 byte-n-requires-in-BoundaryBoundary c =
-    let count_is₃ : let a = c.args in c.boundary_count-count.result ≡ boundary_count_offset (axes_of a.s.now)
-    (keeps_at a.s.now a.head) = rw (c.axes-dim.ensures.0, c.keeps.ensures.0) at c.boundary_count-count.ensures.0 in
-    omega (arith, count_is₃, rw c.in-BoundaryBoundary.is at c.requires.record_within.own)
+    let count_is = rw (c.axes-dim.ensures.0, ← c.keeps.ensures) at c.boundary_count-count.ensures.0 in
+    omega (arith, count_is, rw c.in-BoundaryBoundary.is at c.requires.record_within.own)
 
 pub names-requires-in-BoundaryBoundary : goal.names-requires-in-BoundaryBoundary
 unfolding owner_of next_record own_width contacts_width
 names-requires-in-BoundaryBoundary c =
-    let count_is₃ : let a = c.args in c.boundary_count-count.result ≡ boundary_count_offset (axes_of a.s.now)
-    (keeps_at a.s.now a.head) = rw (c.axes-dim.ensures.0, c.keeps.ensures.0) at c.boundary_count-count.ensures.0 in
+    let count_is = rw (c.axes-dim.ensures.0, ← c.keeps.ensures) at c.boundary_count-count.ensures.0 in
     let ends = rw c.in-BoundaryBoundary.is at c.requires.record_within.ends in
-    (omega arith, rw (c.byte-n-in-BoundaryBoundary.ensures.0, count_is₃) ends)
+    (omega arith, rw (c.byte-n-in-BoundaryBoundary.ensures.0, count_is) ends)
 
 pub returns-in-FluidFluid : goal.returns-in-FluidFluid
 unfolding list_looked list_width list_count list_start
 returns-in-FluidFluid c =
-    let count_is : c.contact_counts-count.result ≡ contact_count_offset Fluid (axes_of c.args.s.now) =
-    c.contact_counts-count.ensures.0 ∙ ap (contact_count_offset Fluid) c.axes-dim.ensures.0 in
-    let width_is : c.contact_width-width.result ≡ contact_width (axes_of c.args.s.now) =
-    c.contact_width-width.ensures.0 ∙ ap contact_width c.axes-dim.ensures.0 in
+    let count_is = c.contact_counts-count.ensures.0 ∙ ap (contact_count_offset Fluid) c.axes-dim.ensures.0 in
+    let width_is = c.contact_width-width.ensures.0 ∙ ap contact_width c.axes-dim.ensures.0 in
     c.names.ensures ∙ looked_same c.requires.counts_of_kind _ _ _
     ∙ rw (c.in-FluidFluid.is, ← width_is, ← count_is, ← c.byte-n.ensures.0)
 
 pub returns-in-FluidBoundary : goal.returns-in-FluidBoundary
 unfolding list_looked list_width list_count list_start
 returns-in-FluidBoundary c =
-    let count_is₂ : c.contact_counts-count-in-FluidBoundary.result ≡ contact_count_offset Fluid (axes_of c.args.s.now)
-    = c.contact_counts-count-in-FluidBoundary.ensures.0 ∙ ap (contact_count_offset Fluid) c.axes-dim.ensures.0 in
-    let width_is₂ : c.contact_width-width-in-FluidBoundary.result ≡ contact_width (axes_of c.args.s.now) =
-    c.contact_width-width-in-FluidBoundary.ensures.0 ∙ ap contact_width c.axes-dim.ensures.0 in
+    let count_is = c.contact_counts-count-in-FluidBoundary.ensures.0 ∙ ap (contact_count_offset Fluid)
+    c.axes-dim.ensures.0 in
+    let width_is = c.contact_width-width-in-FluidBoundary.ensures.0 ∙ ap contact_width c.axes-dim.ensures.0 in
     c.names-in-FluidBoundary.ensures ∙ looked_same c.requires.counts_of_kind _ _ _
     ∙ rw (
       c.in-FluidBoundary.is,
-      ← width_is₂,
-      ← count_is₂,
+      ← width_is,
+      ← count_is,
       ← c.byte-before.ensures.0,
       ← c.byte-n-in-FluidBoundary.ensures.0,
     )
@@ -120,7 +112,6 @@ returns-in-FluidBoundary c =
 pub returns-in-BoundaryBoundary : goal.returns-in-BoundaryBoundary
 unfolding list_looked list_width list_count list_start
 returns-in-BoundaryBoundary c =
-    let count_is₃ : let a = c.args in c.boundary_count-count.result ≡ boundary_count_offset (axes_of a.s.now)
-    (keeps_at a.s.now a.head) = rw (c.axes-dim.ensures.0, c.keeps.ensures.0) at c.boundary_count-count.ensures.0 in
+    let count_is = rw (c.axes-dim.ensures.0, ← c.keeps.ensures) at c.boundary_count-count.ensures.0 in
     c.names-in-BoundaryBoundary.ensures ∙ looked_same c.requires.counts_of_kind _ _ _
-    ∙ rw (c.in-BoundaryBoundary.is, ← count_is₃, ← c.byte-n-in-BoundaryBoundary.ensures.0)
+    ∙ rw (c.in-BoundaryBoundary.is, ← count_is, ← c.byte-n-in-BoundaryBoundary.ensures.0)

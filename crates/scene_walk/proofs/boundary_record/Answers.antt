@@ -1,56 +1,51 @@
 -- `scene_walk::boundary_record` meets its contract: field by field, each from where the walk has come to; the count is
 -- there once it is passed. Assumes nothing.
-use Prim.Native.Nat.{◌+◌, ◌≤◌}
-use mathlib.Core.Path.{◌≡◌, sym, ◌∙◌}
+use Prim.Native.Nat.{ℕ}
+use mathlib.Core.List.{List}
+use mathlib.Core.Path.{◌≡◌, sym, ◌∙◌, ap}
 use native.Mathlib.Omega.{arith}
-use lib.ListN.{length}
-use Rattle.scene_fields.specs.Fields.{◌▹◌, times, plain, double}
-use Rattle.scene_fields.proofs.Walks.{stopped, gone_on, onward}
-use Rattle.scene_format.specs.Format.{axes_of, boundary_record_doubles}
+use Rattle.scene_fields.specs.Fields.{◌▹◌, times, double}
+use Rattle.scene_fields.proofs.Reached.{plain-steps}
+use Rattle.scene_fields.proofs.Walks.{handed_on}
+use Rattle.scene_format.specs.Bytes.{byte_at}
+use Rattle.scene_format.specs.Format.{axes_of, bit, boundary_record_doubles, boundary_contact_count}
+use Rattle.std.specs.declared.result.Result.TheVariants.{Ok}
 use Rattle.scene_walk.specs.Walk.{boundary_record}
-use Rattle.scene_walk.proofs.Walked.{boundary_own_leads}
+use Rattle.scene_walk.proofs.Walked.{doubles-steps}
 use Rattle.scene_walk.proofs.boundary_record.Goals as goal
+use Rattle.scene_walk.proofs.boundary_record.Goals.{After-doubles}
 
-pub returns-in_default : goal.returns-in_default
-unfolding boundary_record
-returns-in_default c =
-    let own : let a = c.args in let b = a.s.now in c.plain_on-boundaries.result ≡ times
-    (boundary_record_doubles (axes_of b) a.k) (double b) a.from ▹ plain b 1 =
-    onward _ c.plain_on-boundaries.ensures (rw (c.boundary_doubles.ensures, c.axes-dim.ensures.0) at
-    c.doubles-own.ensures) in
-    onward _ (stopped _ c.in_default.is) own
+-- the walk through the record's own doubles
+own : (c : After-doubles)
+    → times (boundary_record_doubles (axes_of c.args.s.now) (bit c.args.keeps)) (double c.args.s.now) c.args.from
+    ≡ c.doubles.result
+own c = sym (rw (c.boundary_doubles.ensures, c.axes.ensures.0) at c.doubles.ensures)
 
-pub overflow_add-from : goal.overflow_add-from
-overflow_add-from c =
-    let own : let a = c.args in let b = a.s.now in c.plain_on-boundaries.result ≡ times
-    (boundary_record_doubles (axes_of b) a.k) (double b) a.from ▹ plain b 1 =
-    onward _ c.plain_on-boundaries.ensures (rw (c.boundary_doubles.ensures, c.axes-dim.ensures.0) at
-    c.doubles-own.ensures) in
-    let count_there : let a = c.args in a.from + (c.boundary_count-count.result + 1) ≤ length a.s.now = let axes =
-    c.axes-dim in rw (c.boundary_count-count.ensures.0, axes.ensures.0)
-    (boundary_own_leads _ _ _ _ (sym own ∙ c.in-At.is)).1.1 in
-    omega (arith, count_there)
+-- the count stands where it ends
+count_here : (b : List ℕ) (k at : ℕ) {x : ℕ} → times (boundary_record_doubles (axes_of b) k) (double b) at ≡ Ok x
+    → boundary_contact_count b k at ≡ byte_at b x
+count_here b k at q = let end = (doubles-steps _ _ _ _ q).0 in ap (byte_at b) (omega (arith, end))
+
+pub returns-in_err-count : goal.returns-in_err-count
+unfolding boundary_record ◌▹◌
+returns-in_err-count c =
+    handed_on c.from_residual.ensures.1
+    ∙ rw (own (goal.at.returns-in_err-count c).After-doubles ∙ c.in_err-count.was)
+
+pub returns-in_err-first : goal.returns-in_err-first
+unfolding boundary_record ◌▹◌
+returns-in_err-first c =
+    handed_on c.from_residual-in_err-first.ensures.1
+    ∙ rw (
+      own (goal.at.returns-in_err-first c).After-doubles ∙ c.in_ok-count.was,
+      sym c.plain.ensures ∙ c.in_err-first.was,
+    )
 
 pub byte-requires : goal.byte-requires
-byte-requires c =
-    let own : let a = c.args in let b = a.s.now in c.plain_on-boundaries.result ≡ times
-    (boundary_record_doubles (axes_of b) a.k) (double b) a.from ▹ plain b 1 =
-    onward _ c.plain_on-boundaries.ensures (rw (c.boundary_doubles.ensures, c.axes-dim.ensures.0) at
-    c.doubles-own.ensures) in
-    let count_there : let a = c.args in a.from + (c.boundary_count-count.result + 1) ≤ length a.s.now = let axes =
-    c.axes-dim in rw (c.boundary_count-count.ensures.0, axes.ensures.0)
-    (boundary_own_leads _ _ _ _ (sym own ∙ c.in-At.is)).1.1 in
-    omega (arith, count_there)
+byte-requires c = omega (arith, (plain-steps _ _ _ _ (sym c.plain.ensures ∙ c.in_ok-first.was)).1)
 
 pub returns : goal.returns
-unfolding boundary_record
+unfolding boundary_record ◌▹◌
 returns c =
-    let own : let a = c.args in let b = a.s.now in c.plain_on-boundaries.result ≡ times
-    (boundary_record_doubles (axes_of b) a.k) (double b) a.from ▹ plain b 1 =
-    onward _ c.plain_on-boundaries.ensures (rw (c.boundary_doubles.ensures, c.axes-dim.ensures.0) at
-    c.doubles-own.ensures) in
-    let axes = c.axes-dim in
-    onward _
-    (gone_on _ c.in-At.is
-    (rw (← axes.ensures.0, ← c.boundary_count-count.ensures.0, ← c.byte.ensures.0) c.contacts.ensures))
-    own
+    let here = own (goal.at.returns c).After-doubles ∙ c.in_ok-count.was in
+    rw (here, sym c.plain.ensures ∙ c.in_ok-first.was, count_here _ _ _ here ∙ sym c.byte.ensures.0) c.contacts.ensures

@@ -17,19 +17,15 @@ overflow_mul-contact_width c = omega (arith, contacts_fit c.contact_width.ensure
 pub contacts_plainly_finite-requires : goal.contacts_plainly_finite-requires
 contacts_plainly_finite-requires c =
     let there : let a = c.args in a.from + contact_width a.dim * a.n ≤ length a.s.now =
-    rw c.contact_width.ensures.0 at (plain-steps _ _ _ _ (sym c.plain-w.ensures ∙ c.in-At.is)).1 in
+    rw c.contact_width.ensures.0 at (plain-steps _ _ _ _ (sym c.plain.ensures ∙ c.in-Ok.is)).1 in
     rw c.contact_doubles-d.ensures (omega (arith, there))
 
-pub returns-then-contacts_plainly_finite : goal.returns-then-contacts_plainly_finite
-returns-then-contacts_plainly_finite c =
+pub returns-in-Ok : goal.returns-in-Ok
+returns-in-Ok c =
     let there : let a = c.args in a.from + contact_width a.dim * a.n ≤ length a.s.now =
-    rw c.contact_width.ensures.0 at (plain-steps _ _ _ _ (sym c.plain-w.ensures ∙ c.in-At.is)).1 in
+    rw c.contact_width.ensures.0 at (plain-steps _ _ _ _ (sym c.plain.ensures ∙ c.in-Ok.is)).1 in
     let h = there in
-    c.plain-w.ensures ∙ rw c.contact_width.ensures.0 (plain_there _ _ _ h)
+    sym c.in-Ok.is ∙ c.plain.ensures ∙ rw c.contact_width.ensures.0 (plain_there _ _ _ h)
     ∙ sym
-    (fluid_contacts_there _ (λ i. omega (arith, c.shared_slice_known-1.given i)) _ _ _ h
+    (fluid_contacts_there _ (λ i. (c.type_inv.s i).fits) _ _ _ h
     (sym (rw c.contact_doubles-d.ensures at c.contacts_plainly_finite.ensures) ∙ c.if-contacts_plainly_finite.true))
-
-pub returns : goal.returns
-returns c =
-    rw c.contact_doubles-d.ensures at c.contacts.ensures

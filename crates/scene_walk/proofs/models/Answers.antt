@@ -1,19 +1,12 @@
--- `scene_walk::models` meets its contract: what remains from here is the whole, turn by turn. Assumes nothing.
-use Rattle.scene_fields.proofs.Walks.{none_done, one_more_done, turn_refused, all_done}
+-- `scene_walk::models` meets its contract: the closure is the step, at each number. Assumes nothing.
+use Rattle.std.proofs.Common.{rules}
+use Rattle.scene_fields.proofs.Folded.{times_folded}
+use Rattle.scene_walk.specs.Walk.{models_of, model_of}
 use Rattle.scene_walk.proofs.models.Goals as goal
 
-pub loop-i-init : goal.loop-i-init
-loop-i-init c = none_done
-
-pub returns-in_default : goal.returns-in_default
-returns-in_default c =
-    turn_refused c.loop-i.invariant c.loop-i-test.true c.model-w.ensures
-    c.in_default.is
-
-pub loop-i-preserved : goal.loop-i-preserved
-loop-i-preserved c =
-    one_more_done c.loop-i.invariant c.loop-i-test.true c.model-w.ensures
-    c.in-At.is
-
 pub returns : goal.returns
-returns c = all_done c.loop-i.invariant c.loop-i-test.false
+unfolding models_of
+returns c =
+    let a = c.args in
+    rw (← c.model_number.ensures)
+    (times_folded _ (model_of a.kind a.s.now) _ (λ at k w d h. search rules) c.try_fold.ensures.ran)

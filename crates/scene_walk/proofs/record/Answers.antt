@@ -8,4 +8,4 @@ returns-in-Fluid c = rw c.in-Fluid.is c.fluid_record.ensures
 
 pub returns-in-Boundary : goal.returns-in-Boundary
 unfolding record_of
-returns-in-Boundary c = rw (c.in-Boundary.is, ← c.keeps.ensures.0) c.boundary_record.ensures
+returns-in-Boundary c = rw (c.in-Boundary.is, c.keeps.ensures) c.boundary_record.ensures

@@ -6,143 +6,97 @@ use native.Mathlib.Omega.{arith}
 use Rattle.scene_format.specs.Scene.{fluid_size, particle}
 use Rattle.scene_format.specs.SceneOf.{scene_of}
 use Rattle.scene_format.specs.declared.Kind.TheVariants.{Fluid, Boundary}
-use Rattle.iisph_coefficients.proofs.BothKinds.{coefficients_made}
 use Rattle.scene_index.proofs.ContactLists.{ContactsAre, contacts_are, list_ready}
-use Rattle.scene_index.specs.Contacts.{ContactsReady}
+use Rattle.iisph_coefficients.specs.Neighbours.{SumReady}
+use Rattle.iisph_coefficients.proofs.BothKinds.{coefficients_made}
 use Rattle.iisph_coefficients.proofs.Targets.{pass_axes, own_row, own_mass, own_velocity}
 use Rattle.iisph_coefficients.proofs.coefficients.coefficients_of.Goals as goal
+use Rattle.iisph_coefficients.proofs.coefficients.coefficients_of.Goals.{Start, After-contacts_of-boundary}
+
+-- ---- the two lists of contacts
+
+below : (c : Start) → c.args.i < fluid_size (scene_of c.args.scene.now)
+below c = omega (arith, c.requires.timed_pass.0.over.size, c.requires.timed_pass.1)
+
+module _ (c : After-contacts_of-boundary) (h : c.args.i < fluid_size (scene_of c.args.scene.now)) where
+  fluid : ContactsAre c.args.scene.now Fluid (particle (scene_of c.args.scene.now) c.args.i) c.contacts_of-fluid.result
+  fluid = contacts_are c.requires.timed_pass.0.over.indexed _ h c.contacts_of-fluid.ensures
+
+  boundary : ContactsAre c.args.scene.now Boundary (particle (scene_of c.args.scene.now) c.args.i)
+      c.contacts_of-boundary.result
+  boundary = contacts_are c.requires.timed_pass.0.over.indexed _ h c.contacts_of-boundary.ensures
+
+  fluid_ready : let a = c.args in
+      SumReady Fluid a.scene.now a.index.now a.work.now a.dim a.n c.contacts_of-fluid.result
+  fluid_ready =
+      let over = c.requires.timed_pass.0.over in (over, list_ready over.axes fluid, c.requires.coefficients_ready)
+
+  boundary_ready : let a = c.args in
+      SumReady Boundary a.scene.now a.index.now a.work.now a.dim a.n c.contacts_of-boundary.result
+  boundary_ready =
+      let over = c.requires.timed_pass.0.over in (over, list_ready over.axes boundary, c.requires.coefficients_ready)
+
+-- ---- the goals
 
 pub contacts_of-fluid-requires : goal.contacts_of-fluid-requires
 contacts_of-fluid-requires c =
-    let below : c.args.i < fluid_size (scene_of c.args.scene.now) =
-    omega (arith, c.requires.timed_pass.0.over.size, c.requires.timed_pass.1) in
     let p = c.requires.timed_pass.0.over in
-    record { indexed = (p.indexed, p.axes); i_bound = below }
+    record { indexed = (p.indexed, p.axes); i_bound = below (goal.at.contacts_of-fluid-requires c).Start }
 
 pub contacts_of-boundary-requires : goal.contacts_of-boundary-requires
 contacts_of-boundary-requires c =
-    let below : c.args.i < fluid_size (scene_of c.args.scene.now) =
-    omega (arith, c.requires.timed_pass.0.over.size, c.requires.timed_pass.1) in
     let p = c.requires.timed_pass.0.over in
-    record { indexed = (p.indexed, p.axes); i_bound = below }
+    record { indexed = (p.indexed, p.axes); i_bound = below (goal.at.contacts_of-boundary-requires c).Start }
 
 pub row_at-row-requires : goal.row_at-row-requires
 row_at-row-requires c =
-    let below : c.args.i < fluid_size (scene_of c.args.scene.now) =
-    omega (arith, c.requires.timed_pass.0.over.size, c.requires.timed_pass.1) in
     let p = c.requires in
-    own_row p.timed_pass.0.over p.coefficients_ready _ below
-
-pub overflow_add-row : goal.overflow_add-row
-overflow_add-row c = omega (arith, c.row_at-row.ensures.1)
+    own_row p.timed_pass.0.over p.coefficients_ready _ (below (goal.at.row_at-row-requires c).Start)
 
 pub vector_at-v-requires : goal.vector_at-v-requires
 vector_at-v-requires c =
     (pass_axes c.requires.timed_pass.0.over, omega (arith, c.row_at-row.ensures.1))
 
-pub fluid_densities-part-requires : goal.fluid_densities-part-requires
-fluid_densities-part-requires c =
-    let below : c.args.i < fluid_size (scene_of c.args.scene.now) =
-    omega (arith, c.requires.timed_pass.0.over.size, c.requires.timed_pass.1) in
-    let fluid : let b = c.args.scene.now in ContactsAre b Fluid (particle (scene_of b) c.args.i)
-    c.contacts_of-fluid.result = contacts_are c.requires.timed_pass.0.over.indexed _ below
-    c.contacts_of-fluid.ensures in
-    let fluid_ready : ContactsReady Fluid c.args.dim c.args.scene.now c.contacts_of-fluid.result =
-    list_ready c.requires.timed_pass.0.over.axes fluid in
-    let p = c.requires in
-    (p.timed_pass.0.over, fluid_ready, p.coefficients_ready)
+pub densities-part-requires : goal.densities-part-requires
+densities-part-requires c =
+    let at = goal.at.densities-part-requires c in fluid_ready at.After-contacts_of-boundary (below at.Start)
 
-pub boundary_densities-sums-requires : goal.boundary_densities-sums-requires
-boundary_densities-sums-requires c =
-    let below : c.args.i < fluid_size (scene_of c.args.scene.now) =
-    omega (arith, c.requires.timed_pass.0.over.size, c.requires.timed_pass.1) in
-    let boundary : let b = c.args.scene.now in ContactsAre b Boundary (particle (scene_of b) c.args.i)
-    c.contacts_of-boundary.result = contacts_are c.requires.timed_pass.0.over.indexed _ below
-    c.contacts_of-boundary.ensures in
-    let boundary_ready : ContactsReady Boundary c.args.dim c.args.scene.now c.contacts_of-boundary.result =
-    list_ready c.requires.timed_pass.0.over.axes boundary in
-    let p = c.requires in
-    (p.timed_pass.0.over, boundary_ready, p.coefficients_ready)
+pub densities-sums-requires : goal.densities-sums-requires
+densities-sums-requires c =
+    let at = goal.at.densities-sums-requires c in boundary_ready at.After-contacts_of-boundary (below at.Start)
 
-pub fluid_dii-part-requires : goal.fluid_dii-part-requires
-fluid_dii-part-requires c =
-    let below : c.args.i < fluid_size (scene_of c.args.scene.now) =
-    omega (arith, c.requires.timed_pass.0.over.size, c.requires.timed_pass.1) in
-    let fluid : let b = c.args.scene.now in ContactsAre b Fluid (particle (scene_of b) c.args.i)
-    c.contacts_of-fluid.result = contacts_are c.requires.timed_pass.0.over.indexed _ below
-    c.contacts_of-fluid.ensures in
-    let fluid_ready : ContactsReady Fluid c.args.dim c.args.scene.now c.contacts_of-fluid.result =
-    list_ready c.requires.timed_pass.0.over.axes fluid in
-    let p = c.requires in
-    (p.timed_pass.0.over, fluid_ready, p.coefficients_ready)
+pub dii-part-requires : goal.dii-part-requires
+dii-part-requires c =
+    let at = goal.at.dii-part-requires c in fluid_ready at.After-contacts_of-boundary (below at.Start)
 
-pub boundary_dii-d-requires : goal.boundary_dii-d-requires
-boundary_dii-d-requires c =
-    let below : c.args.i < fluid_size (scene_of c.args.scene.now) =
-    omega (arith, c.requires.timed_pass.0.over.size, c.requires.timed_pass.1) in
-    let boundary : let b = c.args.scene.now in ContactsAre b Boundary (particle (scene_of b) c.args.i)
-    c.contacts_of-boundary.result = contacts_are c.requires.timed_pass.0.over.indexed _ below
-    c.contacts_of-boundary.ensures in
-    let boundary_ready : ContactsReady Boundary c.args.dim c.args.scene.now c.contacts_of-boundary.result =
-    list_ready c.requires.timed_pass.0.over.axes boundary in
-    let p = c.requires in
-    (p.timed_pass.0.over, boundary_ready, p.coefficients_ready)
+pub dii-d-requires : goal.dii-d-requires
+dii-d-requires c =
+    let at = goal.at.dii-d-requires c in boundary_ready at.After-contacts_of-boundary (below at.Start)
 
-pub overflow_add-e : goal.overflow_add-e
-overflow_add-e c = omega (arith, c.row_at-row.ensures.1)
+pub aii-part-requires : goal.aii-part-requires
+aii-part-requires c =
+    let at = goal.at.aii-part-requires c in fluid_ready at.After-contacts_of-boundary (below at.Start)
 
-pub offset_bounds-work-row : goal.offset_bounds-work-row
-offset_bounds-work-row c =
-    omega (arith, c.row_at-row.ensures.1, c.well_formed)
-
-pub bounds-work-row : goal.bounds-work-row
-bounds-work-row c = omega (arith, c.row_at-row.ensures.1)
-
-pub fluid_aii-part-requires : goal.fluid_aii-part-requires
-fluid_aii-part-requires c =
-    let below : c.args.i < fluid_size (scene_of c.args.scene.now) =
-    omega (arith, c.requires.timed_pass.0.over.size, c.requires.timed_pass.1) in
-    let fluid : let b = c.args.scene.now in ContactsAre b Fluid (particle (scene_of b) c.args.i)
-    c.contacts_of-fluid.result = contacts_are c.requires.timed_pass.0.over.indexed _ below
-    c.contacts_of-fluid.ensures in
-    let fluid_ready : ContactsReady Fluid c.args.dim c.args.scene.now c.contacts_of-fluid.result =
-    list_ready c.requires.timed_pass.0.over.axes fluid in
-    let p = c.requires in
-    (p.timed_pass.0.over, fluid_ready, p.coefficients_ready)
-
-pub boundary_aii-a-requires : goal.boundary_aii-a-requires
-boundary_aii-a-requires c =
-    let below : c.args.i < fluid_size (scene_of c.args.scene.now) =
-    omega (arith, c.requires.timed_pass.0.over.size, c.requires.timed_pass.1) in
-    let boundary : let b = c.args.scene.now in ContactsAre b Boundary (particle (scene_of b) c.args.i)
-    c.contacts_of-boundary.result = contacts_are c.requires.timed_pass.0.over.indexed _ below
-    c.contacts_of-boundary.ensures in
-    let boundary_ready : ContactsReady Boundary c.args.dim c.args.scene.now c.contacts_of-boundary.result =
-    list_ready c.requires.timed_pass.0.over.axes boundary in
-    let p = c.requires in
-    (p.timed_pass.0.over, boundary_ready, p.coefficients_ready)
+pub aii-a-requires : goal.aii-a-requires
+aii-a-requires c =
+    let at = goal.at.aii-a-requires c in boundary_ready at.After-contacts_of-boundary (below at.Start)
 
 pub returns : goal.returns
 returns c =
-    let below : c.args.i < fluid_size (scene_of c.args.scene.now) =
-    omega (arith, c.requires.timed_pass.0.over.size, c.requires.timed_pass.1) in
-    let boundary : let b = c.args.scene.now in ContactsAre b Boundary (particle (scene_of b) c.args.i)
-    c.contacts_of-boundary.result = contacts_are c.requires.timed_pass.0.over.indexed _ below
-    c.contacts_of-boundary.ensures in
-    let fluid : let b = c.args.scene.now in ContactsAre b Fluid (particle (scene_of b) c.args.i)
-    c.contacts_of-fluid.result = contacts_are c.requires.timed_pass.0.over.indexed _ below
-    c.contacts_of-fluid.ensures in
+    let at = goal.at.returns c in
+    let here = below at.Start in
     let p = c.requires in
     let over = p.timed_pass.0.over in
-    coefficients_made over.axes fluid boundary c.vector_at-v.result c.fluid_dii-part.result
+    coefficients_made over.axes (fluid at.After-contacts_of-boundary here) (boundary at.After-contacts_of-boundary here)
+    c.vector_at-v.result c.dii-part.result
     p.timed_pass.0.dt_is
-    (c.vector_at-v.ensures ∙ own_velocity over p.coefficients_ready _ below c.row_at-row.ensures.0)
-    c.fluid_densities-part.ensures.0
-    c.fluid_densities-part.ensures.1
-    c.boundary_densities-sums.ensures.0
-    c.boundary_densities-sums.ensures.1
-    c.fluid_dii-part.ensures
-    c.boundary_dii-d.ensures
-    (own_mass over p.coefficients_ready _ below c.row_at-row.ensures.0)
-    c.fluid_aii-part.ensures
-    c.boundary_aii-a.ensures
+    (c.vector_at-v.ensures ∙ own_velocity over p.coefficients_ready _ here c.row_at-row.ensures.0)
+    c.densities-part.ensures.0
+    c.densities-part.ensures.1
+    c.densities-sums.ensures.0
+    c.densities-sums.ensures.1
+    (rw (c.zero.ensures c.args.dim (pass_axes over).most) at c.dii-part.ensures)
+    c.dii-d.ensures
+    (own_mass over p.coefficients_ready _ here c.row_at-row.ensures.0)
+    c.aii-part.ensures
+    c.aii-a.ensures

@@ -1,47 +1,29 @@
 -- `iisph_coefficients::neighbours::mass` meets its contract: by the kind, the work list holds the mass or the volume of
 -- what the contact names. Assumes nothing.
-use native.Mathlib.Omega.{arith}
-use Rattle.scene_index.proofs.ContactLists.{target_ready}
+use Rattle.iisph_coefficients.proofs.Targets.{is_fluid, is_boundary}
 use Rattle.iisph_coefficients.proofs.Targets.{fluid_row, fluid_mass_lem, boundary_volume_lem, boundary_mass_lem}
 use Rattle.iisph_coefficients.proofs.neighbours.mass.Goals as goal
 
-pub target_of-j-requires : goal.target_of-j-requires
-target_of-j-requires c = let p = c.requires in record
-    { indexed = p.pass_over.indexed; target_ready = target_ready p.contact_ready.0 }
-
 pub row_at-requires : goal.row_at-requires
-row_at-requires c =
+row_at-requires g c =
     let p = c.requires in
-    fluid_row p.pass_over p.contact_ready.1 p.contact_ready.0 c.target_of-j.ensures c.in-Fluid.is
-
-pub overflow_add-result : goal.overflow_add-result
-overflow_add-result c = omega (arith, c.row_at.ensures.1)
-
-pub offset_bounds-work-row_at : goal.offset_bounds-work-row_at
-offset_bounds-work-row_at c = omega (arith, c.row_at.ensures.1)
-
-pub bounds-work-row_at : goal.bounds-work-row_at
-bounds-work-row_at c = omega (arith, c.row_at.ensures.1)
+    fluid_row p.pass_over p.contact_ready.1 p.contact_ready.0 (is_fluid g.row.FLUID c.if-this-ne0.true)
+    c.target_of-j.ensures
 
 pub volume_at-requires : goal.volume_at-requires
-volume_at-requires c =
+volume_at-requires g c =
     let p = c.requires in
-    boundary_volume_lem p.pass_over p.contact_ready.1 p.contact_ready.0 c.target_of-j.ensures c.in-Boundary.is
+    boundary_volume_lem p.pass_over p.contact_ready.1 p.contact_ready.0 (is_boundary g.row.FLUID c.if-this-ne0.false)
+    c.target_of-j-else-this-ne0.ensures
 
-pub offset_bounds-work-volume_at : goal.offset_bounds-work-volume_at
-offset_bounds-work-volume_at c = omega (arith, c.volume_at.ensures.1)
-
-pub bounds-work-volume_at : goal.bounds-work-volume_at
-bounds-work-volume_at c = omega (arith, c.volume_at.ensures.1)
-
-pub returns-in-Fluid : goal.returns-in-Fluid
-returns-in-Fluid c =
+pub returns-then-this-ne0 : goal.returns-then-this-ne0
+returns-then-this-ne0 g c =
     let p = c.requires in
-    fluid_mass_lem p.pass_over p.contact_ready.1 p.contact_ready.0 c.target_of-j.ensures _ c.in-Fluid.is
-    c.row_at.ensures.0
+    fluid_mass_lem p.pass_over p.contact_ready.1 p.contact_ready.0 (is_fluid g.row.FLUID c.if-this-ne0.true)
+    c.target_of-j.ensures c.row_at.ensures.0 _
 
-pub returns-in-Boundary : goal.returns-in-Boundary
-returns-in-Boundary c =
+pub returns-else-this-ne0 : goal.returns-else-this-ne0
+returns-else-this-ne0 g c =
     let p = c.requires in
-    boundary_mass_lem p.pass_over p.contact_ready.1 p.contact_ready.0 c.target_of-j.ensures _ c.in-Boundary.is
-    c.volume_at.ensures.0
+    boundary_mass_lem p.pass_over p.contact_ready.1 p.contact_ready.0 (is_boundary g.row.FLUID c.if-this-ne0.false)
+    c.target_of-j-else-this-ne0.ensures _ c.volume_at.ensures.0

@@ -1,8 +1,6 @@
 -- `iisph_forces::gather::gather_all` meets its contract. The invariant: the answer list is what the particles passed
--- make of it. The measure is the number of particles left. Assumes nothing.
-use Prim.Native.Nat.{◌-◌, ◌≤◌}
+-- make of it. Assumes nothing.
 use mathlib.Core.Path.{◌≡◌}
-use lib.ListN.{length}
 use Rattle.scene_format.specs.SceneOf.{scene_of}
 use Rattle.iisph_pressures.specs.IterationRows.{pressures_in}
 use Rattle.iisph_forces.specs.Forces.{gathered_all}
@@ -10,9 +8,4 @@ use Rattle.iisph_forces.proofs.gather.gather_all.Given as goal
 
 abbrev pub invariant-loop-i : goal.invariant-loop-i
 invariant-loop-i l =
-    (l.i ≤ l.n)
-    × (length l.answers ≡ length l.initial.answers)
-    × (l.answers ≡ gathered_all l.dim (scene_of l.scene) (pressures_in l.dim l.n l.work) l.i l.initial.answers)
-
-abbrev pub decreases-loop-i : goal.decreases-loop-i
-decreases-loop-i l = l.n - l.i
+    l.answers ≡ gathered_all l.dim (scene_of l.scene) (pressures_in l.dim l.n l.work) l.i l.initial.answers

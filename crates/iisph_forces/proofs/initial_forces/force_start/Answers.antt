@@ -1,12 +1,11 @@
 -- `iisph_forces::initial_forces::force_start` meets its contract, by whether forces are kept. Assumes nothing.
-use borrow.Author.Tests.{eq-eqb, ne_eqb}
 use Rattle.lists.specs.Lists.{choose}
 use Rattle.iisph_forces.proofs.initial_forces.force_start.Goals as goal
 
-pub returns-then-keeps-eq1 : goal.returns-then-keeps-eq1
+pub returns-then-keeps : goal.returns-then-keeps
 unfolding choose
-returns-then-keeps-eq1 c = rw (eq-eqb c.args.keeps 1 c.if-keeps-eq1.true)
+returns-then-keeps c = rw c.if-keeps.true
 
-pub returns-else-keeps-eq1 : goal.returns-else-keeps-eq1
+pub returns-else-keeps : goal.returns-else-keeps
 unfolding choose
-returns-else-keeps-eq1 c = rw (ne_eqb c.args.keeps 1 c.if-keeps-eq1.false)
+returns-else-keeps c = rw c.if-keeps.false

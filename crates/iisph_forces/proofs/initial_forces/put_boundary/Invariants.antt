@@ -1,12 +1,8 @@
--- `iisph_forces::initial_forces::put_boundary` meets its contract: particle by particle. The measure is the number of
--- particles left. Assumes nothing.
-use Prim.Native.Nat.{◌-◌}
+-- `iisph_forces::initial_forces::put_boundary` meets its contract: particle by particle. Assumes nothing.
+use Rattle.std.proofs.Common.{◌-◌}
 use Rattle.iisph_forces.proofs.InitialAnswers.{BoundaryPut}
 use Rattle.iisph_forces.proofs.initial_forces.put_boundary.Given as goal
 
-abbrev pub invariant-loop-p : goal.invariant-loop-p
-invariant-loop-p l =
-    BoundaryPut l.dim l.scene l.initial.answers l.first l.count l.p l.to l.answers
-
-abbrev pub decreases-loop-p : goal.decreases-loop-p
-decreases-loop-p l = l.count - l.p
+abbrev pub invariant-loop-j : goal.invariant-loop-j
+invariant-loop-j l =
+    BoundaryPut l.dim l.scene l.initial.answers l.first l.count (l.j - l.first) l.to l.answers

@@ -1,24 +1,26 @@
 -- `iisph_iterations::errors::with_average` meets its contract: by the criterion; under the Rust's, by whether an
 -- average was passed over before, and under Ihmsen's, by whether the average is the first. Assumes nothing.
-use Rattle.iisph_rules.specs.Iteration.{with_average}
+use Rattle.iisph_rules.specs.Iteration.{with_average, first_error}
 use Rattle.iisph_iterations.specs.Errors.{joined}
+use Rattle.iisph_iterations.proofs.Averages.{joined_salva}
 use Rattle.iisph_iterations.proofs.errors.with_average.Goals as goal
 
-pub returns-then-first : goal.returns-then-first
-unfolding joined
-returns-then-first c = rw (c.in-Ihmsen.is, c.if-first.true)
-
 pub returns-then-error : goal.returns-then-error
-unfolding joined with_average
+unfolding with_average
 returns-then-error c =
-    rw (c.in-Salva.is, c.larger.ensures, c.if-error.true)
+    let joined_is = joined_salva c.args.before c.args.average c.unwrap_or-error.ensures in
+    rw (c.in-Salva.is, ← joined_is, c.larger.ensures, c.if-error.true)
 
 pub returns-else-error : goal.returns-else-error
-unfolding joined with_average
+unfolding with_average
 returns-else-error c =
-    rw (c.in-Salva.is, c.larger.ensures, c.if-error.false, c.is_nan.ensures)
+    let joined_is = joined_salva c.args.before c.args.average c.unwrap_or-error.ensures in
+    rw (c.in-Salva.is, ← joined_is, c.larger.ensures, c.if-error.false, c.is_nan.ensures)
 
-pub returns-else-first : goal.returns-else-first
+pub returns-in-Some : goal.returns-in-Some
 unfolding joined with_average
-returns-else-first c =
-    rw (c.in-Ihmsen.is, c.if-first.false, c.larger_or_nan.ensures)
+returns-in-Some c = rw (c.in-Ihmsen.is, c.in-Some.is, c.larger_or_nan.ensures)
+
+pub returns-in-None : goal.returns-in-None
+unfolding joined first_error
+returns-in-None c = rw (c.in-Ihmsen.is, c.in-None.is)

@@ -7,58 +7,43 @@ use Rattle.iisph_iterations.proofs.Iterated.{quotients_there, dij_there, next_ro
 use Rattle.iisph_iterations.proofs.Iterated.{iterates_made}
 use Rattle.iisph_iterations.proofs.pressure_solve.iterate.Goals as goal
 
-pub traverse-requires : goal.traverse-requires
+pub traverse-requires-clause-room : goal.traverse-requires-clause-room
 unfolding Ready
-traverse-requires c =
-    record { driven_pass = c.requires.driven_pass; room = (c.requires.passed.1.room, tt) }
+traverse-requires-clause-room c = (c.requires.passed.1.room, tt)
 
-pub traverse-requires-2 : goal.traverse-requires-2
+pub traverse-requires-2-clause-room : goal.traverse-requires-2-clause-room
 unfolding Ready
-traverse-requires-2 c =
-    let p = c.requires in
-    let q = quotients_there c.args.scene.now p.driven_pass.timed.over.axes p.driven_pass.timed.over.size _ p.passed.1
-    c.traverse.ensures in
-    record { driven_pass = p.driven_pass; room = (q.room, q) }
+traverse-requires-2-clause-room c =
+    let over = c.requires.driven_pass.timed.over in
+    let there = quotients_there c.args.scene.now over.axes over.size _ c.requires.passed.1 c.traverse.ensures in
+    (there.room, there)
 
-pub traverse-requires-3 : goal.traverse-requires-3
+pub traverse-requires-3-clause-room : goal.traverse-requires-3-clause-room
 unfolding Ready
-traverse-requires-3 c =
-    let p = c.requires in
-    let q = dij_there c.args.scene.now p.driven_pass.timed.over.axes p.driven_pass.timed.over.size _ p.passed.1
-    c.traverse.ensures c.traverse-2.ensures in
-    record { driven_pass = p.driven_pass; room = (q.room, q) }
+traverse-requires-3-clause-room c =
+    let over = c.requires.driven_pass.timed.over in
+    let there = dij_there c.args.scene.now over.axes over.size _ c.requires.passed.1 c.traverse.ensures
+    c.traverse-2.ensures in
+    (there.room, there)
 
-pub traverse-requires-4 : goal.traverse-requires-4
+pub traverse-requires-4-clause-room : goal.traverse-requires-4-clause-room
 unfolding Ready
-traverse-requires-4 c =
-    let p = c.requires in record {
-      driven_pass = p.driven_pass;
-      room = (
-        next_room c.args.scene.now p.driven_pass.timed.over.axes p.driven_pass.timed.over.size _ p.passed.1
-            c.traverse.ensures c.traverse-2.ensures
-            c.traverse-3.ensures,
-        tt,
-      );
-    }
+traverse-requires-4-clause-room c =
+    let over = c.requires.driven_pass.timed.over in (
+      next_room c.args.scene.now over.axes over.size _ c.requires.passed.1 c.traverse.ensures c.traverse-2.ensures
+          c.traverse-3.ensures,
+      tt,
+    )
 
-pub max_error-requires : goal.max_error-requires
-max_error-requires c =
-    let p = c.requires in
-    let q = iterated_ready c.args.scene.now p.driven_pass.timed.over.axes p.driven_pass.timed.over.size _ p.passed.1
-    c.traverse.ensures c.traverse-2.ensures
-    c.traverse-3.ensures c.traverse-4.ensures in record {
-      passed = p.passed.0;
-      axes = (
-        axes-are c.args.scene.now p.driven_pass.timed.over.axes,
-        p.driven_pass.timed.over.size,
-        omega (arith, q.room),
-      );
-    }
+pub max_error-requires-clause-axes : goal.max_error-requires-clause-axes
+max_error-requires-clause-axes c =
+    let over = c.requires.driven_pass.timed.over in
+    let ready = iterated_ready c.args.scene.now over.axes over.size _ c.requires.passed.1 c.traverse.ensures
+    c.traverse-2.ensures c.traverse-3.ensures c.traverse-4.ensures in
+    (axes-are c.args.scene.now over.axes, over.size, omega (arith, ready.room))
 
 pub returns : goal.returns
 returns c =
-    let p = c.requires in
-    iterates_made c.args.scene.now p.driven_pass.timed.over.axes p.driven_pass.timed.over.size _ p.passed.1
-    c.traverse.ensures c.traverse-2.ensures
-    c.traverse-3.ensures c.traverse-4.ensures
-    c.max_error.ensures
+    let over = c.requires.driven_pass.timed.over in
+    iterates_made c.args.scene.now over.axes over.size _ c.requires.passed.1 c.traverse.ensures c.traverse-2.ensures
+    c.traverse-3.ensures c.traverse-4.ensures c.max_error.ensures

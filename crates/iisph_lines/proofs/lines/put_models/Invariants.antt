@@ -1,19 +1,15 @@
 -- `iisph_lines::lines::put_models` meets its contract. The loop's invariant: the lines of the first m models are
 -- written. Assumes nothing.
-use Prim.Native.Nat.{◌+◌, ◌-◌, ◌≤◌}
+use Prim.Native.Nat.{◌+◌}
 use mathlib.Core.Path.{◌≡◌}
 use Rattle.lists.specs.Stores.{Writes}
-use Rattle.scene_format.specs.Format.{axes_of, model_number, counts_of, keeps_of}
+use Rattle.scene_format.specs.Format.{axes_of, counts_of, keeps_of}
 use Rattle.scene_lengths.specs.Lengths.{answers_before}
 use Rattle.iisph_lines.specs.Lines.{models_upto}
 use Rattle.iisph_lines.proofs.lines.put_models.Given as goal
 
 abbrev pub invariant-loop-m : goal.invariant-loop-m
 invariant-loop-m l =
-    (l.m ≤ model_number l.kind l.scene)
-    × (l.from ≡ l.k + answers_before (axes_of l.scene) l.kind (keeps_of l.kind l.scene) (counts_of l.kind l.scene) l.m)
+    (l.from ≡ l.k + answers_before (axes_of l.scene) l.kind (keeps_of l.kind l.scene) (counts_of l.kind l.scene) l.m)
     × Writes l.initial.out l.at (models_upto l.m (axes_of l.scene) l.kind (keeps_of l.kind l.scene)
     (counts_of l.kind l.scene) l.k l.xs) l.out l.next
-
-abbrev pub decreases-loop-m : goal.decreases-loop-m
-decreases-loop-m l = l.number - l.m

@@ -1,8 +1,6 @@
 -- `iisph_motion::answers::update_velocities_and_positions` meets its contract. The loop's invariant: the list is as at
--- entry but for the answers of the first i particles. The measure is the number of particles left. Assumes nothing.
-use Prim.Native.Nat.{◌≤◌, ◌-◌}
+-- entry but for the answers of the first i particles. Assumes nothing.
 use mathlib.Core.Path.{◌≡◌}
-use lib.ListN.{length}
 use Rattle.scene_format.specs.SceneOf.{scene_of}
 use Rattle.iisph_rules.specs.Coefficients.{coefficients}
 use Rattle.iisph_rules.specs.Step.{fluid_answer}
@@ -13,12 +11,7 @@ use Rattle.iisph_motion.proofs.answers.update_velocities_and_positions.Given as 
 
 abbrev pub invariant-loop-i : goal.invariant-loop-i
 invariant-loop-i l =
-    (l.i ≤ l.n)
-    × (length l.answers ≡ length l.initial.answers)
-    × (l.answers
+    l.answers
     ≡ stored (fluid_answer_width l.dim) l.i 0
     (fluid_answer (scene_of l.scene) (coefficients (scene_of l.scene)) (pressures_in l.dim l.n l.work))
-    l.initial.answers)
-
-abbrev pub decreases-loop-i : goal.decreases-loop-i
-decreases-loop-i l = l.n - l.i
+    l.initial.answers

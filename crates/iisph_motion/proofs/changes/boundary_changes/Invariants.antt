@@ -1,6 +1,5 @@
 -- `iisph_motion::changes::boundary_changes` meets its contract. The invariant: the change is what the rule leaves of it
--- after the contacts passed; a turn takes off one more. The measure is the number of contacts left. Assumes nothing.
-use Prim.Native.Nat.{◌-◌, ◌≤◌}
+-- after the contacts passed; a turn takes off one more. Assumes nothing.
 use mathlib.Core.Path.{◌≡◌}
 use Rattle.math.specs.Vector.{coordinates}
 use Rattle.scene_format.specs.SceneOf.{scene_of}
@@ -11,10 +10,6 @@ use Rattle.iisph_motion.proofs.changes.boundary_changes.Given as goal
 
 abbrev pub invariant-loop-k : goal.invariant-loop-k
 invariant-loop-k l =
-    (l.k ≤ l.count)
-    × (coordinates l.dim l.change
+    coordinates l.dim l.change
     ≡ over_first Boundary l.dim l.scene l.at (less_by (boundary_change (scene_of l.scene) l.dt l.state))
-    (coordinates l.dim l.initial.change) l.k)
-
-abbrev pub decreases-loop-k : goal.decreases-loop-k
-decreases-loop-k l = l.count - l.k
+    (coordinates l.dim l.initial.change) l.k

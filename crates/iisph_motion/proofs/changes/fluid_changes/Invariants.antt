@@ -1,6 +1,5 @@
 -- `iisph_motion::changes::fluid_changes` meets its contract. The invariant: the change is what the rule leaves of it
--- after the contacts passed; a turn takes off one more. The measure is the number of contacts left. Assumes nothing.
-use Prim.Native.Nat.{◌-◌, ◌≤◌}
+-- after the contacts passed; a turn takes off one more. Assumes nothing.
 use mathlib.Core.Path.{◌≡◌}
 use Rattle.iisph_pressures.specs.IterationRows.{pressures_in}
 use Rattle.math.specs.Vector.{coordinates}
@@ -12,11 +11,7 @@ use Rattle.iisph_motion.proofs.changes.fluid_changes.Given as goal
 
 abbrev pub invariant-loop-k : goal.invariant-loop-k
 invariant-loop-k l =
-    (l.k ≤ l.count)
-    × (coordinates l.dim l.change
-    ≡ over_first Fluid l.dim l.scene l.at (less_by
-    (fluid_change (scene_of l.scene) (pressures_in l.dim l.n l.work) l.dt l.own))
-    (coordinates l.dim l.initial.change) l.k)
-
-abbrev pub decreases-loop-k : goal.decreases-loop-k
-decreases-loop-k l = l.count - l.k
+    coordinates l.dim l.change
+    ≡ over_first Fluid l.dim l.scene l.at
+    (less_by (fluid_change (scene_of l.scene) (pressures_in l.dim l.n l.work) l.dt l.own))
+    (coordinates l.dim l.initial.change) l.k

@@ -1,6 +1,5 @@
 -- `iisph_pressures::iteration::boundary_pressure_sum` meets its contract. The invariant: the sum is the rule's over the
--- contacts passed; a turn takes in one more. The measure is the number of contacts left. Assumes nothing.
-use Prim.Native.Nat.{◌-◌, ◌≤◌}
+-- contacts passed; a turn takes in one more. Assumes nothing.
 use mathlib.Core.Path.{◌≡◌}
 use Rattle.math.specs.Vector.{coordinates}
 use Rattle.scene_format.specs.SceneOf.{scene_of}
@@ -11,10 +10,6 @@ use Rattle.iisph_pressures.proofs.iteration.boundary_pressure_sum.Given as goal
 
 abbrev pub invariant-loop-k : goal.invariant-loop-k
 invariant-loop-k l =
-    (l.k ≤ l.count)
-    × (l.sum
+    l.sum
     ≡ over_first Boundary l.dim l.scene l.at (with_term
-    (boundary_term (scene_of l.scene) l.density0 (coordinates l.dim l.d))) l.initial.sum l.k)
-
-abbrev pub decreases-loop-k : goal.decreases-loop-k
-decreases-loop-k l = l.count - l.k
+    (boundary_term (scene_of l.scene) l.density0 (coordinates l.dim l.d))) l.initial.sum l.k

@@ -1,6 +1,5 @@
 -- `iisph_pressures::iteration::dij_sum` meets its contract. The invariant: the sum is the rule's over the contacts
--- passed; a turn takes in one more. The measure is the number of contacts left. Assumes nothing.
-use Prim.Native.Nat.{◌-◌, ◌≤◌}
+-- passed; a turn takes in one more. Assumes nothing.
 use mathlib.Core.Path.{◌≡◌}
 use Rattle.math.specs.Vector.{coordinates, origin}
 use Rattle.scene_format.specs.SceneOf.{scene_of}
@@ -11,10 +10,6 @@ use Rattle.iisph_pressures.proofs.iteration.dij_sum.Given as goal
 
 abbrev pub invariant-loop-k : goal.invariant-loop-k
 invariant-loop-k l =
-    (l.k ≤ l.count)
-    × (coordinates l.dim l.sum
+    coordinates l.dim l.sum
     ≡ over_first Fluid l.dim l.scene l.at (with_dij (scene_of l.scene) (pressures_in l.dim l.n l.work)) (origin l.dim)
-    l.k)
-
-abbrev pub decreases-loop-k : goal.decreases-loop-k
-decreases-loop-k l = l.count - l.k
+    l.k

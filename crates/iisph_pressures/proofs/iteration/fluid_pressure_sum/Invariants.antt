@@ -1,6 +1,5 @@
 -- `iisph_pressures::iteration::fluid_pressure_sum` meets its contract. The invariant: the sum is the rule's over the
--- contacts passed; a turn takes in one more. The measure is the number of contacts left. Assumes nothing.
-use Prim.Native.Nat.{◌+◌, ◌-◌, ◌≤◌}
+-- contacts passed; a turn takes in one more. Assumes nothing.
 use mathlib.Core.Path.{◌≡◌}
 use Rattle.math.specs.Real.{+0}
 use Rattle.scene_format.specs.SceneOf.{scene_of}
@@ -11,11 +10,7 @@ use Rattle.iisph_pressures.proofs.iteration.fluid_pressure_sum.Given as goal
 
 abbrev pub invariant-loop-k : goal.invariant-loop-k
 invariant-loop-k l =
-    (l.k ≤ l.count)
-    × (l.sum
+    l.sum
     ≡ over_first Fluid l.dim l.scene l.at
     (with_term (fluid_term l.dim (scene_of l.scene) (pressures_in l.dim l.n l.work) (dijs_in l.dim l.n l.work)
-    l.owner)) +0 l.k)
-
-abbrev pub decreases-loop-k : goal.decreases-loop-k
-decreases-loop-k l = l.count - l.k
+    l.owner)) +0 l.k

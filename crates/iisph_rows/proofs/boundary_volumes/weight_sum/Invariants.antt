@@ -1,5 +1,5 @@
 -- `iisph_rows::boundary_volumes::weight_sum` meets its contract: weight by weight. Assumes nothing.
-use Prim.Native.Nat.{◌+◌, ◌*◌, ◌-◌, ◌≤◌}
+use Prim.Native.Nat.{◌+◌, ◌*◌}
 use mathlib.Core.Path.{◌≡◌}
 use Rattle.math.specs.Real.{+0, total}
 use Rattle.lists.specs.Lists.{table}
@@ -7,7 +7,4 @@ use Rattle.scene_format.specs.Bytes.{double_at}
 use Rattle.iisph_rows.proofs.boundary_volumes.weight_sum.Given as goal
 
 abbrev pub invariant-loop-j : goal.invariant-loop-j
-invariant-loop-j l = (l.j ≤ l.n) × (l.sum ≡ total +0 (table l.j (λ i. double_at l.scene (l.at + 10 * i + 2))))
-
-abbrev pub decreases-loop-j : goal.decreases-loop-j
-decreases-loop-j l = l.n - l.j
+invariant-loop-j l = l.sum ≡ total +0 (table l.j (λ i. double_at l.scene (l.at + 10 * i + 2)))

@@ -6,7 +6,7 @@ use mathlib.Core.List.{List}
 use mathlib.Core.Logic.{⊎_elim}
 use native.Mathlib.Omega.{arith}
 use lib.Ieee.{Float}
-use lib.ListN.{set, length-set}
+use lib.ListN.{set}
 use lib.Seq.{sets, set-set, set_comm}
 use Rattle.math.specs.Vector.{Axes, coordinates}
 use Rattle.math.specs.declared.Vec3.{Vec3}
@@ -37,13 +37,5 @@ stored l k d w v axes e =
         (sym f)
         h
 
-pub bounds-work-last : goal.bounds-work-last
-bounds-work-last c =
-    let p = c.requires in
-    simp length-set (omega (arith, p.0.least, p.1, c.wide.ensures.0))
-
-pub bounds-work-k-2 : goal.bounds-work-k-2
-bounds-work-k-2 c = let p = c.requires in simp length-set (omega (arith, p.0.least, p.1))
-
 pub returns : goal.returns
-returns c = stored _ _ _ _ c.args.v c.requires.0 c.wide.ensures.0
+returns c = stored _ _ _ _ c.args.v c.requires.0 c.from.ensures

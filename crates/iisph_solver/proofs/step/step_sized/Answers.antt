@@ -10,12 +10,13 @@ returns-then-lists_short c =
     short_steps c.args.scene.now c.args.answers.now c.args.work.now c.requires.walk
     (sym c.lists_short.ensures ∙ c.if-lists_short.true)
 
-pub step_small-requires-clause-passed : goal.step_small-requires-clause-passed
-step_small-requires-clause-passed c =
+pub step_within-requires-clause-passed : goal.step_within-requires-clause-passed
+step_within-requires-clause-passed c =
     (c.requires, long_lists _ _ _ (sym c.lists_short.ensures ∙ c.if-lists_short.false))
 
-pub step_middle-requires-clause-passed : goal.step_middle-requires-clause-passed
-step_middle-requires-clause-passed c =
+pub step_within-requires-then-needed-le-MIDDLE_INDEX-clause-passed
+    : goal.step_within-requires-then-needed-le-MIDDLE_INDEX-clause-passed
+step_within-requires-then-needed-le-MIDDLE_INDEX-clause-passed c =
     (c.requires, long_lists _ _ _ (sym c.lists_short.ensures ∙ c.if-lists_short.false))
 
 pub step_largest-requires : goal.step_largest-requires

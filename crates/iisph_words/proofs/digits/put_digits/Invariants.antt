@@ -1,6 +1,5 @@
 -- `iisph_words::digits::put_digits` meets its contract. The loop's invariant: the digits that are left, stored over
 -- what is there, are all of them. Assumes nothing.
-use Prim.Native.Nat.{◌≤◌}
 use mathlib.Core.Path.{◌≡◌}
 use lib.ListN.{length}
 use lib.Seq.{sets}
@@ -9,9 +8,5 @@ use Rattle.iisph_words.proofs.digits.put_digits.Given as goal
 
 abbrev pub invariant-loop-i : goal.invariant-loop-i
 invariant-loop-i l =
-    (l.i ≤ l.k)
-    × (length l.out ≡ length l.initial.out)
+    (length l.out ≡ length l.initial.out)
     × (sets l.initial.out l.at (digits l.base l.k l.n) ≡ sets l.out l.at (digits l.base l.i l.rest))
-
-abbrev pub decreases-loop-i : goal.decreases-loop-i
-decreases-loop-i l = l.i

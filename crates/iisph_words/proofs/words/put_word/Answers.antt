@@ -1,29 +1,20 @@
--- `iisph_words::words::put_word` meets its contract. The loop's invariant: the first i bytes of the word are stored.
+-- `iisph_words::words::put_word` meets its contract: a part that becomes the word is the stores of its bytes.
 -- Assumes nothing.
-use Prim.Native.Nat.{◌-◌}
-use mathlib.Core.Path.{◌≡◌, refl, ◌∙◌}
-use native.Mathlib.Nat.{le_antisymm}
+use Prim.Native.Nat.{ℕ, ◌+◌, ◌≤◌}
+use mathlib.Core.Path.{◌≡◌, refl, sym}
+use mathlib.Core.List.{List, append_assoc}
 use native.Mathlib.Omega.{arith}
-use lib.ListN.{length, length-set}
-use lib.Seq.{take-length}
-use Rattle.lists.proofs.Writing.{stores, one_more_set}
+use lib.ListN.{length}
+use lib.Seq.{sets, drop-drop}
+use borrow.Rule.Slice.PartMut.{put_mid}
+use Rattle.std.proofs.lemmas.List.Edits.{sets-eq}
+use Rattle.lists.proofs.Writing.{stores}
 use Rattle.iisph_words.proofs.words.put_word.Goals as goal
 
-pub loop-i-init : goal.loop-i-init
-loop-i-init c = (omega arith, refl, refl)
-
-pub loop-i-preserved : goal.loop-i-preserved
-loop-i-preserved c =
-    let l = c.loop-i in
-    let a = c.args in (
-      omega arith,
-      simp length-set l.invariant.1,
-      one_more_set 0 a.word.now a.out.now a.at l.i c.loop-i-test.true l.invariant.2,
-    )
+part_stored : (out part xs : List ℕ) (at k : ℕ) → part ≡ xs → k ≡ length xs → at + length xs ≤ length out
+    → put_mid at k out part ≡ sets out at xs
+part_stored out part xs at k e n h = rw (e, n, drop-drop) (sym (rw append_assoc at (sets-eq xs out at h)))
 
 pub returns : goal.returns
 returns c =
-    let l = c.loop-i in
-    let a = c.args in
-    let e : l.i ≡ length a.word.now = le_antisymm l.invariant.0 c.loop-i-test.false in
-    stores (l.invariant.2 ∙ rw (e, take-length)) (rw e) (omega arith)
+    stores (part_stored _ _ _ _ _ c.copy_from_slice.ensures.after (omega arith) c.requires) refl (omega arith)

@@ -7,10 +7,7 @@ use Rattle.scene_check.specs.Walk.{name}
 use Rattle.scene_fields.proofs.Walks.{Remains}
 use Rattle.scene_check.proofs.contact_list.names.Given as goal
 
-abbrev pub invariant-loop-i : goal.invariant-loop-i
-invariant-loop-i l =
-    Remains (name l.s l.counts l.w) l.n l.from l.i l.at × (l.at + l.w * (l.n - l.i) ≤ length l.s)
-    × (l.at ≡ l.from + l.w * l.i) × (l.looks ≡ l.i)
-
-abbrev pub decreases-loop-i : goal.decreases-loop-i
-decreases-loop-i l = l.n - l.i
+abbrev pub invariant-loop : goal.invariant-loop
+invariant-loop l =
+    Remains (name l.s l.counts l.w) l.n l.from l.counter l.at × (l.at + l.w * (l.n - l.counter) ≤ length l.s)
+    × (l.at ≡ l.from + l.w * l.counter) × (l.looks ≡ l.counter)

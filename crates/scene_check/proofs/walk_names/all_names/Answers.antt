@@ -4,11 +4,12 @@ use Prim.Native.Nat.{ℕ, ◌≤◌}
 use mathlib.Core.Path.{◌≡◌, sym, ap, ◌∙◌}
 use native.Mathlib.Omega.{arith}
 use lib.ListN.{length, replicate, length-replicate}
+use Rattle.std.proofs.lemmas.Result.{err_from_is_err_and}
 use Rattle.scene_fields.specs.Fields.{◌▹◌}
 use Rattle.scene_format.specs.Format.{most_models, nameable_models, axes_of, header_width, first_head}
 use mathlib.Core.List.{List}
 use Rattle.scene_format.specs.Within.{ModelsWithin}
-use Rattle.scene_format.specs.declared.Walk.TheVariants.{At}
+use Rattle.std.specs.declared.result.Result.TheVariants.{Ok}
 use Rattle.scene_walk.specs.Walk.{fields}
 use Rattle.scene_format.specs.declared.Kind.{Kind}
 use Rattle.scene_format.specs.declared.Kind.TheVariants.{Fluid, Boundary}
@@ -20,7 +21,7 @@ use Rattle.scene_walk.proofs.Within.{fields_within}
 use Rattle.scene_check.proofs.walk_names.all_names.Goals as goal
 
 -- every model ends within the bytes
-within : (b : List ℕ) → fields b ≡ At (length b) → (κ : Kind) → ModelsWithin κ b
+within : (b : List ℕ) → fields b ≡ Ok (length b) → (κ : Kind) → ModelsWithin κ b
 within b h = fields_within b h
 
 room : most_models ≤ length (replicate {A = ℕ} nameable_models 0)
@@ -36,9 +37,9 @@ fill_counts-requires-2 c =
     let p = c.requires in
     record { models_within = (fields_within _ p.0 Boundary, boundaries_are _ p.1); most_models_in_bounds = room }
 
-pub models_names-w-requires : goal.models_names-w-requires
+pub models_names-requires : goal.models_names-requires
 unfolding first_head
-models_names-w-requires c =
+models_names-requires c =
     let known : CountsAre c.args.s.now c.fill_counts.new.counts c.fill_counts-2.new.counts =
     counts-are _ (within c.args.s.now c.requires.0) c.fill_counts.ensures c.fill_counts-2.ensures in
     let start_is : c.header_width-first.result ≡ header_width (axes_of c.args.s.now) =
@@ -49,21 +50,21 @@ models_names-w-requires c =
       n_value = (fluid-number _ c.requires.1, start_is);
     }
 
-pub returns-in_default : goal.returns-in_default
+pub returns-in_err-at : goal.returns-in_err-at
 unfolding all_names ◌▹◌
-returns-in_default c =
+returns-in_err-at c =
     let start_is : c.header_width-first.result ≡ header_width (axes_of c.args.s.now) =
     c.header_width-first.ensures ∙ ap header_width c.axes.ensures.0 in
-    let q = c.in_default.is in
-    rw (← start_is, sym c.models_names-w.ensures ∙ q) q
+    let p = err_from_is_err_and c.from_residual.result c.from_residual.ensures.1 in
+    rw (p.1, p.2, ← start_is, sym c.models_names.ensures ∙ c.in_err-at.was)
 
-pub models_names-requires : goal.models_names-requires
+pub models_names-requires-2 : goal.models_names-requires-2
 unfolding first_head
-models_names-requires c =
+models_names-requires-2 c =
     let start_is : c.header_width-first.result ≡ header_width (axes_of c.args.s.now) =
     c.header_width-first.ensures ∙ ap header_width c.axes.ensures.0 in
-    let fluids_end : c.in-At.at ≡ first_head Boundary c.args.s.now =
-    rw (← start_is) (models_names-steps c.args.s.now Fluid _ _ (sym c.models_names-w.ensures ∙ c.in-At.is)).0 in
+    let fluids_end : c.in_ok-at.at ≡ first_head Boundary c.args.s.now =
+    rw (← start_is) (models_names-steps c.args.s.now Fluid _ _ (sym c.models_names.ensures ∙ c.in_ok-at.was)).0 in
     let known : CountsAre c.args.s.now c.fill_counts.new.counts c.fill_counts-2.new.counts =
     counts-are _ (within c.args.s.now c.requires.0) c.fill_counts.ensures c.fill_counts-2.ensures in
     record {
@@ -77,4 +78,4 @@ unfolding all_names ◌▹◌
 returns c =
     let start_is : c.header_width-first.result ≡ header_width (axes_of c.args.s.now) =
     c.header_width-first.ensures ∙ ap header_width c.axes.ensures.0 in
-    rw (← start_is, sym c.models_names-w.ensures ∙ c.in-At.is) c.models_names.ensures
+    rw (← start_is, sym c.models_names.ensures ∙ c.in_ok-at.was) c.models_names-2.ensures

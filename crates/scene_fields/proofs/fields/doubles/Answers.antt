@@ -1,21 +1,10 @@
--- `scene_fields::fields::doubles` meets its contract: what remains from here is the whole, turn by turn. Assumes
--- nothing.
-use Prim.Native.Nat.{◌-◌}
-use Rattle.scene_fields.proofs.Walks.{none_done, one_more_done, turn_refused, all_done}
+-- `scene_fields::fields::doubles` meets its contract: the closure is the step, at each number. Assumes nothing.
+use Rattle.std.proofs.Common.{rules}
+use Rattle.scene_fields.specs.Fields.{double}
+use Rattle.scene_fields.proofs.Folded.{times_folded}
 use Rattle.scene_fields.proofs.fields.doubles.Goals as goal
 
-pub loop-i-init : goal.loop-i-init
-loop-i-init c = none_done
-
-pub returns-in_default : goal.returns-in_default
-returns-in_default c =
-    turn_refused c.loop-i.invariant c.loop-i-test.true c.double-w.ensures
-    c.in_default.is
-
-pub loop-i-preserved : goal.loop-i-preserved
-loop-i-preserved c =
-    one_more_done c.loop-i.invariant c.loop-i-test.true c.double-w.ensures
-    c.in-At.is
-
 pub returns : goal.returns
-returns c = all_done c.loop-i.invariant c.loop-i-test.false
+returns c =
+    let a = c.args in
+    times_folded _ (double a.s.now) _ (λ at k w d h. search rules) c.try_fold.ensures.ran

@@ -4,26 +4,26 @@ use Rattle.lists.specs.Lists.{choose}
 use Rattle.scene_fields.specs.Fields.{refused_if, half_byte}
 use Rattle.scene_fields.proofs.fields.half_byte.Goals as goal
 
-pub returns-then-not-version_known : goal.returns-then-not-version_known
+pub returns-in-Version : goal.returns-in-Version
 unfolding half_byte refused_if choose
-returns-then-not-version_known c = rw (c.in-Version.is, ← c.version_known.ensures, c.if-not-version_known.true)
+returns-in-Version c onward = rw (c.in-Version.is, ← c.version_known.ensures, c.if-not-version_known.true)
 
-pub returns-then-most-x : goal.returns-then-most-x
+pub returns-in-Rule : goal.returns-in-Rule
 unfolding half_byte refused_if choose
-returns-then-most-x c = rw (c.in-Rule.is, lt-ltb _ _ c.if-most-x.true)
+returns-in-Rule c onward = rw (c.in-Rule.is, lt-ltb _ _ c.if-most-x.true)
 
-pub returns-then-x-gt-MAX_MODELS : goal.returns-then-x-gt-MAX_MODELS
+pub returns-in-ModelCount : goal.returns-in-ModelCount
 unfolding half_byte refused_if choose
-returns-then-x-gt-MAX_MODELS c = rw (c.in-ModelCount.is, lt-ltb _ _ c.if-x-gt-MAX_MODELS.true)
+returns-in-ModelCount c onward = rw (c.in-ModelCount.is, lt-ltb _ _ c.if-x-gt-MAX_MODELS.true)
 
-pub returns-else-not-version_known : goal.returns-else-not-version_known
+pub returns-in_default : goal.returns-in_default
 unfolding half_byte refused_if choose
-returns-else-not-version_known c = rw (c.in-Version.is, ← c.version_known.ensures, c.if-not-version_known.false)
+returns-in_default c onward = rw (c.in-Version.is, ← c.version_known.ensures, c.if-not-version_known.false)
 
-pub returns-else-most-x : goal.returns-else-most-x
+pub returns-in_default-2 : goal.returns-in_default-2
 unfolding half_byte refused_if choose
-returns-else-most-x c = rw (c.in-Rule.is, le-ltb _ _ c.if-most-x.false)
+returns-in_default-2 c onward = rw (c.in-Rule.is, le-ltb _ _ c.if-most-x.false)
 
-pub returns-else-x-gt-MAX_MODELS : goal.returns-else-x-gt-MAX_MODELS
+pub returns-in_default-3 : goal.returns-in_default-3
 unfolding half_byte refused_if choose
-returns-else-x-gt-MAX_MODELS c = rw (c.in-ModelCount.is, le-ltb _ _ c.if-x-gt-MAX_MODELS.false)
+returns-in_default-3 c onward = rw (c.in-ModelCount.is, le-ltb _ _ c.if-x-gt-MAX_MODELS.false)

@@ -4,26 +4,22 @@ use mathlib.Core.Path.{sym}
 use native.Mathlib.Omega.{arith}
 use lib.ListN.{length}
 use Rattle.scene_fields.specs.Fields.{plain}
-use Rattle.scene_fields.proofs.Walks.{field_there, field_missing}
+use Rattle.scene_fields.proofs.Walks.{plain_there, field_missing}
 use Rattle.scene_fields.proofs.fields.plain.Goals as goal
+use Rattle.scene_fields.proofs.fields.plain.Goals.{else-k-s-via-then-k-s+else-at-s, else-k-s-via-else-k-s}
 
 pub returns-then-at-s : goal.returns-then-at-s
-unfolding plain
 returns-then-at-s c =
     let a = c.args in
     let h : a.at + a.k ≤ length a.s.now = omega arith in
-    sym (field_there _ _ _ _ h)
+    sym (plain_there _ _ _ h)
 
-pub returns-else-at-s : goal.returns-else-at-s
+pub returns : goal.returns
 unfolding plain
-returns-else-at-s c =
+returns c =
     let a = c.args in
-    let h : length a.s.now < a.at + a.k = omega arith in
-    sym (field_missing _ _ _ _ h)
-
-pub returns-else-k-s : goal.returns-else-k-s
-unfolding plain
-returns-else-k-s c =
-    let a = c.args in
-    let h : length a.s.now < a.at + a.k = omega arith in
+    let h : length a.s.now < a.at + a.k = elim c.else-k-s.branch [
+      | else-k-s-via-then-k-s+else-at-s w ↦ omega arith
+      | else-k-s-via-else-k-s w ↦ omega arith
+    ] in
     sym (field_missing _ _ _ _ h)

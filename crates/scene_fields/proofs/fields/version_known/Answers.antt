@@ -1,19 +1,13 @@
--- `scene_fields::fields::version_known` meets its contract: version by version. Assumes nothing.
-use borrow.Author.Tests.{eq-eqb, ne_eqb}
+-- `scene_fields::fields::version_known` meets its contract: by the same tests. Assumes nothing.
+use Rattle.std.proofs.Common.{arith}
+use Rattle.std.proofs.lemmas.Grind.{common_steps}
 use Rattle.scene_format.specs.Format.{version_known}
 use Rattle.scene_fields.proofs.fields.version_known.Goals as goal
 
-pub returns-then-version-eq-FIRST_VERSION : goal.returns-then-version-eq-FIRST_VERSION
-unfolding version_known
-returns-then-version-eq-FIRST_VERSION c = rw (eq-eqb _ _ c.if-version-eq-FIRST_VERSION.true)
-
 pub returns-then-version-eq-RULED_VERSION : goal.returns-then-version-eq-RULED_VERSION
 unfolding version_known
-returns-then-version-eq-RULED_VERSION c = rw (
-  ne_eqb _ _ c.if-version-eq-FIRST_VERSION.false,
-  eq-eqb _ _ c.if-version-eq-RULED_VERSION.true,
-)
+returns-then-version-eq-RULED_VERSION c = grind (arith, common_steps)
 
-pub returns : goal.returns
+pub returns-else-version-eq-RULED_VERSION : goal.returns-else-version-eq-RULED_VERSION
 unfolding version_known
-returns c = rw (ne_eqb _ _ c.if-version-eq-FIRST_VERSION.false, ne_eqb _ _ c.if-version-eq-RULED_VERSION.false)
+returns-else-version-eq-RULED_VERSION c = grind (arith, common_steps)

@@ -1,14 +1,17 @@
 -- `scene_fields::reader::behind_double` meets its contract: by whether the walk passes the double or refuses it.
 -- Assumes nothing.
-use mathlib.Core.Path.{sym, ◌∙◌}
+use mathlib.Core.Path.{◌≡◌, refl, ◌∙◌}
+use Prim.Native.Nat.{ℕ}
+use Rattle.std.specs.Result.{result_unwrap_or}
+use Rattle.std.specs.declared.result.Result.TheVariants.{Ok, Err}
+use Rattle.scene_format.specs.Refusals.{Walk}
 use Rattle.scene_fields.specs.Reading.{reached}
 use Rattle.scene_fields.proofs.reader.behind_double.Goals as goal
 
-pub returns-in-At : goal.returns-in-At
+reached_or : (w : Walk) (at : ℕ) → result_unwrap_or w at ≡ reached at w
 unfolding reached
-returns-in-At c =
-    rw (sym c.double.ensures ∙ c.in-At.is)
+reached_or (Ok next) at = refl
+reached_or (Err r) at = refl
 
-pub returns-in-Refused : goal.returns-in-Refused
-unfolding reached
-returns-in-Refused c = rw (sym c.double.ensures ∙ c.in-Refused.is)
+pub returns : goal.returns
+returns c = c.unwrap_or.ensures ∙ rw c.double.ensures (reached_or _ _)

@@ -3,17 +3,16 @@
 use mathlib.Core.Path.{sym, ◌∙◌}
 use Rattle.scene_fields.specs.Reading.{read_as}
 use Rattle.scene_fields.proofs.Reached.{double-steps}
+use Rattle.scene_fields.proofs.Walks.{handed_on}
 use Rattle.scene_fields.proofs.reader.double_at.Goals as goal
 
-pub double-requires-in-At : goal.double-requires-in-At
-double-requires-in-At c = (double-steps _ _ _ (sym c.double.ensures ∙ c.in-At.is)).1
-
-pub returns-in-At : goal.returns-in-At
+pub returns-in_err-double : goal.returns-in_err-double
 unfolding read_as
-returns-in-At c =
-    rw (sym c.double.ensures ∙ c.in-At.is, ← c.double-in-At.ensures)
+returns-in_err-double c = handed_on c.from_residual.ensures.1 ∙ rw (sym c.double.ensures ∙ c.in_err-double.was)
 
-pub returns-in-Refused : goal.returns-in-Refused
+pub double-requires-2 : goal.double-requires-2
+double-requires-2 c = (double-steps _ _ _ (sym c.double.ensures ∙ c.in_ok-double.was)).1
+
+pub returns : goal.returns
 unfolding read_as
-returns-in-Refused c =
-    rw (sym c.double.ensures ∙ c.in-Refused.is)
+returns c = rw (sym c.double.ensures ∙ c.in_ok-double.was, ← c.double-2.ensures)

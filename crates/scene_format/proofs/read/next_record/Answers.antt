@@ -19,7 +19,7 @@ pub byte-contacts-requires : goal.byte-contacts-requires
 unfolding own_width
 byte-contacts-requires c =
     let axes = c.axes-dim.ensures.0 in
-    let inside = rw (axes, c.keeps.ensures.0) at c.boundary_count-count.ensures.0 in
+    let inside = rw (axes, ← c.keeps.ensures) at c.boundary_count-count.ensures.0 in
     omega (arith, inside, rw c.in-Boundary.is at c.requires.own)
 
 pub overflow_mul-result : goal.overflow_mul-result
@@ -57,6 +57,6 @@ returns-in-Boundary c =
       c.in-Boundary.is,
       c.byte-contacts.ensures.0,
       c.boundary_count-count.ensures.0,
-      c.keeps.ensures.0,
+      ← c.keeps.ensures,
       c.axes-dim.ensures.0,
     )

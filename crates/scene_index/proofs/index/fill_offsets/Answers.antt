@@ -1,7 +1,5 @@
 -- `scene_index::index::fill_offsets` meets its contract: record by record. Assumes nothing.
-use Prim.Native.Nat.{◌-◌}
 use mathlib.Core.Path.{sym, ◌∙◌}
-use native.Mathlib.Omega.{arith}
 use Rattle.lists.specs.Lists.{iter}
 use Rattle.scene_index.specs.Index.{entry_of}
 use Rattle.lists.proofs.Fills.{none_stored, one_more_stored, all_stored}
@@ -12,11 +10,6 @@ use Rattle.scene_index.proofs.index.fill_offsets.Goals as goal
 pub loop-i-init : goal.loop-i-init
 unfolding iter
 loop-i-init c = (c.first_record-at.ensures, none_stored _ _ _ _)
-
-pub next_record-at-requires : goal.next_record-at-requires
-next_record-at-requires c =
-    let l = c.loop-i in
-    rw l.invariant.0 (c.requires.model_within.records l.i (omega arith))
 
 pub loop-i-preserved : goal.loop-i-preserved
 loop-i-preserved c =

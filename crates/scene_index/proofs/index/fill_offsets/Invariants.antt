@@ -1,5 +1,4 @@
 -- `scene_index::index::fill_offsets` meets its contract: record by record. Assumes nothing.
-use Prim.Native.Nat.{◌-◌}
 use mathlib.Core.Path.{◌≡◌}
 use Rattle.scene_format.specs.Format.{record_at}
 use Rattle.lists.proofs.Fills.{Filling}
@@ -9,6 +8,3 @@ abbrev pub invariant-loop-i : goal.invariant-loop-i
 invariant-loop-i l =
     (l.at ≡ (record_at l.kind l.scene l.head l.i).at) × Filling l.initial.index l.k
     (λ j. (record_at l.kind l.scene l.head j).at) l.n l.i l.index
-
-abbrev pub decreases-loop-i : goal.decreases-loop-i
-decreases-loop-i l = l.n - l.i

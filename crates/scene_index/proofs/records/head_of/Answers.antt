@@ -4,9 +4,6 @@ use native.Mathlib.Omega.{arith}
 use Rattle.scene_index.proofs.Targets.{head_found}
 use Rattle.scene_index.proofs.records.head_of.Goals as goal
 
-pub bounds-index-2 : goal.bounds-index-2
-bounds-index-2 c = omega (arith, c.requires.0.room)
-
 pub overflow_add-result : goal.overflow_add-result
 overflow_add-result c = omega (arith, (head_found c.requires.0 _ c.requires.1).0)
 

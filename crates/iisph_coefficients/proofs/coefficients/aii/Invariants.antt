@@ -1,0 +1,12 @@
+-- `iisph_coefficients::coefficients::aii` meets its contract. The invariant: the sum is the rule's over the contacts
+-- passed; a turn takes in one more. Assumes nothing.
+use mathlib.Core.Path.{◌≡◌}
+use Rattle.math.specs.Vector.{coordinates}
+use Rattle.iisph_coefficients.specs.Neighbours.{returned, summed}
+use Rattle.iisph_coefficients.proofs.Targets.{kind_by}
+use Rattle.iisph_coefficients.proofs.coefficients.aii.Given as goal
+
+abbrev pub invariant-loop-k : goal.invariant-loop-k
+invariant-loop-k g l =
+    l.sum
+    ≡ summed (kind_by g.row.FLUID) l.dim l.scene l.list (returned (coordinates l.dim l.d) l.factor) l.initial.sum l.k

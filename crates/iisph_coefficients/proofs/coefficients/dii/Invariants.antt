@@ -1,0 +1,12 @@
+-- `iisph_coefficients::coefficients::dii` meets its contract. The invariant: the sum is the rule's over the contacts
+-- passed; a turn takes in one more. Assumes nothing.
+use mathlib.Core.Path.{◌≡◌}
+use Rattle.math.specs.Vector.{coordinates}
+use Rattle.iisph_coefficients.specs.Neighbours.{pushed, summed}
+use Rattle.iisph_coefficients.proofs.Targets.{kind_by}
+use Rattle.iisph_coefficients.proofs.coefficients.dii.Given as goal
+
+abbrev pub invariant-loop-k : goal.invariant-loop-k
+invariant-loop-k g l =
+    coordinates l.dim l.sum
+    ≡ summed (kind_by g.row.FLUID) l.dim l.scene l.list (pushed l.factor) (coordinates l.dim l.initial.sum) l.k
