@@ -1,5 +1,5 @@
 -- How turns through contact lists end: those of a particle, of a model, of a kind, of a scene. Definitions only.
-use Rattle.std.specs.Prelude.{ℕ, zero, suc, List}
+use Rattle.std.specs.Prelude.{ℕ, zero, suc, List, ◌≡◌, ◌<◌, Result}
 use Rattle.scene_format.specs.Format.{most_models, most_particles}
 use Rattle.scene_format.specs.declared.Kind.{Kind}
 use Rattle.scene_format.specs.declared.Kind.TheVariants.{Fluid, Boundary}
@@ -45,6 +45,10 @@ onward Refused u = Refused
 unfoldable pub in_turn : ℕ → (ℕ → Turn) → ℕ → Turn
 in_turn zero f k = Passed
 in_turn (suc n) f k = onward (f k) (in_turn n f (suc k))
+
+-- where the k-th of n answers is a turn, it is f k
+abbrev pub EndAs : {E : Type 0} → ℕ → (ℕ → Result Turn E → Type 0) → (ℕ → Turn) → Type 0
+EndAs n answers f = (k : ℕ) (turn : Turn) → k < n → answers k (Ok turn) → turn ≡ f k
 
 unfoldable pub model_turn : Kind → List ℕ → ℕ → Turn
 model_turn κ b m = in_turn most_particles (particle_turn κ b m) 0

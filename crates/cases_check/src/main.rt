@@ -3,13 +3,14 @@
 // lines come from checks/cases_check.py.
 #![tactic(auto)]
 
-ghost use Rattle.std.specs.Prelude.{◌+◌, ◌*◌, ◌≤◌, ◌≡◌, IfOk, None};
+ghost use Rattle.std.specs.Prelude.{ℕ, ◌+◌, ◌*◌, ◌≤◌, ◌≡◌, IfOk, None};
 ghost use Rattle.full_reads.specs.Given.{GivesAtMost};
 ghost use Rattle.cases_list.specs.Next.{FromNext};
 ghost use Rattle.scene_check.specs.Check.{verdict_of};
 ghost use Rattle.scene_check.specs.Walk.{checked};
 ghost use Rattle.cases_check.specs.Printed.{printed, room, line_of};
-ghost use Rattle.cases_check.specs.Turns.{list_turn, particle_turn, model_turn, kind_turn, scene_turn};
+ghost use Rattle.cases_check.specs.Turns.{list_turn, particle_turn, model_turn, kind_turn, scene_turn, in_turn, EndAs};
+ghost use Rattle.cases_check.specs.declared.Turn.{Turn};
 
 use cases_list::read_next;
 use scene_format::format::{MAX_MODELS, MAX_PARTICLES};
@@ -92,12 +93,13 @@ fn print_particle(
     }
 }
 
-// Those of a model's particles, up to the first number that none has.
-fn print_model(rt: &impl Print, scene: &[u8], kind: Kind, model: usize) -> io::Result<Turn>
-    ensures { IfOk result (λ turn. turn ≡ model_turn kind scene.now model) }
+// Those of n things one after the other, up to the first that is refused or not there.
+fn print_in_turn<F: Fn(usize) -> io::Result<Turn>>(n: usize, print: F) -> io::Result<Turn>
+    requires { F.IsAlwaysCallable print }
+    ensures { (f : ℕ → Turn) → EndAs n (F.post print) f → IfOk result (λ turn. turn ≡ in_turn n f 0) }
 {
-    for j in 0..MAX_PARTICLES {
-        match print_particle(rt, scene, kind, model, j)? {
+    for k in 0..n {
+        match print(k)? {
             Turn::Passed => {}
             Turn::Absent => return Ok(Turn::Passed),
             Turn::Refused => return Ok(Turn::Refused),
@@ -106,18 +108,18 @@ fn print_model(rt: &impl Print, scene: &[u8], kind: Kind, model: usize) -> io::R
     Ok(Turn::Passed)
 }
 
+// Those of a model's particles, up to the first number that none has.
+fn print_model(rt: &impl Print, scene: &[u8], kind: Kind, model: usize) -> io::Result<Turn>
+    ensures { IfOk result (λ turn. turn ≡ model_turn kind scene.now model) }
+{
+    print_in_turn(MAX_PARTICLES, |j| print_particle(rt, scene, kind, model, j))
+}
+
 // Those of all models of a kind. One that is not there has no particles.
 fn print_kind(rt: &impl Print, scene: &[u8], kind: Kind) -> io::Result<Turn>
     ensures { IfOk result (λ turn. turn ≡ kind_turn kind scene.now) }
 {
-    for m in 0..MAX_MODELS {
-        match print_model(rt, scene, kind, m)? {
-            Turn::Passed => {}
-            Turn::Absent => return Ok(Turn::Passed),
-            Turn::Refused => return Ok(Turn::Refused),
-        }
-    }
-    Ok(Turn::Passed)
+    print_in_turn(MAX_MODELS, |m| print_model(rt, scene, kind, m))
 }
 
 // Those of a scene.

@@ -28,7 +28,8 @@ fn step_lending(scene: &[u8], clock: Clock, answers: &mut [f64], work: &mut [f64
     kept
 }
 
-// Writes a space and a double's bits, and hands them back.
+// Writes a space and a double's bits, and hands them back. `cases_kernel` has the same: a crate for both would be
+// longer.
 fn print_bits(rt: &impl Print, x: f64) -> io::Result<u64>
     ensures { IfOk result (λ b. b ≡ bits_of x) }
 {

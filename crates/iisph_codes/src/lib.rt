@@ -134,7 +134,8 @@ pub fn write_weight(dimension: Dimension, r: f64, h: f64, out: &mut [f64]) -> u6
     write_kernel(cubic_spline::scalar_apply(dimension, r, h), out)
 }
 
-// The kernel's derivative there.
+// The kernel's derivative there. It stays beside `write_weight`: one function of both would take the kernel's as a
+// parameter, and ask of it what each promises here.
 pub fn write_slope(dimension: Dimension, r: f64, h: f64, out: &mut [f64]) -> u64
     ensures { KernelTo r h (slope dimension r h) out.old result out.new }
 {

@@ -2,7 +2,8 @@
 -- of contacts; and a particle's coefficients as the code has them and as the work list holds them. Scaffolding: no
 -- promise rests on it. Definitions only.
 use Rattle.std.specs.Prelude.{ℕ, ◌≡◌, Bool, cond, List, [], ◌∷◌, ◌++◌, Float}
-use Rattle.iisph_rows.specs.Passes.{PassOver, CoefficientsReady, first_pressure}
+use Rattle.iisph_rows.specs.Passes.{PassOn, CoefficientsReady, first_pressure}
+use Rattle.iisph_rows.specs.declared.over.Over.{Over}
 use Rattle.iisph_rules.specs.Coefficients.{advected_velocity, fluid_mass, boundary_mass, Neighbour, Coefficients}
 use Rattle.iisph_rules.specs.Coefficients.{coefficients_of}
 use Rattle.math.specs.Real.{◌⊕◌, ◌⊗◌}
@@ -57,9 +58,10 @@ summed κ d b list f a n =
     over_first κ d b list.at (λ sum c. f (neighbour_of κ (scene_of b) list.density0 c) sum c) a n
 
 -- what it finds
-abbrev pub SumReady : Kind → List ℕ → List ℕ → List Float → ℕ → ℕ → ContactList → Type 0
-SumReady κ b index work d n list =
-    PassOver b index d n × ContactsReady κ d b list × CoefficientsReady (scene_of b) d n work
+abbrev pub SumReady : Kind → Over → List Float → ContactList → Type 0
+SumReady κ over work list =
+    let b = over.scene.now in
+    PassOn over × ContactsReady κ over.dim b list × CoefficientsReady (scene_of b) over.dim over.n work
 
 -- ---- a particle's coefficients
 

@@ -12,6 +12,10 @@ use lib.Dec.{eqb}
 use lib.Ieee.{Float}
 use lib.ListN.{get_or}
 use lib.Seq.{sets}
+use Rattle.std.proofs.lemmas.Option.{none-some, same_Some}
+use Rattle.std.specs.Bool.{then_some}
+use Rattle.std.specs.declared.option.Option.{Option}
+use Rattle.std.specs.declared.option.Option.TheVariants.{Some, None}
 use Rattle.iisph_motion.specs.Changes.{PressureStateIs, acceleration_of}
 use Rattle.iisph_motion.specs.declared.acceleration.PressureState.{PressureState}
 use Rattle.iisph_motion.proofs.Accelerations.{acceleration_is}
@@ -47,11 +51,12 @@ use Rattle.iisph_forces.proofs.Offsets.{offset_next, offset_even, offset_needed,
 abbrev named : List ℕ → ℕ → ℕ
 named b at = target_at (starts_of Boundary b) b at
 
--- k is where the first force of the boundary stands that the contact at an offset names, or 0 where no forces are kept
-pub record ForceAt (d : ℕ) (b : List ℕ) (at k : ℕ) : Type 0 where
-  pub kept : 0 < k → (boundary (scene_of b) (named b at)).keeps_forces ≡ true
-  pub offset : 0 < k → k + kept_answer_width d * number_at b at ≡ answer_offset d (scene_of b) (named b at) + 1
-  pub none : k ≤ 0 → (boundary (scene_of b) (named b at)).keeps_forces ≡ false
+-- `first` says where the first force of the boundary stands that the contact at an offset names, if forces are kept
+pub record ForceAt (d : ℕ) (b : List ℕ) (at : ℕ) (first : Option ℕ) : Type 0 where
+  pub kept : {k : ℕ} → first ≡ Some k → (boundary (scene_of b) (named b at)).keeps_forces ≡ true
+  pub offset : {k : ℕ} → first ≡ Some k
+      → k + kept_answer_width d * number_at b at ≡ answer_offset d (scene_of b) (named b at) + 1
+  pub none : first ≡ None → (boundary (scene_of b) (named b at)).keeps_forces ≡ false
 
 module _ {b index : List ℕ} (ix : Indexed b index) {d at : ℕ} (c : ForceContact d b at) where
   model_below : model_at b at < model_number Boundary b
@@ -74,23 +79,22 @@ module _ {b index : List ℕ} (ix : Indexed b index) {d at : ℕ} (c : ForceCont
   -- the boundary's entry says whether a force is kept, and where it stands
   first_go : (t : Bool) → eqb (get_or (keeps_of Boundary b) (model_at b at) 0) 1 ≡ t
       → ForceAt d b at
-      (choose t (answer_offset d (scene_of b) (get_or (starts_of Boundary b) (model_at b at) 0) + 1) 0)
-  unfolding choose
+      (then_some t (answer_offset d (scene_of b) (get_or (starts_of Boundary b) (model_at b at) 0) + 1))
   first_go true e =
       let s = scene_of b in
       let start = get_or (starts_of Boundary b) (model_at b at) 0 in
       let p = number_at b at in
       record {
         kept = λ _. ap (λ (j : ℕ). (boundary s j).keeps_forces) target_is ∙ same p (omega arith) ∙ e;
-        offset = λ _.
-            rw target_is
-            (omega (arith, offset_even d s start p _ (λ q l. width_kept d s (start + q) (same q (omega arith) ∙ e))));
-        none = λ h. absurd (omega arith);
+        offset = λ is.
+            let even = offset_even d s start p _ (λ q l. width_kept d s (start + q) (same q (omega arith) ∙ e)) in
+            rw target_is (omega (arith, same_Some _ _ is, even));
+        none = λ is. absurd (none-some _ (sym is));
       }
   first_go false e =
       record {
-        kept = λ h. absurd (omega arith);
-        offset = λ h. absurd (omega arith);
+        kept = λ is. absurd (none-some _ is);
+        offset = λ is. absurd (none-some _ is);
         none =
             λ _. ap (λ (j : ℕ). (boundary (scene_of b) j).keeps_forces) target_is
             ∙ same (number_at b at) (omega arith) ∙ e;
@@ -101,30 +105,29 @@ module _ {b index : List ℕ} (ix : Indexed b index) {d at : ℕ} (c : ForceCont
   first_is = first_go _ refl
 
   -- as the code finds it
-  module _ {forces : List ℕ} (known : ForcesKnown d b forces) {r : ContactName} (name : NameIs b at r) where
-    entry_is : get_or forces r.model.0 0 ≡ force_start d b (model_at b at)
+  module _ {forces : List (Option ℕ)} (known : ForcesKnown d b forces) {r : ContactName} (name : NameIs b at r) where
+    entry_is : get_or forces r.model.0 None ≡ force_start d b (model_at b at)
     unfolding force_starts
     entry_is =
         let n = model_number Boundary b in
-        ap (λ (w : ℕ). get_or forces w 0) (name.model ∙ sym (zero-add (model_at b at)))
+        ap (λ (w : ℕ). get_or forces w None) (name.model ∙ sym (zero-add (model_at b at)))
         ∙ known.starts.holds (model_at b at) (rw (length-table n) model_below)
-        ∙ table_at n (force_start d b) (model_at b at) 0 model_below
+        ∙ table_at n (force_start d b) (model_at b at) None model_below
 
-    pub force_none : get_or forces r.model.0 0 ≤ 0 → (boundary (scene_of b) (named b at)).keeps_forces ≡ false
-    force_none h = first_is.none (rw entry_is at h)
+    pub force_none : get_or forces r.model.0 None ≡ None → (boundary (scene_of b) (named b at)).keeps_forces ≡ false
+    force_none h = first_is.none (sym entry_is ∙ h)
 
-    module _ (h : 0 < get_or forces r.model.0 0) where
+    module _ {k : ℕ} (h : get_or forces r.model.0 None ≡ Some k) where
       pub force_kept : (boundary (scene_of b) (named b at)).keeps_forces ≡ true
-      force_kept = first_is.kept (rw entry_is at h)
+      force_kept = first_is.kept (sym entry_is ∙ h)
 
       -- the code has w for the width of a kept answer
       module _ {w : ℕ} (we : w ≡ kept_answer_width d) where
-        pub force_offset_lem : get_or forces r.model.0 0 + w * r.particle.0
-            ≡ answer_offset d (scene_of b) (named b at) + 1
-        force_offset_lem = rw (we, entry_is, name.particle) (first_is.offset (rw entry_is at h))
+        pub force_offset_lem : k + w * r.particle.0 ≡ answer_offset d (scene_of b) (named b at) + 1
+        force_offset_lem = rw (we, name.particle) (first_is.offset (sym entry_is ∙ h))
 
         pub force_room : d ≡ axes_of b → {m : ℕ} → answers_needed (scene_of b) ≤ m
-            → get_or forces r.model.0 0 + w * r.particle.0 + d ≤ m
+            → k + w * r.particle.0 + d ≤ m
         force_room axes room =
             let t = named b at in
             omega (

@@ -13,6 +13,9 @@ use lib.Ieee.{Float}
 use lib.ListN.{length, get_or, set}
 use lib.Seq.{sets, length-sets}
 use borrow.Author.Tests.{eqb-true}
+use Rattle.std.specs.Bool.{then_some}
+use Rattle.std.specs.declared.option.Option.{Option}
+use Rattle.std.specs.declared.option.Option.TheVariants.{None}
 use Rattle.iisph_rows.specs.Passes.{volumes}
 use Rattle.iisph_rows.specs.Rows.{volumes_at, element_at, Behind}
 use Rattle.iisph_rows.proofs.RowReads.{volume_behind}
@@ -163,8 +166,8 @@ module _ (d : ℕ) (b : List ℕ) (l : List Float) (first count : ℕ) where
 
 -- of the boundaries the first w, which have `first` particles, are stored in l, and where their forces begin in fs;
 -- this gave x and gs, and the next boundary's element is `to`
-pub record InitialPut (d : ℕ) (b fs : List ℕ) (l : List Float) (first to w : ℕ) (gs : List ℕ) (x : List Float)
-    : Type 0 where
+pub record InitialPut (d : ℕ) (b : List ℕ) (fs : List (Option ℕ)) (l : List Float) (first to w : ℕ)
+    (gs : List (Option ℕ)) (x : List Float) : Type 0 where
   pub start : first ≡ before (counts_of Boundary b) w
   pub long : length x ≡ length l
   pub next : to ≡ answer_offset d (scene_of b) first
@@ -173,7 +176,7 @@ pub record InitialPut (d : ℕ) (b fs : List ℕ) (l : List Float) (first to w :
       ≡ sets l (fluid_answer_width d * fluid_size (scene_of b))
       (flatten (table (before (counts_of Boundary b) w) (boundary_initial (scene_of b))))
 
-module _ (d : ℕ) (b fs : List ℕ) (l : List Float) where
+module _ (d : ℕ) (b : List ℕ) (fs : List (Option ℕ)) (l : List Float) where
   pub no_boundaries : {to : ℕ} → to ≡ fluid_answer_width d * fluid_size (scene_of b) → InitialPut d b fs l 0 to 0 fs l
   no_boundaries e =
       record {
@@ -184,32 +187,31 @@ module _ (d : ℕ) (b fs : List ℕ) (l : List Float) where
         stored = rw (none_before Boundary b, rows_none (boundary_initial (scene_of b)));
       }
 
-  module _ {first to w : ℕ} {gs : List ℕ} {x : List Float} (here : InitialPut d b fs l first to w gs x) where
+  module _ {first to w : ℕ} {gs : List (Option ℕ)} {x : List Float} (here : InitialPut d b fs l first to w gs x) where
     -- the next boundary begins within what is needed
     pub boundary-room : d ≡ axes_of b → {count keeps : ℕ} → BoundaryRun b first count keeps
         → to ≤ answers_needed (scene_of b)
     boundary-room axes run = omega (arith, here.next, offset_needed b axes first (omega (arith, run.within)))
 
     module _ (h : w < model_number Boundary b) {heads : List ℕ} (turn : Turn Boundary b heads w) where
-      force_starts_lem : (keeps : Bool) {f : ℕ} → bit keeps ≡ keeps_at b (get_or heads w 0)
-          → f ≡ choose keeps (to + 1) 0
-          → f ≡ force_start d b w
+      force_starts_lem : (keeps : Bool) {f : Option ℕ} → bit keeps ≡ keeps_at b (get_or heads w 0)
+          → f ≡ then_some keeps (to + 1) → f ≡ force_start d b w
       unfolding force_start
       force_starts_lem keeps k e =
           let kept = sym (bit_one keeps) ∙ ap (λ (n : ℕ). eqb n 1) (k ∙ turn.keeps) in
           e ∙ rw (here.next, here.start, ← start_before Boundary b w h, kept)
 
       pub one_more_boundary : d ≡ axes_of b → {e : ℕ} → checked b ≡ Ok e
-          → (keeps : Bool) {count f r : ℕ} {y : List Float}
+          → (keeps : Bool) {count r : ℕ} {f : Option ℕ} {y : List Float}
           → BoundaryRun b first count (bit keeps)
           → count ≡ particles_at Boundary b (get_or heads w 0)
           → bit keeps ≡ keeps_at b (get_or heads w 0)
-          → f ≡ choose keeps (to + 1) 0
+          → f ≡ then_some keeps (to + 1)
           → r ≡ answer_offset d (scene_of b) (first + count)
           → y ≡ sets x to (flatten (table count (λ p. boundary_initial (scene_of b) (first + p))))
           → InitialPut d b fs l (first + count) r (w + 1) (set gs w f) y
       unfolding answer_offset
-      one_more_boundary axes q keeps {count} {f} {r} {y} run c k fe re ye =
+      one_more_boundary axes q keeps {count} {r} {f} {y} run c k fe re ye =
           let s = scene_of b in
           let initial = boundary_initial s in
           let done = before (counts_of Boundary b) w in
@@ -250,8 +252,8 @@ module _ (d : ℕ) (b fs : List ℕ) (l : List Float) where
 -- ---- what gathering finds
 
 module _ (d : ℕ) (b : List ℕ) where
-  pub starts_held : {e : ℕ} → checked b ≡ Ok e → (fs : List ℕ) → nameable_models ≤ length fs → {gs : List ℕ}
-      → gs ≡ sets fs 0 (force_starts d b) → ForcesKnown d b gs
+  pub starts_held : {e : ℕ} → checked b ≡ Ok e → (fs : List (Option ℕ)) → nameable_models ≤ length fs
+      → {gs : List (Option ℕ)} → gs ≡ sets fs 0 (force_starts d b) → ForcesKnown d b gs
   unfolding force_starts
   starts_held q fs room is =
       let few = (accepted_within b q Boundary).few in
@@ -261,7 +263,7 @@ module _ (d : ℕ) (b : List ℕ) where
       rw is
       (record {
         room = omega (arith, long);
-        starts = record { holds = λ i h. sets_in 0 starts fs 0 i (omega arith) h };
+        starts = record { holds = λ i h. sets_in None starts fs 0 i (omega arith) h };
       })
 
 pub still-room : (b : List ℕ) (l : List Float) (k : ℕ) {x : List Float}

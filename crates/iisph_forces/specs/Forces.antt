@@ -1,7 +1,8 @@
 -- The boundary part of the answer list: where each boundary particle's answers stand, and what the contacts make of the
 -- forces there, one after the other. Scaffolding: no promise rests on it. Definitions only.
-use Rattle.std.specs.Prelude.{ℕ, ◌+◌, ◌*◌, ◌<◌, ◌≤◌, List, [], ◌∷◌, eqb, Float, length, get_or}
+use Rattle.std.specs.Prelude.{ℕ, ◌+◌, ◌*◌, ◌<◌, ◌≤◌, List, [], ◌∷◌, Option, None, eqb, Float, length, get_or}
 use Rattle.std.proofs.lemmas.List.Edits.{sets}
+use Rattle.std.specs.Bool.{then_some}
 use Rattle.iisph_motion.specs.Changes.{acceleration_of}
 use Rattle.iisph_motion.specs.declared.acceleration.PressureState.{PressureState}
 use Rattle.iisph_rows.specs.Rows.{vector_from}
@@ -29,19 +30,19 @@ width_at d s j = boundary_answer_width d (boundary s j)
 unfoldable pub answer_offset : ℕ → Scene → ℕ → ℕ
 answer_offset d s j = fluid_answer_width d * fluid_size s + sum (table j (width_at d s))
 
--- where the force of boundary w's first particle stands, or 0 if the boundary keeps no forces
-unfoldable pub force_start : ℕ → List ℕ → ℕ → ℕ
+-- where the force of boundary w's first particle stands, if the boundary keeps forces
+unfoldable pub force_start : ℕ → List ℕ → ℕ → Option ℕ
 force_start d b w =
-    choose (eqb (get_or (keeps_of Boundary b) w 0) 1)
-    (answer_offset d (scene_of b) (get_or (starts_of Boundary b) w 0) + 1) 0
+    then_some (eqb (get_or (keeps_of Boundary b) w 0) 1)
+    (answer_offset d (scene_of b) (get_or (starts_of Boundary b) w 0) + 1)
 
-unfoldable pub force_starts : ℕ → List ℕ → List ℕ
+unfoldable pub force_starts : ℕ → List ℕ → List (Option ℕ)
 force_starts d b = table (model_number Boundary b) (force_start d b)
 
 -- a list with room for each name holds them
-pub record ForcesKnown (d : ℕ) (b forces : List ℕ) : Type 0 where
+pub record ForcesKnown (d : ℕ) (b : List ℕ) (forces : List (Option ℕ)) : Type 0 where
   pub room : nameable_models ≤ length forces
-  pub starts : Part 0 0 (force_starts d b) forces
+  pub starts : Part None 0 (force_starts d b) forces
 
 -- ---- answers
 

@@ -1,11 +1,11 @@
 // The answers of the boundary particles with the forces that the scene has (METHOD 7.4), boundary by boundary, and
 // where the forces of each boundary begin.
-ghost use Rattle.std.specs.Prelude.{◌≡◌, ◌+◌, ◌*◌, ◌<◌, ◌≤◌, eqb, length};
+ghost use Rattle.std.specs.Prelude.{◌≡◌, ◌+◌, ◌*◌, ◌<◌, ◌≤◌, length};
 ghost use mathlib.Core.List.{flatten};
 ghost use Rattle.std.proofs.lemmas.List.Edits.{sets};
 ghost use Rattle.iisph_pressures.specs.IterationRows.{Iterating};
-ghost use Rattle.iisph_rows.specs.Passes.{PassOver};
-ghost use Rattle.lists.specs.Lists.{choose, table};
+ghost use Rattle.iisph_rows.specs.Passes.{PassOn};
+ghost use Rattle.lists.specs.Lists.{table};
 ghost use Rattle.scene_check.specs.Check.{Passed};
 ghost use Rattle.scene_format.specs.Format.{bit, nameable_models};
 ghost use Rattle.scene_format.specs.Scene.{boundary_size, boundary};
@@ -14,6 +14,7 @@ ghost use Rattle.scene_index.specs.Runs.{BoundaryRun};
 ghost use Rattle.scene_lengths.specs.Lengths.{fluid_answer_width, answers_needed};
 ghost use Rattle.iisph_forces.specs.Forces.{width_at, answer_offset, force_starts, boundary_initial};
 
+use iisph_rows::over::Over;
 use iisph_rows::rows::{put_vector, volume_at};
 use scene_format::format::vector_width;
 use scene_format::{Kind, read};
@@ -24,30 +25,28 @@ use scene_lengths::{fluid_answer_width, kept_answer_width};
 // Volume and any force of boundary particle j, from element `at` on; where the next particle's answers begin; by
 // whether its boundary keeps forces.
 fn put_particle(
-    scene: &[u8],
-    index: &[usize],
+    over: Over,
     work: &[f64],
-    dim: u8,
-    n: usize,
     j: usize,
     keeps: bool,
     at: usize,
     answers: &mut [f64],
 ) -> usize
-    requires pass_over { PassOver scene.now index.now dim n × Iterating (scene_of scene.now) dim n work.now }
-    requires fact { let s = scene_of scene.now in
+    requires pass_over { PassOn over × Iterating (scene_of over.scene.now) over.dim over.n work.now }
+    requires fact { let s = scene_of over.scene.now in
         (j < boundary_size s)
         × ((boundary s j).keeps_forces ≡ keeps)
-        × (at + width_at dim s j ≤ length answers.old) }
-    ensures { let s = scene_of scene.now in
-        (result ≡ at + width_at dim s j) × (answers.new ≡ sets answers.old at (boundary_initial s j)) }
+        × (at + width_at over.dim s j ≤ length answers.old) }
+    ensures { let o = over.entry in
+        let s = scene_of o.scene.now in
+        (result ≡ at + width_at o.dim s j) × (answers.new ≡ sets answers.old at (boundary_initial s j)) }
 {
-    answers[at] = work[volume_at(work, dim, n, j)];
+    answers[at] = work[volume_at(work, over.dim, over.n, j)];
     if keeps {
-        let record = record_of(scene, index, Kind::Boundary, j);
-        let force = read::vector(scene, record + vector_width(dim), dim);
-        put_vector(answers, at + 1, force, dim);
-        let width = kept_answer_width(dim);
+        let record = record_of(over.scene, over.index, Kind::Boundary, j);
+        let force = read::vector(over.scene, record + vector_width(over.dim), over.dim);
+        put_vector(answers, at + 1, force, over.dim);
+        let width = kept_answer_width(over.dim);
         return at + width;
     }
     at + 1
@@ -56,74 +55,64 @@ fn put_particle(
 // Volumes and forces of one boundary, whose `count` particles have the numbers from `first` on; where the next
 // boundary's answers begin.
 fn put_boundary(
-    scene: &[u8],
-    index: &[usize],
+    over: Over,
     work: &[f64],
-    dim: u8,
-    n: usize,
     first: usize,
     count: usize,
     keeps: bool,
     at: usize,
     answers: &mut [f64],
 ) -> usize
-    requires pass_over { PassOver scene.now index.now dim n × Iterating (scene_of scene.now) dim n work.now }
-    requires fact { let s = scene_of scene.now in
-        BoundaryRun scene.now first count (bit keeps)
-        × (at ≡ answer_offset dim s first)
+    requires pass_over { PassOn over × Iterating (scene_of over.scene.now) over.dim over.n work.now }
+    requires fact { let b = over.scene.now in
+        let s = scene_of b in
+        BoundaryRun b first count (bit keeps)
+        × (at ≡ answer_offset over.dim s first)
         × (answers_needed s ≤ length answers.old) }
-    ensures { let s = scene_of scene.now in
+    ensures { let o = over.entry in
+        let s = scene_of o.scene.now in
         let initial = flatten (table count (λ p. boundary_initial s (first + p))) in
-        (result ≡ answer_offset dim s (first + count)) × (answers.new ≡ sets answers.old at initial) }
+        (result ≡ answer_offset o.dim s (first + count)) × (answers.new ≡ sets answers.old at initial) }
 {
     let mut to = at;
     for j in first..first + count {
-        to = put_particle(scene, index, work, dim, n, j, keeps, to, answers);
+        to = put_particle(over, work, j, keeps, to, answers);
     }
     to
 }
 
-// Where the first force of a boundary stands whose answers begin at an element, or 0.
-fn force_start(keeps: bool, at: usize) -> usize
-    requires { at < 0x8000_0000_0000_0000 }
-    ensures { result ≡ choose keeps (at + 1) 0 }
-{
-    if keeps { at + 1 } else { 0 }
-}
-
-// Volumes and forces of all boundaries, behind the answers of n fluid particles; `forces` takes where the forces of
-// each boundary begin.
+// Volumes and forces of all boundaries, behind the answers of the fluid particles; `forces` takes where the forces of
+// each boundary begin, if it keeps any.
 pub fn put_initial(
-    scene: &[u8],
+    over: Over,
     layout: Layout,
-    index: &[usize],
     work: &[f64],
-    dim: u8,
-    n: usize,
-    forces: &mut [usize],
+    forces: &mut [Option<usize>],
     answers: &mut [f64],
 )
-    requires pass_over { PassOver scene.now index.now dim n × Iterating (scene_of scene.now) dim n work.now }
-    requires passed { Passed scene.now layout
+    requires pass_over { PassOn over × Iterating (scene_of over.scene.now) over.dim over.n work.now }
+    requires passed { let b = over.scene.now in
+        Passed b layout
         × (nameable_models ≤ length forces.old)
-        × (answers_needed (scene_of scene.now) ≤ length answers.old) }
-    ensures { let b = scene.now in
+        × (answers_needed (scene_of b) ≤ length answers.old) }
+    ensures { let o = over.entry in
+        let b = o.scene.now in
         let s = scene_of b in
         let initial = flatten (table (boundary_size s) (boundary_initial s)) in
-        (forces.new ≡ sets forces.old 0 (force_starts dim b))
-        × (answers.new ≡ sets answers.old (fluid_answer_width dim * n) initial) }
+        (forces.new ≡ sets forces.old 0 (force_starts o.dim b))
+        × (answers.new ≡ sets answers.old (fluid_answer_width o.dim * o.n) initial) }
 {
     let boundaries = layout.boundaries;
     let heads = boundaries.heads;
     let number = boundaries.number;
-    let mut to = fluid_answer_width(dim) * n;
+    let mut to = fluid_answer_width(over.dim) * over.n;
     let mut first = 0;
     for m in 0..number {
         let head = heads[m];
-        let count = read::particles(scene, Kind::Boundary, head);
-        let kept = read::keeps(scene, head);
-        forces[m] = force_start(kept, to);
-        to = put_boundary(scene, index, work, dim, n, first, count, kept, to, answers);
+        let count = read::particles(over.scene, Kind::Boundary, head);
+        let kept = read::keeps(over.scene, head);
+        forces[m] = kept.then_some(to + 1);
+        to = put_boundary(over, work, first, count, kept, to, answers);
         first += count;
     }
 }

@@ -11,7 +11,7 @@ ghost use Rattle.std.specs.Prelude.{◌≡◌, ◌*◌, ◌≤◌, length};
 ghost use mathlib.Core.List.{flatten};
 ghost use Rattle.std.proofs.lemmas.List.Edits.{sets};
 ghost use Rattle.iisph_pressures.specs.IterationRows.{pressures_in, Iterating};
-ghost use Rattle.iisph_rows.specs.Passes.{PassOver};
+ghost use Rattle.iisph_rows.specs.Passes.{PassOn};
 ghost use Rattle.iisph_rules.specs.Coefficients.{coefficients};
 ghost use Rattle.iisph_rules.specs.Step.{boundary_answer};
 ghost use Rattle.lists.specs.Lists.{table};
@@ -22,28 +22,22 @@ ghost use Rattle.scene_lengths.specs.Lengths.{fluid_answer_width, answers_needed
 
 use crate::gather::gather_all;
 use crate::initial_forces::put_initial;
+use iisph_rows::over::Over;
 use scene_format::format::NAMEABLE_MODELS;
 use scene_layout::Layout;
 
-// The answers of all boundary particles, behind those of the n fluid particles: first with the forces that the scene
+// The answers of all boundary particles, behind those of the fluid particles: first with the forces that the scene
 // has, then with what each contact adds.
-pub fn boundary_answers(
-    scene: &[u8],
-    layout: Layout,
-    index: &[usize],
-    work: &[f64],
-    dim: u8,
-    n: usize,
-    answers: &mut [f64],
-)
-    requires pass_over { PassOver scene.now index.now dim n × Iterating (scene_of scene.now) dim n work.now }
-    requires passed { Passed scene.now layout × (answers_needed (scene_of scene.now) ≤ length answers.old) }
-    ensures { let s = scene_of scene.now in
-        let answer = boundary_answer s (coefficients s) (pressures_in dim n work.now) in
-        answers.new
-        ≡ sets answers.old (fluid_answer_width dim * n) (flatten (table (boundary_size s) answer)) }
+pub fn boundary_answers(over: Over, layout: Layout, work: &[f64], answers: &mut [f64])
+    requires pass_over { PassOn over × Iterating (scene_of over.scene.now) over.dim over.n work.now }
+    requires passed { let b = over.scene.now in
+        Passed b layout × (answers_needed (scene_of b) ≤ length answers.old) }
+    ensures { let o = over.entry in
+        let s = scene_of o.scene.now in
+        let answer = boundary_answer s (coefficients s) (pressures_in o.dim o.n work.now) in
+        answers.new ≡ sets answers.old (fluid_answer_width o.dim * o.n) (flatten (table (boundary_size s) answer)) }
 {
-    let mut forces = [0usize; NAMEABLE_MODELS];
-    put_initial(scene, layout, index, work, dim, n, &mut forces, answers);
-    gather_all(scene, index, work, dim, n, &forces, answers);
+    let mut forces = [None; NAMEABLE_MODELS];
+    put_initial(over, layout, work, &mut forces, answers);
+    gather_all(over, work, &forces, answers);
 }

@@ -10,6 +10,7 @@ ghost use Rattle.scene_format.specs.Scene.{fluid_size};
 ghost use Rattle.scene_format.specs.SceneOf.{scene_of};
 ghost use Rattle.iisph_iterations.specs.Errors.{terms_from, terms_in, joined, with_fluid};
 
+use iisph_rows::over::Over;
 use iisph_rows::rows::quotient_column;
 use iisph_rules::{IterationError, NO_ERROR};
 use math::{is_nan, larger};
@@ -112,21 +113,25 @@ fn with_fluid(
 }
 
 // The error over the fluids of a scene, which have n particles in all.
-pub fn max_error(scene: &[u8], layout: Layout, work: &[f64], dim: u8, n: usize) -> IterationError
-    requires passed { Passed scene.now layout }
-    requires axes { Axes dim × (n ≡ fluid_size (scene_of scene.now)) × (volumes_at dim n ≤ length work.now) }
-    ensures { let s = scene_of scene.now in
-        let found = averages s.header.summation s.fluid_counts (terms_in dim n work.now) in
-        result ≡ error_of s.header.criterion found }
+pub fn max_error(over: Over, layout: Layout, work: &[f64]) -> IterationError
+    requires passed { Passed over.scene.now layout }
+    requires axes { Axes over.dim
+        × (over.n ≡ fluid_size (scene_of over.scene.now))
+        × (volumes_at over.dim over.n ≤ length work.now) }
+    ensures { let s = scene_of over.entry.scene.now in
+        let terms = terms_in over.entry.dim over.entry.n work.now in
+        result ≡ error_of s.header.criterion (averages s.header.summation s.fluid_counts terms) }
 {
-    let criterion = read::criterion(scene);
-    let summation = read::summation(scene);
+    let criterion = read::criterion(over.scene);
+    let summation = read::summation(over.scene);
     let fluids = layout.fluids;
     let mut error = None;
     let mut from = 0;
     for &head in &fluids.heads[..fluids.number] {
-        let count = read::particles(scene, Kind::Fluid, head);
-        error = with_fluid(criterion, summation, work, dim, n, from, count, error);
+        let count = read::particles(over.scene, Kind::Fluid, head);
+        error = with_fluid(
+            criterion, summation, work, over.dim, over.n, from, count, error,
+        );
         from += count;
     }
     error.unwrap_or(NO_ERROR)

@@ -3,7 +3,7 @@
 ghost use Rattle.std.specs.Prelude.{◌≡◌};
 ghost use Rattle.iisph_header.specs.Header.{StoppingIs};
 ghost use Rattle.iisph_pressures.specs.IterationRows.{pressures_in, Iterating};
-ghost use Rattle.iisph_rows.specs.Passes.{DrivenPass};
+ghost use Rattle.iisph_rows.specs.Passes.{DrivenOn};
 ghost use Rattle.iisph_rules.specs.Step.{first_pressures};
 ghost use Rattle.scene_check.specs.Check.{Passed};
 ghost use Rattle.scene_format.specs.SceneOf.{scene_of};
@@ -12,8 +12,8 @@ ghost use Rattle.iisph_iterations.specs.PressureSolve.{Iterates, ending_after, S
 use crate::errors::max_error;
 use iisph_header::Stopping;
 use iisph_passes::traverse::{Pass, traverse};
+use iisph_rows::over::{Drive, Over};
 use iisph_rules::{Ending, IterationError, NO_ERROR};
-use math::Vec3;
 use scene_layout::Layout;
 
 // How many iterations were carried out, and how they ended.
@@ -24,25 +24,16 @@ pub struct Solved {
 }
 
 // One iteration; its error is handed back.
-fn iterate(
-    scene: &[u8],
-    layout: Layout,
-    index: &[usize],
-    dim: u8,
-    n: usize,
-    dt: f64,
-    gravity: Vec3,
-    work: &mut [f64],
-) -> IterationError
-    requires driven_pass { DrivenPass scene.now index.now dim n dt gravity }
-    requires passed { Passed scene.now layout × Iterating (scene_of scene.now) dim n work.old }
-    ensures { Iterates dim (scene_of scene.now) work.old result work.new }
+fn iterate(over: Over, layout: Layout, drive: Drive, work: &mut [f64]) -> IterationError
+    requires driven_pass { DrivenOn over drive }
+    requires passed { Passed over.scene.now layout × Iterating (scene_of over.scene.now) over.dim over.n work.old }
+    ensures { Iterates over.entry.dim (scene_of over.entry.scene.now) work.old result work.new }
 {
-    traverse(Pass::Quotients, scene, index, dim, n, dt, gravity, work);
-    traverse(Pass::DijPjl, scene, index, dim, n, dt, gravity, work);
-    traverse(Pass::NextPressures, scene, index, dim, n, dt, gravity, work);
-    traverse(Pass::Exchange, scene, index, dim, n, dt, gravity, work);
-    max_error(scene, layout, work, dim, n)
+    traverse(Pass::Quotients, over, drive, work);
+    traverse(Pass::DijPjl, over, drive, work);
+    traverse(Pass::NextPressures, over, drive, work);
+    traverse(Pass::Exchange, over, drive, work);
+    max_error(over, layout, work)
 }
 
 // The ending after i iterations, the last with this error, if none met the stopping test.
@@ -58,27 +49,23 @@ fn ending_after(i: usize, error: IterationError) -> Ending
 
 // The iterations from the first pressures, which stand in the rows.
 pub fn pressure_solve(
-    scene: &[u8],
+    over: Over,
     layout: Layout,
-    index: &[usize],
-    dim: u8,
-    n: usize,
-    dt: f64,
-    gravity: Vec3,
+    drive: Drive,
     stopping: Stopping,
     work: &mut [f64],
 ) -> Solved
-    requires driven_pass { DrivenPass scene.now index.now dim n dt gravity × StoppingIs (scene_of scene.now) stopping }
-    requires passed { Passed scene.now layout × Iterating (scene_of scene.now) dim n work.old }
-    requires work_value { pressures_in dim n work.old ≡ first_pressures (scene_of scene.now) }
-    ensures { Solves dim (scene_of scene.now) work.old result work.new }
+    requires driven_pass { DrivenOn over drive × StoppingIs (scene_of over.scene.now) stopping }
+    requires passed { Passed over.scene.now layout × Iterating (scene_of over.scene.now) over.dim over.n work.old }
+    requires work_value { pressures_in over.dim over.n work.old ≡ first_pressures (scene_of over.scene.now) }
+    ensures { Solves over.entry.dim (scene_of over.entry.scene.now) work.old result work.new }
 {
     let least = stopping.min_pressure_iter;
     let most = stopping.max_pressure_iter;
     let limit = stopping.max_density_error;
     let mut error = NO_ERROR;
     for i in 0..most {
-        error = iterate(scene, layout, index, dim, n, dt, gravity, work);
+        error = iterate(over, layout, drive, work);
         if error.value <= limit && i >= least {
             return Solved {
                 iterations: (i + 1) as u32,

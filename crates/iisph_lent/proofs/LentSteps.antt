@@ -21,7 +21,7 @@ use Rattle.iisph_rules.specs.Step.{StepAnswer}
 use Rattle.iisph_rules.proofs.Cases.{scene_answer_lem, scene_clears}
 use Rattle.iisph_lent.specs.Lent.{answered, lacks_index, lent_answer, StepsLent, uses_index, IndexAfter}
 use Rattle.iisph_lent.specs.Step.{Steps}
-use Rattle.iisph_lent.specs.declared.LentRefusal.TheVariants.{Refused, ShortIndex}
+use Rattle.iisph_lent.specs.declared.LentRefusal.TheVariants.{ShortIndex}
 
 -- ---- whether the index is lacking
 

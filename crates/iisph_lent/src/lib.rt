@@ -6,7 +6,7 @@
 ghost use Rattle.std.specs.Prelude.{◌≡◌, ◌≤◌, length};
 ghost use Rattle.iisph_header.specs.Header.{StepHeaderIs};
 ghost use Rattle.iisph_pressures.specs.IterationRows.{IterationReady};
-ghost use Rattle.iisph_rows.specs.Passes.{PassOver};
+ghost use Rattle.iisph_rows.specs.Passes.{PassOn};
 ghost use Rattle.iisph_rules.specs.Answer.{lists_short, LongEnough};
 ghost use Rattle.iisph_rules.specs.Step.{first_pressures};
 ghost use Rattle.scene_check.specs.Check.{Passed};
@@ -22,6 +22,7 @@ use iisph_iterations::pressure_solve::pressure_solve;
 use iisph_motion::answers::update_velocities_and_positions;
 use iisph_passes::traverse::{Pass, traverse};
 use iisph_preparation::prepare;
+use iisph_rows::over::{Drive, Over};
 use iisph_rows::zeros::clear;
 use iisph_rules::Report;
 use scene_check::check;
@@ -51,37 +52,32 @@ impl From<Refusal> for LentRefusal {
 // The iterations and what follows them. Nothing is refused any more, so the answer list is written; the work list is
 // left cleared.
 fn finish(
-    scene: &[u8],
+    over: Over,
     layout: Layout,
-    index: &[usize],
-    dim: u8,
-    n: usize,
     header: StepHeader,
     answers: &mut [f64],
     work: &mut [f64],
 ) -> Report
-    requires pass_over { PassOver scene.now index.now dim n × StepHeaderIs (scene_of scene.now) header }
-    requires passed { Passed scene.now layout × LongEnough scene.now (length answers.old) (length work.old) }
-    requires iteration_ready { IterationReady (scene_of scene.now)
-        (first_pressures (scene_of scene.now)) dim n work.old }
-    ensures { Finishes scene.now answers.old work.old result answers.new
-        work.new }
+    requires pass_over { PassOn over × StepHeaderIs (scene_of over.scene.now) header }
+    requires passed { Passed over.scene.now layout × LongEnough over.scene.now (length answers.old) (length work.old) }
+    requires iteration_ready { let s = scene_of over.scene.now in
+        IterationReady s (first_pressures s) over.dim over.n work.old }
+    ensures { Finishes over.entry.scene.now answers.old work.old result answers.new work.new }
 {
-    let clock = header.clock;
-    let dt = clock.dt;
-    let gravity = header.gravity;
-    let stopping = header.stopping;
-    let solved = pressure_solve(scene, layout, index, dim, n, dt, gravity, stopping, work);
-    traverse(Pass::Shares, scene, index, dim, n, dt, gravity, work);
-    update_velocities_and_positions(scene, index, work, dim, n, dt, gravity, answers);
-    boundary_answers(scene, layout, index, work, dim, n, answers);
-    let needed = lengths_of(scene, layout).work;
+    let drive = Drive {
+        dt: header.clock.dt,
+        gravity: header.gravity,
+    };
+    let solved = pressure_solve(over, layout, drive, header.stopping, work);
+    traverse(Pass::Shares, over, drive, work);
+    update_velocities_and_positions(over, work, drive, answers);
+    boundary_answers(over, layout, work, answers);
+    let needed = lengths_of(over.scene, layout).work;
     clear(work, needed);
-    let ending = solved.ending;
     Report {
-        clock,
+        clock: header.clock,
         iterations: solved.iterations,
-        ending,
+        ending: solved.ending,
     }
 }
 
@@ -108,10 +104,14 @@ pub fn step_long(
     ensures { Steps scene.now answers.old work.old result answers.new work.new }
 {
     let header = step_header(scene);
-    let dim = axes(scene);
-    let n = layout.fluids.total;
     prepare(scene, layout, header, index, work)?;
-    Ok(finish(scene, layout, index, dim, n, header, answers, work))
+    let over = Over {
+        scene,
+        index,
+        dim: axes(scene),
+        n: layout.fluids.total,
+    };
+    Ok(finish(over, layout, header, answers, work))
 }
 
 // A step on a scene that its caller has checked.

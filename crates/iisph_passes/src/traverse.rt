@@ -4,7 +4,7 @@ ghost use Rattle.std.specs.Prelude.{◌≡◌, ◌+◌, ◌*◌, ◌<◌, ◌≤
 ghost use Rattle.std.proofs.lemmas.List.Edits.{sets};
 ghost use Rattle.math.specs.Vector.{Axes, coordinates};
 ghost use Rattle.scene_lengths.specs.Lengths.{work_width};
-ghost use Rattle.iisph_rows.specs.Passes.{DrivenPass, Room};
+ghost use Rattle.iisph_rows.specs.Passes.{DrivenOn, Room};
 ghost use Rattle.iisph_rows.specs.Rows.{pressure_slot, row_at, row_width, volumes_at, set_slots, stored};
 ghost use Rattle.scene_format.specs.SceneOf.{scene_of};
 ghost use Rattle.iisph_passes.specs.Traverse.{slot_of, row_of, Ready, coefficient_list, row_next};
@@ -12,6 +12,7 @@ ghost use Rattle.iisph_passes.specs.Traverse.{slot_of, row_of, Ready, coefficien
 use iisph_coefficients::coefficients::{CoefficientsOf, coefficients_of};
 use iisph_pressures::iteration::{dij_pjl_of, next_pressure_of};
 use iisph_pressures::quotients::{quotient_of, share_of};
+use iisph_rows::over::{Drive, Over};
 use iisph_rows::records::{advected_of, first_pressure, mass_of};
 use iisph_rows::rows::{
     DIJ_PJL, MASS, aii_column, column_at, density_column, next_pressure_column, predicted_column,
@@ -86,31 +87,24 @@ fn exchange(work: &mut [f64], dim: u8, n: usize, i: usize)
 }
 
 // The slots of fluid particle i.
-fn update_row(
-    pass: Pass,
-    scene: &[u8],
-    index: &[usize],
-    dim: u8,
-    n: usize,
-    dt: f64,
-    gravity: Vec3,
-    work: &mut [f64],
-    i: usize,
-)
-    requires driven_pass { DrivenPass scene.now index.now dim n dt gravity × (i < n) }
-    requires room { Room (scene_of scene.now) dim n work.old × Ready (scene_of scene.now) dim n work.old pass }
-    ensures { let l = work.old in
-        work.new ≡ set_slots dim n i (slot_of dim pass) (row_of dim (scene_of scene.now) l pass i) l }
+fn update_row(pass: Pass, over: Over, drive: Drive, work: &mut [f64], i: usize)
+    requires driven_pass { DrivenOn over drive × (i < over.n) }
+    requires room { let s = scene_of over.scene.now in
+        Room s over.dim over.n work.old × Ready s over.dim over.n work.old pass }
+    ensures { let o = over.entry in
+        let row = row_of o.dim (scene_of o.scene.now) work.old pass i in
+        work.new ≡ set_slots o.dim o.n i (slot_of o.dim pass) row work.old }
 {
+    let Over { dim, n, .. } = over;
     match pass {
         Pass::Advection => {
-            let m = mass_of(scene, index, dim, n, i);
-            let v = advected_of(scene, index, dim, n, dt, gravity, i);
+            let m = mass_of(over, i);
+            let v = advected_of(over, drive, i);
             put_in_row(work, dim, n, i, MASS, m, v);
         }
         Pass::Coefficients => {
-            let c = coefficients_of(scene, index, work, dim, n, dt, i);
-            let pressure = first_pressure(scene, index, dim, n, i);
+            let c = coefficients_of(over, work, drive.dt, i);
+            let pressure = first_pressure(over, i);
             put_coefficients(work, dim, n, i, c, pressure);
         }
         Pass::Quotients => {
@@ -118,12 +112,12 @@ fn update_row(
             put_column(work, dim, n, quotient_column(dim), i, q);
         }
         Pass::DijPjl => {
-            let d = dij_pjl_of(scene, index, work, dim, n, dt, i);
+            let d = dij_pjl_of(over, work, drive.dt, i);
             let row = row_at(work, dim, i);
             put_vector(work, row + DIJ_PJL, d, dim);
         }
         Pass::NextPressures => {
-            let next = next_pressure_of(scene, index, work, dim, n, dt, i);
+            let next = next_pressure_of(over, work, drive.dt, i);
             put_column(work, dim, n, quotient_column(dim), i, next.term);
             put_column(work, dim, n, next_pressure_column(dim), i, next.pressure);
         }
@@ -136,22 +130,15 @@ fn update_row(
 }
 
 // The slots of all fluid particles, one particle after the other.
-pub fn traverse(
-    pass: Pass,
-    scene: &[u8],
-    index: &[usize],
-    dim: u8,
-    n: usize,
-    dt: f64,
-    gravity: Vec3,
-    work: &mut [f64],
-)
-    requires driven_pass { DrivenPass scene.now index.now dim n dt gravity }
-    requires room { Room (scene_of scene.now) dim n work.old × Ready (scene_of scene.now) dim n work.old pass }
-    ensures { let l = work.old in
-        work.new ≡ stored dim n (slot_of dim pass) (row_of dim (scene_of scene.now) l pass) l }
+pub fn traverse(pass: Pass, over: Over, drive: Drive, work: &mut [f64])
+    requires driven_pass { DrivenOn over drive }
+    requires room { let s = scene_of over.scene.now in
+        Room s over.dim over.n work.old × Ready s over.dim over.n work.old pass }
+    ensures { let o = over.entry in
+        let row = row_of o.dim (scene_of o.scene.now) work.old pass in
+        work.new ≡ stored o.dim o.n (slot_of o.dim pass) row work.old }
 {
-    for i in 0..n {
-        update_row(pass, scene, index, dim, n, dt, gravity, work, i);
+    for i in 0..over.n {
+        update_row(pass, over, drive, work, i);
     }
 }

@@ -5,7 +5,7 @@
 
 ghost use Rattle.std.specs.Prelude.{◌≡◌, ℕ, ◌≤◌, length};
 ghost use Rattle.iisph_header.specs.Header.{StepHeaderIs};
-ghost use Rattle.iisph_rows.specs.Passes.{PassOver, DrivenPass, Room, volumes};
+ghost use Rattle.iisph_rows.specs.Passes.{PassOn, DrivenOn, Room, volumes};
 ghost use Rattle.iisph_rows.specs.Rows.{density_slot, predicted_slot, volumes_at, column, Behind};
 ghost use Rattle.iisph_rules.specs.Step.{scene_answer};
 ghost use Rattle.iisph_rules.specs.declared.Report.{Report};
@@ -20,6 +20,7 @@ ghost use Rattle.iisph_preparation.specs.Prepare.{rows_filled, readiness, work_p
 use iisph_header::StepHeader;
 use iisph_passes::traverse::{Pass, traverse};
 use iisph_rows::boundary_volumes::compute_boundary_volumes;
+use iisph_rows::over::{Drive, Over};
 use iisph_rows::rows::{density_column, predicted_column};
 use iisph_rows::zeros::{clear, first_zero};
 use math::Vec3;
@@ -31,69 +32,51 @@ use scene_layout::Layout;
 use scene_lengths::lengths_of;
 
 // The masses, advected velocities, coefficients and first pressures of every particle. The boundary volumes are there.
-fn fill_rows(
-    scene: &[u8],
-    index: &[usize],
-    dim: u8,
-    n: usize,
-    dt: f64,
-    gravity: Vec3,
-    work: &mut [f64],
-)
-    requires driven_pass { DrivenPass scene.now index.now dim n dt gravity }
-    requires room { Room (scene_of scene.now) dim n work.old × Behind dim n (volumes (scene_of scene.now)) work.old }
-    ensures { work.new ≡ rows_filled dim (scene_of scene.now) work.old }
+fn fill_rows(over: Over, drive: Drive, work: &mut [f64])
+    requires driven_pass { DrivenOn over drive }
+    requires room { let s = scene_of over.scene.now in
+        Room s over.dim over.n work.old × Behind over.dim over.n (volumes s) work.old }
+    ensures { work.new ≡ rows_filled over.entry.dim (scene_of over.entry.scene.now) work.old }
 {
-    traverse(Pass::Advection, scene, index, dim, n, dt, gravity, work);
-    traverse(Pass::Coefficients, scene, index, dim, n, dt, gravity, work);
+    traverse(Pass::Advection, over, drive, work);
+    traverse(Pass::Coefficients, over, drive, work);
 }
 
 // Two searches, one after the other: refusal 9 in the densities, 10 in the predicted ones. Each gives the offset of the
 // particle's record.
-fn zero_refusal(
-    scene: &[u8],
-    index: &[usize],
-    dim: u8,
-    n: usize,
-    work: &[f64],
-) -> Result<(), Refusal>
-    requires { PassOver scene.now index.now dim n × (volumes_at dim n ≤ length work.now) }
+fn zero_refusal(over: Over, work: &[f64]) -> Result<(), Refusal>
+    requires { PassOn over × (volumes_at over.dim over.n ≤ length work.now) }
     ensures { (report : Report) →
-        (let at : ℕ → ℕ = λ i. (location_of Fluid scene.now i).at in
-        let l = work.now in
-        result ≡ readiness (zero_answer at (column n (density_slot dim) l) (column n (predicted_slot dim) l) report)) }
+        (let o = over.entry in
+        let at : ℕ → ℕ = λ i. (location_of Fluid o.scene.now i).at in
+        let densities = column o.n (density_slot o.dim) work.now in
+        let predicted = column o.n (predicted_slot o.dim) work.now in
+        result ≡ readiness (zero_answer at densities predicted report)) }
 {
-    if let Some(i) = first_zero(work, dim, n, density_column(dim)) {
-        return Err(Refusal::ZeroDensity(record_of(scene, index, Kind::Fluid, i)));
+    if let Some(i) = first_zero(work, over.dim, over.n, density_column(over.dim)) {
+        let at = record_of(over.scene, over.index, Kind::Fluid, i);
+        return Err(Refusal::ZeroDensity(at));
     }
-    if let Some(i) = first_zero(work, dim, n, predicted_column(dim)) {
-        return Err(Refusal::ZeroPredictedDensity(record_of(scene, index, Kind::Fluid, i)));
+    if let Some(i) = first_zero(work, over.dim, over.n, predicted_column(over.dim)) {
+        let at = record_of(over.scene, over.index, Kind::Fluid, i);
+        return Err(Refusal::ZeroPredictedDensity(at));
     }
     Ok(())
 }
 
 // The passes, then the refusals, after which the part of the work list that the scene needs is +0.
-fn prepare_rows(
-    scene: &[u8],
-    layout: Layout,
-    index: &[usize],
-    dim: u8,
-    n: usize,
-    dt: f64,
-    gravity: Vec3,
-    work: &mut [f64],
-) -> Result<(), Refusal>
-    requires driven_pass { DrivenPass scene.now index.now dim n dt gravity }
-    requires passed { Passed scene.now layout × (work_needed (scene_of scene.now) ≤ length work.old) }
-    ensures { let b = scene.now in
+fn prepare_rows(over: Over, layout: Layout, drive: Drive, work: &mut [f64]) -> Result<(), Refusal>
+    requires driven_pass { DrivenOn over drive }
+    requires passed { Passed over.scene.now layout × (work_needed (scene_of over.scene.now) ≤ length work.old) }
+    ensures { let b = over.entry.scene.now in
         (result ≡ readiness (scene_answer (λ i. (location_of Fluid b i).at) (scene_of b)))
         × (work.new ≡ work_prepared b result work.old) }
 {
-    compute_boundary_volumes(scene, layout, index, dim, n, work);
-    fill_rows(scene, index, dim, n, dt, gravity, work);
-    let answer = zero_refusal(scene, index, dim, n, work);
+    compute_boundary_volumes(over, layout, work);
+    fill_rows(over, drive, work);
+    let answer = zero_refusal(over, work);
     if answer.is_err() {
-        let needed = lengths_of(scene, layout).work;
+        let needed = lengths_of(over.scene, layout).work;
         clear(work, needed);
     }
     answer
@@ -112,11 +95,16 @@ pub fn prepare(
         × (work_needed (scene_of scene.now) ≤ length work.old) }
     ensures { Prepares scene.now work.old result index.new work.new }
 {
-    let clock = header.clock;
-    let dt = clock.dt;
-    let gravity = header.gravity;
-    let dim = axes(scene);
-    let n = layout.fluids.total;
+    let drive = Drive {
+        dt: header.clock.dt,
+        gravity: header.gravity,
+    };
     fill(scene, layout, index);
-    prepare_rows(scene, layout, index, dim, n, dt, gravity, work)
+    let over = Over {
+        scene,
+        index,
+        dim: axes(scene),
+        n: layout.fluids.total,
+    };
+    prepare_rows(over, layout, drive, work)
 }

@@ -1,7 +1,7 @@
 // What an iteration makes of a fluid particle (METHOD 6.1 to 6.3): compute_dij_pjl and compute_next_pressures of the
 // Rust, particle by particle. Whatever does not depend on a contact is computed once per particle.
 ghost use Rattle.std.specs.Prelude.{◌≡◌, ◌+◌, ◌*◌, ◌<◌, ◌≤◌, length};
-ghost use Rattle.iisph_rows.specs.Passes.{PassOver, TimedPass};
+ghost use Rattle.iisph_rows.specs.Passes.{PassOn, TimedOn};
 ghost use Rattle.iisph_rows.specs.Rows.{row_at, row_width, volumes_at, element_at};
 ghost use Rattle.iisph_rules.specs.Coefficients.{coefficients};
 ghost use Rattle.iisph_rules.specs.Iteration.{dij_pjl, error_term, next_pressure};
@@ -17,6 +17,7 @@ ghost use Rattle.iisph_pressures.specs.IterationRows.{pressures_in, dijs_in, wit
 ghost use Rattle.iisph_pressures.specs.IterationRows.{boundary_term, with_term, next_from, DijReady, Iterating};
 ghost use Rattle.iisph_pressures.specs.IterationRows.{OwnerIs, NextIs};
 
+use iisph_rows::over::Over;
 use iisph_rows::rows::{
     DIJ_PJL, MASS, aii_column, column_at, density_column, dii_slot, predicted_column,
     pressure_slot, quotient_column, row_at, vector_at, volume_at,
@@ -42,51 +43,39 @@ pub struct Next {
 }
 
 // The sum of compute_dij_pjl over a list of fluid contacts: g × the quotient of the particle that a contact names.
-fn dij_sum(
-    scene: &[u8],
-    index: &[usize],
-    work: &[f64],
-    dim: u8,
-    n: usize,
-    list: ContactList,
-) -> Vec3
-    requires pass_over { PassOver scene.now index.now dim n × DijReady (scene_of scene.now) dim n work.now }
-    requires contacts_ready { ContactsReady Kind.Fluid dim scene.now list }
-    ensures { let b = scene.now in
-        let ps = pressures_in dim n work.now in
-        coordinates dim result ≡ over_list Kind.Fluid dim b list (with_dij (scene_of b) ps) (origin dim) }
+fn dij_sum(over: Over, work: &[f64], list: ContactList) -> Vec3
+    requires pass_over { PassOn over × DijReady (scene_of over.scene.now) over.dim over.n work.now }
+    requires contacts_ready { ContactsReady Kind.Fluid over.dim over.scene.now list }
+    ensures { let o = over.entry in
+        let b = o.scene.now in
+        let ps = pressures_in o.dim o.n work.now in
+        coordinates o.dim result ≡ over_list Kind.Fluid o.dim b list (with_dij (scene_of b) ps) (origin o.dim) }
 {
+    let dim = over.dim;
     let at = list.at;
     let width = contact_width(dim);
     let quotients = quotient_column(dim);
     let mut sum = Vec3::zero();
     for k in 0..list.count {
         let c = at + width * k;
-        let j = target_of(scene, index, Kind::Fluid, c);
-        let g = read::vector(scene, c + CONTACT_GRADIENT, dim);
-        let place = column_at(work, dim, n, quotients, j);
+        let j = target_of(over.scene, over.index, Kind::Fluid, c);
+        let g = read::vector(over.scene, c + CONTACT_GRADIENT, dim);
+        let place = column_at(work, dim, over.n, quotients, j);
         sum = sum.add(g.scale(work[place]));
     }
     sum
 }
 
 // The dij_pjl of fluid particle i, where the quotients stand in their column.
-pub fn dij_pjl_of(
-    scene: &[u8],
-    index: &[usize],
-    work: &[f64],
-    dim: u8,
-    n: usize,
-    dt: f64,
-    i: usize,
-) -> Vec3
-    requires timed_pass { TimedPass scene.now index.now dim n dt × (i < n) }
-    requires dij_ready { DijReady (scene_of scene.now) dim n work.now }
-    ensures { let s = scene_of scene.now in
-        coordinates dim result ≡ dij_pjl s (coefficients s) (pressures_in dim n work.now) (particle s i) }
+pub fn dij_pjl_of(over: Over, work: &[f64], dt: f64, i: usize) -> Vec3
+    requires timed_pass { TimedOn over dt × (i < over.n) }
+    requires dij_ready { DijReady (scene_of over.scene.now) over.dim over.n work.now }
+    ensures { let o = over.entry in
+        let s = scene_of o.scene.now in
+        coordinates o.dim result ≡ dij_pjl s (coefficients s) (pressures_in o.dim o.n work.now) (particle s i) }
 {
-    let list = contacts_of(scene, index, dim, Kind::Fluid, i);
-    dij_sum(scene, index, work, dim, n, list).scale(dt * dt)
+    let list = contacts_of(over.scene, over.index, over.dim, Kind::Fluid, i);
+    dij_sum(over, work, list).scale(dt * dt)
 }
 
 // What a fluid contact with gradient g adds to the pressure sum of its owner, where it names row j.
@@ -148,59 +137,45 @@ fn in_column(work: &[f64], dim: u8, n: usize, column: usize, i: usize) -> f64
 }
 
 // The sum of compute_next_pressures over the fluid contacts.
-fn fluid_pressure_sum(
-    scene: &[u8],
-    index: &[usize],
-    work: &[f64],
-    dim: u8,
-    n: usize,
-    list: ContactList,
-    owner: Owner,
-) -> f64
-    requires pass_over { PassOver scene.now index.now dim n × Iterating (scene_of scene.now) dim n work.now }
-    requires contacts_ready { ContactsReady Kind.Fluid dim scene.now list }
-    ensures { let b = scene.now in
+fn fluid_pressure_sum(over: Over, work: &[f64], list: ContactList, owner: Owner) -> f64
+    requires pass_over { PassOn over × Iterating (scene_of over.scene.now) over.dim over.n work.now }
+    requires contacts_ready { ContactsReady Kind.Fluid over.dim over.scene.now list }
+    ensures { let o = over.entry in
+        let b = o.scene.now in
         let l = work.now in
-        let term = fluid_term dim (scene_of b) (pressures_in dim n l) (dijs_in dim n l) owner in
-        result ≡ over_list Kind.Fluid dim b list (with_term term) +0 }
+        let term = fluid_term o.dim (scene_of b) (pressures_in o.dim o.n l) (dijs_in o.dim o.n l) owner in
+        result ≡ over_list Kind.Fluid o.dim b list (with_term term) +0 }
 {
     let at = list.at;
-    let width = contact_width(dim);
+    let width = contact_width(over.dim);
     let mut sum = 0.0;
     for k in 0..list.count {
         let c = at + width * k;
-        let j = target_of(scene, index, Kind::Fluid, c);
-        sum += fluid_term(scene, work, dim, j, owner, c);
+        let j = target_of(over.scene, over.index, Kind::Fluid, c);
+        sum += fluid_term(over.scene, work, over.dim, j, owner, c);
     }
     sum
 }
 
 // The same sum over the boundary contacts, from that over the fluid contacts on; d is the particle's dij_pjl.
-fn boundary_pressure_sum(
-    scene: &[u8],
-    index: &[usize],
-    work: &[f64],
-    dim: u8,
-    n: usize,
-    list: ContactList,
-    d: Vec3,
-    from: f64,
-) -> f64
-    requires pass_over { PassOver scene.now index.now dim n × Iterating (scene_of scene.now) dim n work.now }
-    requires contacts_ready { ContactsReady Kind.Boundary dim scene.now list }
-    ensures { let b = scene.now in
-        let term = boundary_term (scene_of b) list.density0 (coordinates dim d) in
-        result ≡ over_list Kind.Boundary dim b list (with_term term) from }
+fn boundary_pressure_sum(over: Over, work: &[f64], list: ContactList, d: Vec3, from: f64) -> f64
+    requires pass_over { PassOn over × Iterating (scene_of over.scene.now) over.dim over.n work.now }
+    requires contacts_ready { ContactsReady Kind.Boundary over.dim over.scene.now list }
+    ensures { let o = over.entry in
+        let b = o.scene.now in
+        let term = boundary_term (scene_of b) list.density0 (coordinates o.dim d) in
+        result ≡ over_list Kind.Boundary o.dim b list (with_term term) from }
 {
+    let dim = over.dim;
     let at = list.at;
     let density0 = list.density0;
     let width = contact_width(dim);
     let mut sum = from;
     for k in 0..list.count {
         let c = at + width * k;
-        let j = target_of(scene, index, Kind::Boundary, c);
-        let g = read::vector(scene, c + CONTACT_GRADIENT, dim);
-        let place = volume_at(work, dim, n, j);
+        let j = target_of(over.scene, over.index, Kind::Boundary, c);
+        let g = read::vector(over.scene, c + CONTACT_GRADIENT, dim);
+        let place = volume_at(work, dim, over.n, j);
         sum += work[place] * density0 * d.dot(g, dim);
     }
     sum
@@ -251,32 +226,26 @@ fn next_from(
 }
 
 // The next pressure of fluid particle i, where the dij_pjl of this iteration stand in the rows.
-pub fn next_pressure_of(
-    scene: &[u8],
-    index: &[usize],
-    work: &[f64],
-    dim: u8,
-    n: usize,
-    dt: f64,
-    i: usize,
-) -> Next
-    requires timed_pass { TimedPass scene.now index.now dim n dt × (i < n) }
-    requires iterating { Iterating (scene_of scene.now) dim n work.now }
-    ensures { let s = scene_of scene.now in
+pub fn next_pressure_of(over: Over, work: &[f64], dt: f64, i: usize) -> Next
+    requires timed_pass { TimedOn over dt × (i < over.n) }
+    requires iterating { Iterating (scene_of over.scene.now) over.dim over.n work.now }
+    ensures { let o = over.entry in
+        let s = scene_of o.scene.now in
         let l = work.now in
-        NextIs result (next_pressure s (coefficients s) (pressures_in dim n l) (dijs_in dim n l) i) }
+        NextIs result (next_pressure s (coefficients s) (pressures_in o.dim o.n l) (dijs_in o.dim o.n l) i) }
 {
-    let fluid = contacts_of(scene, index, dim, Kind::Fluid, i);
-    let boundary = contacts_of(scene, index, dim, Kind::Boundary, i);
-    let owner = owner_of(work, dim, n, dt, i);
+    let dim = over.dim;
+    let fluid = contacts_of(over.scene, over.index, dim, Kind::Fluid, i);
+    let boundary = contacts_of(over.scene, over.index, dim, Kind::Boundary, i);
+    let owner = owner_of(work, dim, over.n, dt, i);
     let dij = owner.dij;
-    let part = fluid_pressure_sum(scene, index, work, dim, n, fluid, owner);
-    let sum = boundary_pressure_sum(scene, index, work, dim, n, boundary, dij, part);
+    let part = fluid_pressure_sum(over, work, fluid, owner);
+    let sum = boundary_pressure_sum(over, work, boundary, dij, part);
     next_from(
-        read::criterion(scene),
+        read::criterion(over.scene),
         fluid.density0,
-        in_column(work, dim, n, aii_column(dim), i),
-        in_column(work, dim, n, predicted_column(dim), i),
+        in_column(work, dim, over.n, aii_column(dim), i),
+        in_column(work, dim, over.n, predicted_column(dim), i),
         sum,
         owner.pressure,
     )

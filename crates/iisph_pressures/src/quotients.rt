@@ -18,7 +18,8 @@ pub fn quotient_of(work: &[f64], dim: u8, n: usize, i: usize) -> f64
     -work[row + MASS] * work[pressure] / (rho * rho)
 }
 
-// p / (rho × rho) of fluid particle i of n.
+// p / (rho × rho) of fluid particle i of n. It stays beside `quotient_of`: there -m × p comes before the division, and
+// each operation rounds, so neither gives the other.
 pub fn share_of(work: &[f64], dim: u8, n: usize, i: usize) -> f64
     requires { (i < n) × (volumes_at dim n ≤ length work.now) }
     ensures { result ≡ row_share dim work.now n i }

@@ -10,6 +10,8 @@ use Rattle.scene_format.specs.Format.{axes_of, boundary_record_width, boundary_c
 use Rattle.scene_format.specs.Scene.{Scene, fluid_size, boundary_size, particle, boundary}
 use Rattle.scene_format.specs.SceneOf.{boundary_weights, scene_of}
 use Rattle.scene_index.specs.Index.{Indexed}
+use Rattle.iisph_rows.specs.declared.over.Drive.{Drive}
+use Rattle.iisph_rows.specs.declared.over.Over.{Over}
 use Rattle.iisph_rows.specs.Rows.{volumes_at, dij_slot, mass_slot, Rows, Behind}
 use Rattle.std.specs.declared.option.Option.{Option}
 use Rattle.std.specs.declared.option.Option.TheVariants.{Some, None}
@@ -31,6 +33,16 @@ pub record TimedPass (b index : List ℕ) (d n : ℕ) (t : Float) : Type 0 where
 pub record DrivenPass (b index : List ℕ) (d n : ℕ) (t : Float) (gravity : Vec3) : Type 0 where
   pub timed : TimedPass b index d n t
   pub gravity_is : coordinates d gravity ≡ (scene_of b).header.gravity
+
+-- the same of what a pass is handed
+abbrev pub PassOn : Over → Type 0
+PassOn over = PassOver over.scene.now over.index.now over.dim over.n
+
+abbrev pub TimedOn : Over → Float → Type 0
+TimedOn over t = TimedPass over.scene.now over.index.now over.dim over.n t
+
+abbrev pub DrivenOn : Over → Drive → Type 0
+DrivenOn over drive = DrivenPass over.scene.now over.index.now over.dim over.n drive.dt drive.gravity
 
 -- room for rows and columns of n particles, for d axes, and for the volumes
 abbrev pub Room : Scene → ℕ → ℕ → List Float → Type 0

@@ -16,6 +16,7 @@ ghost use Rattle.scene_walk.specs.Accepted.{BoundaryRecordOk};
 ghost use Rattle.iisph_rows.specs.Passes.{volumes, volume_at, Room};
 ghost use Rattle.iisph_rows.specs.Rows.{volumes_at};
 
+use crate::over::Over;
 use math::is_zero;
 use scene_format::Kind;
 use scene_format::format::{BOUNDARY_CONTACT_WIDTH, CONTACT_WEIGHT, boundary_count};
@@ -73,29 +74,24 @@ fn put_volumes(
 }
 
 // The pass: the volumes of all boundary particles, boundary by boundary.
-pub fn compute_boundary_volumes(
-    scene: &[u8],
-    layout: Layout,
-    index: &[usize],
-    dim: u8,
-    n: usize,
-    work: &mut [f64],
-)
-    requires indexed { Indexed scene.now index.now × Passed scene.now layout }
-    requires n_value { (n ≡ fluid_size (scene_of scene.now)) × Room (scene_of scene.now) dim n work.old }
-    ensures { work.new ≡ sets work.old (volumes_at dim n) (volumes (scene_of scene.now)) }
+pub fn compute_boundary_volumes(over: Over, layout: Layout, work: &mut [f64])
+    requires indexed { Indexed over.scene.now over.index.now × Passed over.scene.now layout }
+    requires n_value { let s = scene_of over.scene.now in
+        (over.n ≡ fluid_size s) × Room s over.dim over.n work.old }
+    ensures { let o = over.entry in
+        work.new ≡ sets work.old (volumes_at o.dim o.n) (volumes (scene_of o.scene.now)) }
 {
-    let behind = work_width(dim) * n;
+    let behind = work_width(over.dim) * over.n;
     let boundaries = layout.boundaries;
     let mut first = 0;
     for &head in &boundaries.heads[..boundaries.number] {
-        let count = particles(scene, Kind::Boundary, head);
+        let count = particles(over.scene, Kind::Boundary, head);
         put_volumes(
-            scene,
-            index,
+            over.scene,
+            over.index,
             first,
             count,
-            keeps(scene, head),
+            keeps(over.scene, head),
             behind + first,
             work,
         );

@@ -4,6 +4,7 @@
 #![tactic(auto)]
 
 pub mod boundary_volumes;
+pub mod over;
 pub mod records;
 pub mod rows;
 pub mod zeros;

@@ -65,7 +65,7 @@ lengths_of-needed-requires c = c.requires.passed.0
 
 pub clear-requires : goal.clear-requires
 clear-requires c =
-    let needed : c.lengths_of-needed.result.work ≡ work_needed (scene_of c.args.scene.now) =
+    let needed : c.lengths_of-needed.result.work ≡ work_needed (scene_of c.args.over.scene.now) =
     ap (λ n. n.work) c.lengths_of-needed.ensures in
     let p = c.requires in
     omega (
@@ -78,7 +78,7 @@ clear-requires c =
 
 pub returns : goal.returns
 returns c =
-    let needed : c.lengths_of-needed.result.work ≡ work_needed (scene_of c.args.scene.now) =
+    let needed : c.lengths_of-needed.result.work ≡ work_needed (scene_of c.args.over.scene.now) =
     ap (λ n. n.work) c.lengths_of-needed.ensures in
     let p = c.requires in
     finished p.passed.0 p.pass_over.0.axes (axes-are _ p.pass_over.0.axes) p.pass_over.0.size _ p.iteration_ready

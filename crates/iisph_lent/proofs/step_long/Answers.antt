@@ -26,7 +26,7 @@ pub finish-requires : goal.finish-requires
 finish-requires c =
     let passed = c.requires.passed.0 in
     let size = fluid-total passed in
-    let is = c.axes-dim.ensures.0 in
+    let is = c.axes.ensures.0 in
     let ready = c.in_ok-prepare.was in
     let list = c.prepare.ensures.list in
     let long = prepared_long c.args.scene.now c.args.work.now ready list in

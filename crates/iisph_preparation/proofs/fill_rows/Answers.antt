@@ -13,12 +13,11 @@ pub traverse-requires-2-clause-room : goal.traverse-requires-2-clause-room
 unfolding Ready
 traverse-requires-2-clause-room c =
     let over = c.requires.driven_pass.timed.over in
-    let ready = advected_ready c.args.scene.now over.axes (axes-are c.args.scene.now over.axes) over.size
-    c.args.work.now c.requires.room.0 c.requires.room.1 c.traverse.ensures in
+    let room = c.requires.room in
+    let ready = advected_ready _ over.axes (axes-are _ over.axes) over.size _ room.0 room.1 c.traverse.ensures in
     (ready.room, ready)
 
 pub returns : goal.returns
 returns c =
     let over = c.requires.driven_pass.timed.over in
-    rows_filled_lem c.args.scene.now over.axes (axes-are c.args.scene.now over.axes) over.size c.args.work.now
-    c.traverse.ensures c.traverse-2.ensures
+    rows_filled_lem _ over.axes (axes-are _ over.axes) over.size _ c.traverse.ensures c.traverse-2.ensures

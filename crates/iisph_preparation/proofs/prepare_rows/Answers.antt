@@ -29,7 +29,7 @@ returns-then-is_err c =
     let room = c.requires.passed.1 in
     let volumes = c.compute_boundary_volumes.ensures in
     let refused = c.is_err.ensures.value in
-    let needed : c.lengths_of-needed.result.work ≡ work_needed (scene_of c.args.scene.now) =
+    let needed : c.lengths_of-needed.result.work ≡ work_needed (scene_of c.args.over.scene.now) =
     ap (λ n. n.work) c.lengths_of-needed.ensures in (
       answer_made _ over.axes over.size _ room volumes c.fill_rows.ensures c.zero_refusal-answer.ensures,
       work_cleared _ over.axes over.size _ room volumes c.fill_rows.ensures _ (sym refused ∙ c.if-is_err.true) needed

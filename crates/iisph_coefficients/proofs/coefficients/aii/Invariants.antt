@@ -8,5 +8,5 @@ use Rattle.iisph_coefficients.proofs.coefficients.aii.Given as goal
 
 abbrev pub invariant-loop-k : goal.invariant-loop-k
 invariant-loop-k g l =
-    l.sum
-    ≡ summed (kind_by g.row.FLUID) l.dim l.scene l.list (returned (coordinates l.dim l.d) l.factor) l.initial.sum l.k
+    let sum = summed (kind_by g.row.FLUID) l.over.dim l.over.scene.now l.list in
+    l.sum ≡ sum (returned (coordinates l.over.dim l.d) l.factor) l.initial.sum l.k

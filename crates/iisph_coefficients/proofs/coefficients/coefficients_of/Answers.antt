@@ -15,24 +15,23 @@ use Rattle.iisph_coefficients.proofs.coefficients.coefficients_of.Goals.{Start, 
 
 -- ---- the two lists of contacts
 
-below : (c : Start) → c.args.i < fluid_size (scene_of c.args.scene.now)
+below : (c : Start) → c.args.i < fluid_size (scene_of c.args.over.scene.now)
 below c = omega (arith, c.requires.timed_pass.0.over.size, c.requires.timed_pass.1)
 
-module _ (c : After-contacts_of-boundary) (h : c.args.i < fluid_size (scene_of c.args.scene.now)) where
-  fluid : ContactsAre c.args.scene.now Fluid (particle (scene_of c.args.scene.now) c.args.i) c.contacts_of-fluid.result
+module _ (c : After-contacts_of-boundary) (h : c.args.i < fluid_size (scene_of c.args.over.scene.now)) where
+  fluid : let b = c.args.over.scene.now in
+      ContactsAre b Fluid (particle (scene_of b) c.args.i) c.contacts_of-fluid.result
   fluid = contacts_are c.requires.timed_pass.0.over.indexed _ h c.contacts_of-fluid.ensures
 
-  boundary : ContactsAre c.args.scene.now Boundary (particle (scene_of c.args.scene.now) c.args.i)
-      c.contacts_of-boundary.result
+  boundary : let b = c.args.over.scene.now in
+      ContactsAre b Boundary (particle (scene_of b) c.args.i) c.contacts_of-boundary.result
   boundary = contacts_are c.requires.timed_pass.0.over.indexed _ h c.contacts_of-boundary.ensures
 
-  fluid_ready : let a = c.args in
-      SumReady Fluid a.scene.now a.index.now a.work.now a.dim a.n c.contacts_of-fluid.result
+  fluid_ready : SumReady Fluid c.args.over c.args.work.now c.contacts_of-fluid.result
   fluid_ready =
       let over = c.requires.timed_pass.0.over in (over, list_ready over.axes fluid, c.requires.coefficients_ready)
 
-  boundary_ready : let a = c.args in
-      SumReady Boundary a.scene.now a.index.now a.work.now a.dim a.n c.contacts_of-boundary.result
+  boundary_ready : SumReady Boundary c.args.over c.args.work.now c.contacts_of-boundary.result
   boundary_ready =
       let over = c.requires.timed_pass.0.over in (over, list_ready over.axes boundary, c.requires.coefficients_ready)
 
@@ -95,7 +94,7 @@ returns c =
     c.densities-part.ensures.1
     c.densities-sums.ensures.0
     c.densities-sums.ensures.1
-    (rw (c.zero.ensures c.args.dim (pass_axes over).most) at c.dii-part.ensures)
+    (rw (c.zero.ensures c.args.over.dim (pass_axes over).most) at c.dii-part.ensures)
     c.dii-d.ensures
     (own_mass over p.coefficients_ready _ here c.row_at-row.ensures.0)
     c.aii-part.ensures

@@ -15,5 +15,5 @@ loop-k-preserved g c =
     let w = c.contact_width-width.ensures.0 in (
       weighed_next _ _ _ c.args.list _ w c.mass-m.ensures _ c.loop-k.invariant.0 c.double.ensures,
       approached_next _ _ _ c.args.list _ w c.mass-m.ensures refl _ _ c.loop-k.invariant.1
-          c.velocity-vj.ensures (c.sub.ensures c.args.dim) c.approach.ensures,
+          c.velocity-vj.ensures (c.sub.ensures c.args.over.dim) c.approach.ensures,
     )

@@ -8,6 +8,6 @@ use Rattle.iisph_coefficients.proofs.coefficients.densities.Given as goal
 
 abbrev pub invariant-loop-k : goal.invariant-loop-k
 invariant-loop-k g l =
-    let over = summed (kind_by g.row.FLUID) l.dim l.scene l.list in
-    (l.sums.density ≡ over weighed l.initial.sums.density l.k)
-    × (l.sums.delta ≡ over (approached (coordinates l.dim l.v)) l.initial.sums.delta l.k)
+    let sum = summed (kind_by g.row.FLUID) l.over.dim l.over.scene.now l.list in
+    (l.sums.density ≡ sum weighed l.initial.sums.density l.k)
+    × (l.sums.delta ≡ sum (approached (coordinates l.over.dim l.v)) l.initial.sums.delta l.k)

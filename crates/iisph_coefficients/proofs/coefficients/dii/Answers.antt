@@ -13,4 +13,4 @@ loop-k-init g c = refl
 pub loop-k-preserved : goal.loop-k-preserved
 loop-k-preserved g c =
     pushed_next _ _ _ c.args.list _ c.contact_width-width.ensures.0 c.mass-m.ensures c.vector.ensures _ _
-    c.loop-k.invariant (c.scale.ensures c.args.dim) (c.add-sum.ensures c.args.dim)
+    c.loop-k.invariant (c.scale.ensures c.args.over.dim) (c.add-sum.ensures c.args.over.dim)

@@ -8,5 +8,6 @@ use Rattle.iisph_coefficients.proofs.coefficients.dii.Given as goal
 
 abbrev pub invariant-loop-k : goal.invariant-loop-k
 invariant-loop-k g l =
-    coordinates l.dim l.sum
-    ≡ summed (kind_by g.row.FLUID) l.dim l.scene l.list (pushed l.factor) (coordinates l.dim l.initial.sum) l.k
+    let o = l.over in
+    let sum = summed (kind_by g.row.FLUID) o.dim o.scene.now l.list in
+    coordinates o.dim l.sum ≡ sum (pushed l.factor) (coordinates o.dim l.initial.sum) l.k

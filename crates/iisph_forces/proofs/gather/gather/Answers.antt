@@ -1,5 +1,5 @@
--- `iisph_forces::gather::gather` meets its contract: where the boundary's entry is not 0, the force stands as many kept
--- answers behind it as the particle's number says. Assumes nothing.
+-- `iisph_forces::gather::gather` meets its contract: where the boundary keeps forces, the force stands as many kept
+-- answers behind the first as the particle's number says. Assumes nothing.
 use native.Mathlib.Omega.{arith}
 use Rattle.iisph_motion.proofs.Accelerations.{pass_axes}
 use Rattle.iisph_forces.proofs.Contacts.{force_kept, force_offset_lem, force_room, force_none}
@@ -13,7 +13,7 @@ overflow_add-k c =
     let contact = p.force_contact in
     omega (
       arith,
-      force_room over.indexed contact.0 contact.1 c.contact_name-name.ensures c.if-first-gt0.true
+      force_room over.indexed contact.0 contact.1 c.contact_name-name.ensures c.in-Some.is
           c.kept_answer_width.ensures.0 over.axes contact.2,
     )
 
@@ -23,7 +23,7 @@ vector_at-requires c =
     let over = p.pass_over.0 in
     let contact = p.force_contact in (
       pass_axes over,
-      force_room over.indexed contact.0 contact.1 c.contact_name-name.ensures c.if-first-gt0.true
+      force_room over.indexed contact.0 contact.1 c.contact_name-name.ensures c.in-Some.is
           c.kept_answer_width.ensures.0 over.axes contact.2,
     )
 
@@ -33,16 +33,17 @@ put_vector-requires c =
     let over = p.pass_over.0 in
     let contact = p.force_contact in (
       pass_axes over,
-      force_room over.indexed contact.0 contact.1 c.contact_name-name.ensures c.if-first-gt0.true
+      force_room over.indexed contact.0 contact.1 c.contact_name-name.ensures c.in-Some.is
           c.kept_answer_width.ensures.0 over.axes contact.2,
     )
 
-pub returns-then-first-gt0 : goal.returns-then-first-gt0
-returns-then-first-gt0 c =
+pub returns-in-Some : goal.returns-in-Some
+returns-in-Some c =
+    let a = c.args in
     let p = c.requires in
-    let d = c.args.dim in
-    let taken = c.if-first-gt0.true in
-    gather_kept d c.args.scene.now c.args.at c.args.state c.args.answers.now
+    let d = a.over.dim in
+    let taken = c.in-Some.is in
+    gather_kept d a.over.scene.now a.at a.state a.answers.now
     (force_kept p.pass_over.0.indexed p.force_contact.0 p.force_contact.1 c.contact_name-name.ensures taken)
     c.put_vector.ensures
     (force_offset_lem p.pass_over.0.indexed p.force_contact.0 p.force_contact.1 c.contact_name-name.ensures taken
@@ -52,9 +53,10 @@ returns-then-first-gt0 c =
     (c.scale.ensures d)
     c.boundary_acceleration-a.ensures
 
-pub returns-else-first-gt0 : goal.returns-else-first-gt0
-returns-else-first-gt0 c =
+pub returns-in_default : goal.returns-in_default
+returns-in_default c =
+    let a = c.args in
     let p = c.requires in
-    gather_none c.args.dim c.args.scene.now c.args.at c.args.state c.args.answers.now
+    gather_none a.over.dim a.over.scene.now a.at a.state a.answers.now
     (force_none p.pass_over.0.indexed p.force_contact.0 p.force_contact.1 c.contact_name-name.ensures
-    c.if-first-gt0.false)
+    c.in_default.is)

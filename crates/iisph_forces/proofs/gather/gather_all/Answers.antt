@@ -15,7 +15,8 @@ pub gather_list-requires-clause-force_contacts : goal.gather_list-requires-claus
 gather_list-requires-clause-force_contacts c =
     let p = c.requires in
     let over = p.pass_over.0 in
-    let below : c.loop-i.i < fluid_size (scene_of c.args.scene.now) = omega (arith, c.loop-i-test.true, over.size) in (
+    let s = scene_of c.args.over.scene.now in
+    let below : c.loop-i.i < fluid_size s = omega (arith, c.loop-i-test.true, over.size) in (
       force_contacts over.indexed c.loop-i.i below over.axes c.contacts_of-list.ensures,
       p.forces_known.0,
       omega (arith, c.loop-i.auto, p.forces_known.1),
@@ -24,9 +25,10 @@ gather_list-requires-clause-force_contacts c =
 pub loop-i-preserved : goal.loop-i-preserved
 loop-i-preserved c =
     let a = c.args in
-    let s = scene_of a.scene.now in
+    let d = a.over.dim in
+    let s = scene_of a.over.scene.now in
     let over = c.requires.pass_over.0 in
     let below : c.loop-i.i < fluid_size s = omega (arith, c.loop-i-test.true, over.size) in
-    one_more_particle a.dim s (pressures_in a.dim a.n a.work.now) a.answers.now c.loop-i.i c.loop-i.invariant
+    one_more_particle d s (pressures_in d a.over.n a.work.now) a.answers.now c.loop-i.i c.loop-i.invariant
     (from_made over.indexed c.loop-i.i below over.axes c.contacts_of-list.ensures c.pressure_state_of-state.ensures
     c.loop-i.answers c.gather_list.ensures)

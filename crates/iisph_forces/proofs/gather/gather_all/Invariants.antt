@@ -8,4 +8,5 @@ use Rattle.iisph_forces.proofs.gather.gather_all.Given as goal
 
 abbrev pub invariant-loop-i : goal.invariant-loop-i
 invariant-loop-i l =
-    l.answers ≡ gathered_all l.dim (scene_of l.scene) (pressures_in l.dim l.n l.work) l.i l.initial.answers
+    let o = l.over in
+    l.answers ≡ gathered_all o.dim (scene_of o.scene.now) (pressures_in o.dim o.n l.work) l.i l.initial.answers

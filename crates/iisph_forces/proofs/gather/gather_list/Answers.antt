@@ -15,6 +15,8 @@ loop-k-init c = refl
 pub loop-k-preserved : goal.loop-k-preserved
 loop-k-preserved c =
     let a = c.args in
-    let s = scene_of a.scene.now in
-    fold_next (gathered a.dim s (state_gain s a.state)) a.answers.now Boundary a.dim a.scene.now a.list.at c.loop-k.k
+    let d = a.over.dim in
+    let b = a.over.scene.now in
+    let s = scene_of b in
+    fold_next (gathered d s (state_gain s a.state)) a.answers.now Boundary d b a.list.at c.loop-k.k
     c.contact_width-width.ensures.0 c.loop-k.invariant c.gather.ensures

@@ -9,6 +9,7 @@ use Rattle.iisph_forces.proofs.gather.gather_list.Given as goal
 
 abbrev pub invariant-loop-k : goal.invariant-loop-k
 invariant-loop-k l =
-    l.answers
-    ≡ over_first Boundary l.dim l.scene l.at (gathered l.dim (scene_of l.scene)
-    (state_gain (scene_of l.scene) l.state)) l.initial.answers l.k
+    let d = l.over.dim in
+    let b = l.over.scene.now in
+    let s = scene_of b in
+    l.answers ≡ over_first Boundary d b l.at (gathered d s (state_gain s l.state)) l.initial.answers l.k

@@ -5,4 +5,4 @@ use Rattle.iisph_forces.proofs.initial_forces.put_boundary.Given as goal
 
 abbrev pub invariant-loop-j : goal.invariant-loop-j
 invariant-loop-j l =
-    BoundaryPut l.dim l.scene l.initial.answers l.first l.count (l.j - l.first) l.to l.answers
+    BoundaryPut l.over.dim l.over.scene.now l.initial.answers l.first l.count (l.j - l.first) l.to l.answers

@@ -10,9 +10,9 @@ use Rattle.iisph_forces.proofs.initial_forces.put_initial.Goals as goal
 
 pub loop-m-init : goal.loop-m-init
 loop-m-init c =
-    let d = c.args.dim in
+    let d = c.args.over.dim in
     no_boundaries _ _ _ _
-    (ap (λ (w : ℕ). w * c.args.n) c.fluid_answer_width.ensures.0
+    (ap (λ (w : ℕ). w * c.args.over.n) c.fluid_answer_width.ensures.0
     ∙ ap (λ (n : ℕ). fluid_answer_width d * n) c.requires.pass_over.0.size)
 
 pub bounds-heads-m : goal.bounds-heads-m
@@ -24,8 +24,8 @@ particles-count-requires c = (boundary_turn c.requires.passed.0 _ c.loop-m-test.
 pub keeps-kept-requires : goal.keeps-kept-requires
 keeps-kept-requires c = (boundary_turn c.requires.passed.0 _ c.loop-m-test.true).within.head_room
 
-pub force_start-requires : goal.force_start-requires
-force_start-requires c =
+pub overflow_add-to : goal.overflow_add-to
+overflow_add-to c =
     let p = c.requires in
     let run =
     turn_run p.passed.0 (boundary_turn p.passed.0 _ c.loop-m-test.true) c.loop-m.invariant.start
@@ -59,7 +59,7 @@ loop-m-preserved c =
     one_more_boundary _ _ _ _ c.loop-m.invariant turn.below turn p.pass_over.0.axes p.passed.0.walk _ run
     c.particles-count.ensures.0
     (sym c.keeps-kept.ensures)
-    c.force_start.ensures
+    c.then_some.ensures
     c.put_boundary-to.ensures.0
     c.put_boundary-to.ensures.1
 

@@ -5,4 +5,4 @@ use Rattle.iisph_forces.proofs.initial_forces.put_initial.Given as goal
 
 abbrev pub invariant-loop-m : goal.invariant-loop-m
 invariant-loop-m l =
-    InitialPut l.dim l.scene l.initial.forces l.initial.answers l.first l.to l.m l.forces l.answers
+    InitialPut l.over.dim l.over.scene.now l.initial.forces l.initial.answers l.first l.to l.m l.forces l.answers

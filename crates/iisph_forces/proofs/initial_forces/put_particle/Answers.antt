@@ -13,7 +13,7 @@ use Rattle.iisph_forces.proofs.initial_forces.put_particle.Goals as goal
 
 pub bounds-answers-at : goal.bounds-answers-at
 bounds-answers-at c =
-    omega (arith, c.requires.fact.2, width_some c.args.dim (scene_of c.args.scene.now) c.args.j)
+    omega (arith, c.requires.fact.2, width_some c.args.over.dim (scene_of c.args.over.scene.now) c.args.j)
 
 pub record_of-record-requires : goal.record_of-record-requires
 unfolding size_of
@@ -41,7 +41,7 @@ pub put_vector-requires : goal.put_vector-requires
 put_vector-requires c =
     let p = c.requires in
     let wide =
-    width_kept c.args.dim (scene_of c.args.scene.now) c.args.j (p.fact.1 ∙ c.if-keeps.true) in
+    width_kept c.args.over.dim (scene_of c.args.over.scene.now) c.args.j (p.fact.1 ∙ c.if-keeps.true) in
     (pass_axes p.pass_over.0, simp length-set (omega (arith, wide, p.fact.2)))
 
 pub returns-then-keeps : goal.returns-then-keeps
@@ -49,12 +49,12 @@ returns-then-keeps c =
     let a = c.args in
     let p = c.requires in
     let over = p.pass_over.0 in
-    let s = scene_of a.scene.now in
+    let s = scene_of a.over.scene.now in
     let kept = p.fact.1 ∙ c.if-keeps.true in (
-      omega (arith, width_kept a.dim s a.j kept, c.kept_answer_width-width.ensures.0),
+      omega (arith, width_kept a.over.dim s a.j kept, c.kept_answer_width-width.ensures.0),
       c.put_vector.ensures
           ∙ initial_kept s a.j a.answers.now a.at
-          (volume_read s a.dim a.n p.pass_over.1.volume a.j p.fact.0 c.volume_at.ensures.0)
+          (volume_read s a.over.dim a.over.n p.pass_over.1.volume a.j p.fact.0 c.volume_at.ensures.0)
           kept
           (c.vector-force.ensures
           ∙ force_here over.indexed a.j p.fact.0 kept over.axes c.record_of-record.ensures c.vector_width.ensures.0),
@@ -64,10 +64,10 @@ pub returns : goal.returns
 returns c =
     let a = c.args in
     let p = c.requires in
-    let s = scene_of a.scene.now in
+    let s = scene_of a.over.scene.now in
     let none = p.fact.1 ∙ c.if-keeps.false in (
-      omega (arith, width_not_kept a.dim s a.j none),
+      omega (arith, width_not_kept a.over.dim s a.j none),
       initial_not_kept s a.j a.answers.now a.at
-          (volume_read s a.dim a.n p.pass_over.1.volume a.j p.fact.0 c.volume_at.ensures.0)
+          (volume_read s a.over.dim a.over.n p.pass_over.1.volume a.j p.fact.0 c.volume_at.ensures.0)
           none,
     )

@@ -23,7 +23,7 @@ shared_ref_as_front-head-items c = fluids-few c.requires.passed
 
 pub loop-head-init : goal.loop-head-init
 loop-head-init c =
-    none_averaged _ _ _ _ _ _ (sym (c.requires.axes.1 ∙ fluid_size-sum c.args.scene.now))
+    none_averaged _ _ _ _ _ _ (sym (c.requires.axes.1 ∙ fluid_size-sum c.args.over.scene.now))
 
 pub particles-count-requires : goal.particles-count-requires
 particles-count-requires c =
@@ -32,25 +32,25 @@ particles-count-requires c =
 pub with_fluid-error-requires : goal.with_fluid-error-requires
 with_fluid-error-requires c =
     let turn = head_turn c.requires.passed c.loop-head.head-index c.loop-head-test.true in
-    let below : c.loop-head.head-index < length (counts_of Fluid c.args.scene.now) =
-    rw (length_counts Fluid c.args.scene.now) turn.below in
-    let count : c.particles-count.result ≡ get_or (counts_of Fluid c.args.scene.now) c.loop-head.head-index 0 =
+    let below : c.loop-head.head-index < length (counts_of Fluid c.args.over.scene.now) =
+    rw (length_counts Fluid c.args.over.scene.now) turn.below in
+    let count : c.particles-count.result ≡ get_or (counts_of Fluid c.args.over.scene.now) c.loop-head.head-index 0 =
     c.particles-count.ensures.0 ∙ turn.count in
-    let room : c.loop-head.from + c.particles-count.result ≤ c.args.n =
+    let room : c.loop-head.from + c.particles-count.result ≤ c.args.over.n =
     omega (arith, next_rows _ _ _ _ _ _ c.loop-head.invariant below, count) in
     let p = c.requires.axes in (p.0, room, p.2)
 
 pub loop-head-preserved : goal.loop-head-preserved
 loop-head-preserved c =
     let turn = head_turn c.requires.passed c.loop-head.head-index c.loop-head-test.true in
-    let below : c.loop-head.head-index < length (counts_of Fluid c.args.scene.now) =
-    rw (length_counts Fluid c.args.scene.now) turn.below in
+    let below : c.loop-head.head-index < length (counts_of Fluid c.args.over.scene.now) =
+    rw (length_counts Fluid c.args.over.scene.now) turn.below in
     next_averaged _ _ _ _ _ _ c.loop-head.invariant below (c.particles-count.ensures.0 ∙ turn.count)
     c.with_fluid-error.ensures
 
 pub returns : goal.returns
 returns c =
-    let b = c.args.scene.now in
+    let b = c.args.over.scene.now in
     let fluids = c.args.layout.fluids in
     let all = length-take-le fluids.number fluids.heads (omega (arith, fluids-few c.requires.passed)) in
     rw (

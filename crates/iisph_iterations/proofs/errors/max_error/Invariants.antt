@@ -7,4 +7,5 @@ use Rattle.iisph_iterations.proofs.errors.max_error.Given as goal
 
 abbrev pub invariant-loop-head : goal.invariant-loop-head
 invariant-loop-head l =
-    Averaged l.criterion l.summation (counts_of Fluid l.scene) l.dim l.n l.work l.head-index l.from l.error
+    Averaged l.criterion l.summation (counts_of Fluid l.over.scene.now) l.over.dim l.over.n l.work l.head-index l.from
+    l.error

@@ -15,14 +15,14 @@ pub traverse-requires-2-clause-room : goal.traverse-requires-2-clause-room
 unfolding Ready
 traverse-requires-2-clause-room c =
     let over = c.requires.driven_pass.timed.over in
-    let there = quotients_there c.args.scene.now over.axes over.size _ c.requires.passed.1 c.traverse.ensures in
+    let there = quotients_there c.args.over.scene.now over.axes over.size _ c.requires.passed.1 c.traverse.ensures in
     (there.room, there)
 
 pub traverse-requires-3-clause-room : goal.traverse-requires-3-clause-room
 unfolding Ready
 traverse-requires-3-clause-room c =
     let over = c.requires.driven_pass.timed.over in
-    let there = dij_there c.args.scene.now over.axes over.size _ c.requires.passed.1 c.traverse.ensures
+    let there = dij_there c.args.over.scene.now over.axes over.size _ c.requires.passed.1 c.traverse.ensures
     c.traverse-2.ensures in
     (there.room, there)
 
@@ -30,7 +30,7 @@ pub traverse-requires-4-clause-room : goal.traverse-requires-4-clause-room
 unfolding Ready
 traverse-requires-4-clause-room c =
     let over = c.requires.driven_pass.timed.over in (
-      next_room c.args.scene.now over.axes over.size _ c.requires.passed.1 c.traverse.ensures c.traverse-2.ensures
+      next_room c.args.over.scene.now over.axes over.size _ c.requires.passed.1 c.traverse.ensures c.traverse-2.ensures
           c.traverse-3.ensures,
       tt,
     )
@@ -38,12 +38,12 @@ traverse-requires-4-clause-room c =
 pub max_error-requires-clause-axes : goal.max_error-requires-clause-axes
 max_error-requires-clause-axes c =
     let over = c.requires.driven_pass.timed.over in
-    let ready = iterated_ready c.args.scene.now over.axes over.size _ c.requires.passed.1 c.traverse.ensures
+    let ready = iterated_ready c.args.over.scene.now over.axes over.size _ c.requires.passed.1 c.traverse.ensures
     c.traverse-2.ensures c.traverse-3.ensures c.traverse-4.ensures in
-    (axes-are c.args.scene.now over.axes, over.size, omega (arith, ready.room))
+    (axes-are c.args.over.scene.now over.axes, over.size, omega (arith, ready.room))
 
 pub returns : goal.returns
 returns c =
     let over = c.requires.driven_pass.timed.over in
-    iterates_made c.args.scene.now over.axes over.size _ c.requires.passed.1 c.traverse.ensures c.traverse-2.ensures
-    c.traverse-3.ensures c.traverse-4.ensures c.max_error.ensures
+    iterates_made c.args.over.scene.now over.axes over.size _ c.requires.passed.1 c.traverse.ensures
+    c.traverse-2.ensures c.traverse-3.ensures c.traverse-4.ensures c.max_error.ensures

@@ -5,4 +5,4 @@ use Rattle.iisph_iterations.proofs.pressure_solve.pressure_solve.Given as goal
 
 abbrev pub invariant-loop-i : goal.invariant-loop-i
 invariant-loop-i l =
-    Solving l.scene l.dim l.n l.initial.work l.i l.error l.work
+    Solving l.over.scene.now l.over.dim l.over.n l.initial.work l.i l.error l.work

@@ -21,4 +21,4 @@ returns c =
     let p = c.requires in
     acceleration_made p.pass_over.1 p.contact_ready c.target_of-j.ensures c.volume_at.ensures.0 c.args.state
     c.vector.ensures
-    (c.scale.ensures c.args.dim)
+    (c.scale.ensures c.args.over.dim)

@@ -33,7 +33,7 @@ returns c =
     let p = c.requires.driven_pass in
     let timed = p.0.timed in
     let here = record_here timed.over p.1 c.record_of-at.ensures in
-    let d = c.args.dim in
+    let d = c.args.over.dim in
     let change = c.final_change_of-change.ensures in
     let offset = c.vector_width.ensures.0 in
     record {

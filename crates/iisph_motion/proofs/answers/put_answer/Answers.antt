@@ -10,14 +10,14 @@ use Rattle.iisph_motion.proofs.answers.put_answer.Goals as goal
 
 pub put_vector-requires : goal.put_vector-requires
 put_vector-requires c =
-    let room = answer_room c.args.dim c.args.i c.fluid_answer_width.ensures.0 c.requires.i_lt_n.1 in (
+    let room = answer_room c.args.over.dim c.args.i c.fluid_answer_width.ensures.0 c.requires.i_lt_n.1 in (
       pass_axes c.requires.driven_pass.0.timed.over,
       omega (arith, room, c.fluid_answer_width.ensures.0),
     )
 
 pub put_vector-requires-2 : goal.put_vector-requires-2
 put_vector-requires-2 c =
-    let room = answer_room c.args.dim c.args.i c.fluid_answer_width.ensures.0 c.requires.i_lt_n.1 in
+    let room = answer_room c.args.over.dim c.args.i c.fluid_answer_width.ensures.0 c.requires.i_lt_n.1 in
     let kept : length c.put_vector.new.work ≡ length c.args.answers.now = ap length c.put_vector.ensures
     ∙ simp length-sets in (
       pass_axes c.requires.driven_pass.0.timed.over,

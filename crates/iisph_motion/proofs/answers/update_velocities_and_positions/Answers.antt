@@ -17,8 +17,8 @@ loop-i-init c = stored_none nan (in_rows _) 0 _ _
 pub loop-i-preserved : goal.loop-i-preserved
 loop-i-preserved c =
     let a = c.args in
-    let s = scene_of a.scene.now in
-    let ps = pressures_in a.dim a.n a.work.now in
-    answers_next (fluid_answer_width a.dim) (fluid_answer s (coefficients s) ps) a.answers.now c.loop-i.i
+    let s = scene_of a.over.scene.now in
+    let ps = pressures_in a.over.dim a.over.n a.work.now in
+    answers_next (fluid_answer_width a.over.dim) (fluid_answer s (coefficients s) ps) a.answers.now c.loop-i.i
     c.loop-i.invariant
     c.put_answer.ensures

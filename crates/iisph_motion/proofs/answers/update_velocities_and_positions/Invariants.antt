@@ -11,7 +11,7 @@ use Rattle.iisph_motion.proofs.answers.update_velocities_and_positions.Given as 
 
 abbrev pub invariant-loop-i : goal.invariant-loop-i
 invariant-loop-i l =
+    let s = scene_of l.over.scene.now in
+    let ps = pressures_in l.over.dim l.over.n l.work in
     l.answers
-    ≡ stored (fluid_answer_width l.dim) l.i 0
-    (fluid_answer (scene_of l.scene) (coefficients (scene_of l.scene)) (pressures_in l.dim l.n l.work))
-    l.initial.answers
+    ≡ stored (fluid_answer_width l.over.dim) l.i 0 (fluid_answer s (coefficients s) ps) l.initial.answers

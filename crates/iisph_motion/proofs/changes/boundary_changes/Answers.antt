@@ -14,8 +14,8 @@ pub loop-k-preserved : goal.loop-k-preserved
 loop-k-preserved c =
     let l = c.loop-k in
     let a = c.args in
-    let d = a.dim in
-    change_next Boundary d _ (boundary_change (scene_of a.scene.now) a.dt a.state) a.list.at l.k _
+    let d = a.over.dim in
+    change_next Boundary d _ (boundary_change (scene_of a.over.scene.now) a.dt a.state) a.list.at l.k _
     c.contact_width-width.ensures.0 l.invariant
     (boundary_change_lem _ a.state a.dt _ c.boundary_acceleration.ensures (c.scale.ensures d))
     (c.sub-change.ensures d)

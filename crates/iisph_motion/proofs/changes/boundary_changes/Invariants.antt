@@ -10,6 +10,8 @@ use Rattle.iisph_motion.proofs.changes.boundary_changes.Given as goal
 
 abbrev pub invariant-loop-k : goal.invariant-loop-k
 invariant-loop-k l =
-    coordinates l.dim l.change
-    ≡ over_first Boundary l.dim l.scene l.at (less_by (boundary_change (scene_of l.scene) l.dt l.state))
-    (coordinates l.dim l.initial.change) l.k
+    let b = l.over.scene.now in
+    let d = l.over.dim in
+    coordinates d l.change
+    ≡ over_first Boundary d b l.at (less_by (boundary_change (scene_of b) l.dt l.state))
+    (coordinates d l.initial.change) l.k

@@ -19,7 +19,7 @@ row_at-requires c =
     let p = c.requires in
     let below = fluid_target c.contact_width-width.ensures.0 c.loop-k-test.true p.contacts_ready c.target_of-j.ensures
     p.pass_over.0.size in
-    omega (arith, row_within c.args.dim below, p.pass_over.1.iteration.room)
+    omega (arith, row_within c.args.over.dim below, p.pass_over.1.iteration.room)
 
 pub column_at-requires : goal.column_at-requires
 column_at-requires c =
@@ -35,10 +35,10 @@ loop-k-preserved c =
     let l = c.loop-k in
     let a = c.args in
     let p = c.requires in
-    let d = a.dim in
+    let d = a.over.dim in
+    let ps = pressures_in d a.over.n a.work.now in
     let we = c.contact_width-width.ensures.0 in
-    change_next Fluid d _ (fluid_change (scene_of a.scene.now) (pressures_in d a.n a.work.now) a.dt a.own) a.list.at l.k
-    _ we l.invariant
+    change_next Fluid d _ (fluid_change (scene_of a.over.scene.now) ps a.dt a.own) a.list.at l.k _ we l.invariant
     (fluid_change_lem _ (contact_here p.contacts_ready l.k we c.loop-k-test.true) p.pass_over.0 p.pass_over.1 a.own a.dt
     c.target_of-j.ensures c.row_at.ensures.0 c.quotient_column-shares.ensures c.column_at.ensures.0 c.vector.ensures
     (c.scale.ensures d))

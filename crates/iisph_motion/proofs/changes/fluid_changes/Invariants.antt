@@ -11,7 +11,8 @@ use Rattle.iisph_motion.proofs.changes.fluid_changes.Given as goal
 
 abbrev pub invariant-loop-k : goal.invariant-loop-k
 invariant-loop-k l =
-    coordinates l.dim l.change
-    ≡ over_first Fluid l.dim l.scene l.at
-    (less_by (fluid_change (scene_of l.scene) (pressures_in l.dim l.n l.work) l.dt l.own))
-    (coordinates l.dim l.initial.change) l.k
+    let b = l.over.scene.now in
+    let d = l.over.dim in
+    coordinates d l.change
+    ≡ over_first Fluid d b l.at (less_by (fluid_change (scene_of b) (pressures_in d l.over.n l.work) l.dt l.own))
+    (coordinates d l.initial.change) l.k

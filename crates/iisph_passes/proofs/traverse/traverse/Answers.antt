@@ -20,16 +20,17 @@ update_row-requires-clause-room c =
     let p = c.requires in
     let over = p.driven_pass.timed.over in (
       omega (arith, p.room.0, c.loop-i.auto.work),
-      ready_kept a.scene.now over.axes (axes-are _ over.axes) over.size c.loop-i.i c.loop-i.auto.i-end a.work.now a.pass
-          c.loop-i.invariant p.room.1,
+      ready_kept a.over.scene.now over.axes (axes-are _ over.axes) over.size c.loop-i.i c.loop-i.auto.i-end
+          a.work.now a.pass c.loop-i.invariant p.room.1,
     )
 
 pub loop-i-preserved : goal.loop-i-preserved
 loop-i-preserved c =
     let a = c.args in
     let over = c.requires.driven_pass.timed.over in
-    stored_next nan (slot_at a.dim a.n) (slot_of a.dim a.pass) (row_of a.dim (scene_of a.scene.now) a.work.now a.pass)
+    let o = a.over in
+    stored_next nan (slot_at o.dim o.n) (slot_of o.dim a.pass) (row_of o.dim (scene_of o.scene.now) a.work.now a.pass)
     a.work.now c.loop-i.i c.loop-i.invariant
     (c.update_row.ensures
-    ∙ row_again a.scene.now over.axes (axes-are _ over.axes) over.size c.loop-i.i c.loop-i-test.true a.work.now a.pass
-    c.loop-i.invariant)
+    ∙ row_again o.scene.now over.axes (axes-are _ over.axes) over.size c.loop-i.i c.loop-i-test.true a.work.now
+    a.pass c.loop-i.invariant)

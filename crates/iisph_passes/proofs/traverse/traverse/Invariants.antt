@@ -9,6 +9,7 @@ use Rattle.iisph_passes.proofs.traverse.traverse.Given as goal
 
 abbrev pub invariant-loop-i : goal.invariant-loop-i
 invariant-loop-i l =
+    let o = l.over in
     l.work
-    ≡ stored_at (slot_at l.dim l.n) l.i (slot_of l.dim l.pass)
-    (row_of l.dim (scene_of l.scene) l.initial.work l.pass) l.initial.work
+    ≡ stored_at (slot_at o.dim o.n) l.i (slot_of o.dim l.pass)
+    (row_of o.dim (scene_of o.scene.now) l.initial.work l.pass) l.initial.work

@@ -60,17 +60,19 @@ put_column-requires-in-Shares c =
 pub returns-in-Advection : goal.returns-in-Advection
 returns-in-Advection c =
     let a = c.args in
+    let o = a.over in
     let axes = (row_asked c.requires.driven_pass c.requires.room.0).0 in
-    advection_stored (scene_of a.scene.now) a.dim a.n a.i a.work.now
+    advection_stored (scene_of o.scene.now) o.dim o.n a.i a.work.now
     c.in-Advection.is
     c.mass_of-m.ensures
-    c.advected_of-v.ensures (coordinates_sized a.dim _ axes.most)
+    c.advected_of-v.ensures (coordinates_sized o.dim _ axes.most)
     c.put_in_row.ensures
 
 pub returns-in-Coefficients : goal.returns-in-Coefficients
 returns-in-Coefficients c =
     let a = c.args in
-    coefficients-stored (scene_of a.scene.now) a.dim a.n a.i a.work.now
+    let o = a.over in
+    coefficients-stored (scene_of o.scene.now) o.dim o.n a.i a.work.now
     c.in-Coefficients.is
     c.coefficients_of-c.ensures
     c.first_pressure-pressure.ensures c.put_coefficients.ensures
@@ -78,7 +80,8 @@ returns-in-Coefficients c =
 pub returns-in-Quotients : goal.returns-in-Quotients
 returns-in-Quotients c =
     let a = c.args in
-    quotient-stored (scene_of a.scene.now) a.dim a.n a.i a.work.now
+    let o = a.over in
+    quotient-stored (scene_of o.scene.now) o.dim o.n a.i a.work.now
     c.requires.driven_pass.0.timed.over.size c.in-Quotients.is
     c.quotient_of-q.ensures
     c.quotient_column.ensures c.put_column.ensures
@@ -86,18 +89,20 @@ returns-in-Quotients c =
 pub returns-in-DijPjl : goal.returns-in-DijPjl
 returns-in-DijPjl c =
     let a = c.args in
+    let o = a.over in
     let axes = (row_asked c.requires.driven_pass c.requires.room.0).0 in
-    dij-stored (scene_of a.scene.now) a.dim a.n a.i a.work.now
+    dij-stored (scene_of o.scene.now) o.dim o.n a.i a.work.now
     c.requires.driven_pass.0.timed.over.size
     c.in-DijPjl.is
     c.dij_pjl_of-d.ensures
-    (coordinates_sized a.dim _ axes.most) c.row_at-row.ensures.0
+    (coordinates_sized o.dim _ axes.most) c.row_at-row.ensures.0
     c.put_vector.ensures
 
 pub returns-in-NextPressures : goal.returns-in-NextPressures
 returns-in-NextPressures c =
     let a = c.args in
-    next_stored (scene_of a.scene.now) a.dim a.n a.i a.work.now
+    let o = a.over in
+    next_stored (scene_of o.scene.now) o.dim o.n a.i a.work.now
     c.requires.driven_pass.0.timed.over.size c.in-NextPressures.is
     c.next_pressure_of-next.ensures
     c.quotient_column-in-NextPressures.ensures c.next_pressure_column.ensures c.put_column-in-NextPressures.ensures
@@ -106,14 +111,16 @@ returns-in-NextPressures c =
 pub returns-in-Exchange : goal.returns-in-Exchange
 returns-in-Exchange c =
     let a = c.args in
-    exchange_stored (scene_of a.scene.now) a.dim a.n a.i a.work.now
+    let o = a.over in
+    exchange_stored (scene_of o.scene.now) o.dim o.n a.i a.work.now
     c.requires.driven_pass.0.timed.over.size c.in-Exchange.is
     c.exchange.ensures
 
 pub returns-in-Shares : goal.returns-in-Shares
 returns-in-Shares c =
     let a = c.args in
-    share_stored (scene_of a.scene.now) a.dim a.n a.i a.work.now
+    let o = a.over in
+    share_stored (scene_of o.scene.now) o.dim o.n a.i a.work.now
     c.requires.driven_pass.0.timed.over.size c.in-Shares.is
     c.share_of-share.ensures
     c.quotient_column-in-Shares.ensures c.put_column-in-Shares.ensures

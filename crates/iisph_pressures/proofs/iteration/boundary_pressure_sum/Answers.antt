@@ -30,10 +30,12 @@ pub loop-k-preserved : goal.loop-k-preserved
 loop-k-preserved c =
     let l = c.loop-k in
     let a = c.args in
-    let d = coordinates a.dim a.d in
+    let dim = a.over.dim in
+    let s = scene_of a.over.scene.now in
+    let d = coordinates dim a.d in
     let p = c.requires in
     let we = c.contact_width-width.ensures.0 in
-    term_next Boundary a.dim _ (boundary_term (scene_of a.scene.now) a.list.density0 d) a.list.at l.k _ we l.invariant
+    term_next Boundary dim _ (boundary_term s a.list.density0 d) a.list.at l.k _ we l.invariant
     (ap (λ (k : ℕ). element_at a.work.now k ⊗ a.list.density0 ⊗ c.dot.result) c.volume_at-place.ensures.0
     ∙ boundary_term_lem _ p.pass_over.0.axes p.pass_over.0.size p.pass_over.1 c.vector-g.ensures
     (target_ready (contact_here p.contacts_ready l.k we c.loop-k-test.true)) c.target_of-j.ensures a.list.density0 d

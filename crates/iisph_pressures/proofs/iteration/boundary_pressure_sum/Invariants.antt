@@ -10,6 +10,8 @@ use Rattle.iisph_pressures.proofs.iteration.boundary_pressure_sum.Given as goal
 
 abbrev pub invariant-loop-k : goal.invariant-loop-k
 invariant-loop-k l =
+    let b = l.over.scene.now in
+    let d = l.over.dim in
     l.sum
-    ≡ over_first Boundary l.dim l.scene l.at (with_term
-    (boundary_term (scene_of l.scene) l.density0 (coordinates l.dim l.d))) l.initial.sum l.k
+    ≡ over_first Boundary d b l.at (with_term (boundary_term (scene_of b) l.density0 (coordinates d l.d))) l.initial.sum
+    l.k

@@ -12,4 +12,4 @@ pub returns : goal.returns
 returns c =
     let p = c.requires.timed_pass in
     dij_made p.0.over.axes (contacts_found p.0.over p.1 c.contacts_of-list.ensures) _ p.0.dt_is c.dij_sum.ensures
-    (c.scale.ensures c.args.dim)
+    (c.scale.ensures c.args.over.dim)

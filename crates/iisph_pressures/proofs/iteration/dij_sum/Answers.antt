@@ -15,7 +15,7 @@ use Rattle.iisph_pressures.proofs.iteration.dij_sum.Goals as goal
 
 pub loop-k-init : goal.loop-k-init
 loop-k-init c =
-    c.zero-sum.ensures c.args.dim c.requires.contacts_ready.axes.most ∙ none_passed _ _ _ _ _ _
+    c.zero-sum.ensures c.args.over.dim c.requires.contacts_ready.axes.most ∙ none_passed _ _ _ _ _ _
 
 pub column_at-place-requires : goal.column_at-place-requires
 column_at-place-requires c =
@@ -32,10 +32,10 @@ loop-k-preserved c =
     let l = c.loop-k in
     let a = c.args in
     let p = c.requires in
-    let d = a.dim in
-    let b = a.scene.now in
+    let d = a.over.dim in
+    let b = a.over.scene.now in
     let s = scene_of b in
-    let ps = pressures_in d a.n a.work.now in
+    let ps = pressures_in d a.over.n a.work.now in
     let we = c.contact_width-width.ensures.0 in
     fold_next (with_dij s ps) (origin d) Fluid d b a.list.at l.k we l.invariant
     (dij_step s ps (contact_at d (starts_of Fluid b) b (a.list.at + c.contact_width-width.result * l.k))

@@ -10,6 +10,7 @@ use Rattle.iisph_pressures.proofs.iteration.dij_sum.Given as goal
 
 abbrev pub invariant-loop-k : goal.invariant-loop-k
 invariant-loop-k l =
-    coordinates l.dim l.sum
-    ≡ over_first Fluid l.dim l.scene l.at (with_dij (scene_of l.scene) (pressures_in l.dim l.n l.work)) (origin l.dim)
-    l.k
+    let b = l.over.scene.now in
+    let d = l.over.dim in
+    coordinates d l.sum
+    ≡ over_first Fluid d b l.at (with_dij (scene_of b) (pressures_in d l.over.n l.work)) (origin d) l.k

@@ -20,18 +20,19 @@ fluid_term-sum-requires-clause-dim_in_bounds c =
     let p = c.requires in
     let below = fluid_target c.contact_width-width.ensures.0 c.loop-k-test.true p.contacts_ready c.target_of-j.ensures
     p.pass_over.0.size in
-    omega (arith, row_within c.args.dim below, p.pass_over.1.room)
+    omega (arith, row_within c.args.over.dim below, p.pass_over.1.room)
 
 pub loop-k-preserved : goal.loop-k-preserved
 loop-k-preserved c =
     let l = c.loop-k in
     let a = c.args in
-    let d = a.dim in
+    let d = a.over.dim in
+    let n = a.over.n in
+    let s = scene_of a.over.scene.now in
     let p = c.requires in
     let w = a.work.now in
     let we = c.contact_width-width.ensures.0 in
-    term_next Fluid d _ (fluid_term d (scene_of a.scene.now) (pressures_in d a.n w) (dijs_in d a.n w) a.owner)
-    a.list.at l.k +0 we l.invariant
+    term_next Fluid d _ (fluid_term d s (pressures_in d n w) (dijs_in d n w) a.owner) a.list.at l.k +0 we l.invariant
     (c.fluid_term-sum.ensures
     ∙ fluid_term_lem _ p.pass_over.0.axes p.pass_over.0.size p.pass_over.1 refl
     (target_ready (contact_here p.contacts_ready l.k we c.loop-k-test.true)) c.target_of-j.ensures a.owner)

@@ -10,7 +10,9 @@ use Rattle.iisph_pressures.proofs.iteration.fluid_pressure_sum.Given as goal
 
 abbrev pub invariant-loop-k : goal.invariant-loop-k
 invariant-loop-k l =
+    let b = l.over.scene.now in
+    let d = l.over.dim in
+    let n = l.over.n in
     l.sum
-    ≡ over_first Fluid l.dim l.scene l.at
-    (with_term (fluid_term l.dim (scene_of l.scene) (pressures_in l.dim l.n l.work) (dijs_in l.dim l.n l.work)
-    l.owner)) +0 l.k
+    ≡ over_first Fluid d b l.at
+    (with_term (fluid_term d (scene_of b) (pressures_in d n l.work) (dijs_in d n l.work) l.owner)) +0 l.k

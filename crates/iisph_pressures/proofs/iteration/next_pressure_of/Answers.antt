@@ -40,8 +40,8 @@ returns c =
     c.fluid_pressure_sum-part.ensures
     c.boundary_pressure_sum-sum.ensures
     c.criterion.ensures
-    (c.in_column.ensures ∙ ap (λ (x : ℕ). element_at c.args.work.now (x * c.args.n + c.args.i))
+    (c.in_column.ensures ∙ ap (λ (x : ℕ). element_at c.args.work.now (x * c.args.over.n + c.args.i))
     c.aii_column.ensures)
-    (c.in_column-2.ensures ∙ ap (λ (x : ℕ). element_at c.args.work.now (x * c.args.n + c.args.i))
+    (c.in_column-2.ensures ∙ ap (λ (x : ℕ). element_at c.args.work.now (x * c.args.over.n + c.args.i))
     c.predicted_column.ensures)
     c.next_from.ensures

@@ -17,16 +17,16 @@ use Rattle.iisph_rows.proofs.boundary_volumes.compute_boundary_volumes.Goals as 
 use Rattle.iisph_rows.proofs.boundary_volumes.compute_boundary_volumes.Goals.{After-keeps}
 
 turn : (c : After-keeps) → let l = c.args.layout.boundaries in
-    Turn Boundary c.args.scene.now (take l.number l.heads) c.loop-head.head-index
+    Turn Boundary c.args.over.scene.now (take l.number l.heads) c.loop-head.head-index
 turn c = turn_in_front c.requires.indexed.1 _ c.loop-head-test.true
 
 run : (c : After-keeps)
-    → BoundaryRun c.args.scene.now c.loop-head.first c.particles-count.result (bit c.keeps.result)
+    → BoundaryRun c.args.over.scene.now c.loop-head.first c.particles-count.result (bit c.keeps.result)
 run c =
     turn_run c.requires.indexed.1 (turn c) c.loop-head.invariant.start c.particles-count.ensures.0
     (sym c.keeps.ensures)
 
-behind_is : (c : After-keeps) → c.work_width.result * c.args.n ≡ volumes_at c.args.dim c.args.n
+behind_is : (c : After-keeps) → c.work_width.result * c.args.over.n ≡ volumes_at c.args.over.dim c.args.over.n
 behind_is c = rw c.work_width.ensures.0
 
 pub shared_ref_as_front-head-items : goal.shared_ref_as_front-head-items
@@ -46,7 +46,7 @@ overflow_add-behind c =
     let w = c.work_width.ensures.1 in
     omega (
       arith,
-      mul-le-mul_right c.args.n w,
+      mul-le-mul_right c.args.over.n w,
       c.requires.n_value.0,
       c.requires.indexed.0.few_fluid,
       c.requires.indexed.0.few_boundary,

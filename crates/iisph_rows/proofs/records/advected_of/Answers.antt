@@ -6,7 +6,7 @@ use Rattle.iisph_rows.proofs.Particles.{velocity_read, velocity_within, advected
 use Rattle.iisph_rows.proofs.records.advected_of.Goals as goal
 use Rattle.iisph_rows.proofs.records.advected_of.Goals.{After-vector_width}
 
-own : (c : After-vector_width) → RecordOk c.args.scene.now c.args.i c.record_of-at.result
+own : (c : After-vector_width) → RecordOk c.args.over.scene.now c.args.i c.record_of-at.result
 own c = record_here c.requires.0.timed.over c.requires.1 c.record_of-at.ensures
 
 pub record_of-at-requires : goal.record_of-at-requires
@@ -24,6 +24,6 @@ vector-requires c =
 
 pub returns : goal.returns
 returns c =
-    c.add.ensures c.args.dim
+    c.add.ensures c.args.over.dim
     ∙ advected_made c.requires.0.timed.over.axes (own (goal.at.returns c).After-vector_width)
     c.vector_width.ensures.0 c.vector.ensures c.velocity_change_of-change.ensures

@@ -7,10 +7,10 @@ use Rattle.iisph_rows.proofs.Particles.{RecordOk, record_asked, record_here, pre
 use Rattle.iisph_rows.proofs.records.first_pressure.Goals as goal
 use Rattle.iisph_rows.proofs.records.first_pressure.Goals.{After-warm_pressure}
 
-own : (c : After-warm_pressure) → RecordOk c.args.scene.now c.args.i c.record_of-at.result
+own : (c : After-warm_pressure) → RecordOk c.args.over.scene.now c.args.i c.record_of-at.result
 own c = record_here c.requires.0 c.requires.1 c.record_of-at.ensures
 
-read : (c : After-warm_pressure) → FiniteAt c.args.scene.now (c.record_of-at.result + c.warm_pressure.result)
+read : (c : After-warm_pressure) → FiniteAt c.args.over.scene.now (c.record_of-at.result + c.warm_pressure.result)
 read c = pressure_read c.requires.0.axes (own c) c.warm_pressure.ensures.0
 
 pub record_of-at-requires : goal.record_of-at-requires

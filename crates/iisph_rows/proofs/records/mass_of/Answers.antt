@@ -8,11 +8,11 @@ use Rattle.iisph_rows.proofs.Particles.{record_asked, over_here, volume_read, ma
 use Rattle.iisph_rows.proofs.records.mass_of.Goals as goal
 use Rattle.iisph_rows.proofs.records.mass_of.Goals.{After-volume}
 
-own : (c : After-volume) → FluidParticleOk c.args.scene.now
+own : (c : After-volume) → FluidParticleOk c.args.over.scene.now
     (record { head = c.head_of-head.result; at = c.record_of-at.result }) c.args.i
 own c = over_here c.requires.0 c.requires.1 c.record_of-at.ensures c.head_of-head.ensures
 
-read : (c : After-volume) → FiniteAt c.args.scene.now (c.record_of-at.result + c.volume.result)
+read : (c : After-volume) → FiniteAt c.args.over.scene.now (c.record_of-at.result + c.volume.result)
 read c = volume_read c.requires.0.axes (own c) c.volume.ensures.0
 
 pub record_of-at-requires : goal.record_of-at-requires
