@@ -114,7 +114,7 @@ extern "C" {
    passed over, counts[1] is 0, and numbers[0] may be negative or, after a 2, not a number.
    Refused by 1 to 10. Then answers, numbers and counts[0] are unchanged; the needed part of work is
    all +0 after 9 and 10, and work is unchanged after 1 to 8.
-   Takes some 34 KiB of stack where the scene's index, as iisph_step_lent has it, is of at most 4096
+   Takes some 35 KiB of stack where the scene's index, as iisph_step_lent has it, is of at most 4096
    elements (one fluid of 2000 particles), and some 805 KiB where it is longer. */
 uint64_t iisph_step(const uint8_t *scene, size_t scene_len, double *answers, size_t answers_len,
                     double *work, size_t work_len, double *numbers, size_t numbers_len,
@@ -128,7 +128,7 @@ uint64_t iisph_step(const uint8_t *scene, size_t scene_len, double *answers, siz
    too short. Then counts[0] is the length that it needs, and nothing else is written. 99 and
    refusals 1 to 8 come before that, and leave the index as it was; 9 and 10 come after it. Of an
    index that was used it is not told what it holds.
-   Takes some 2.4 KiB of stack at most, whatever the scene. */
+   Takes some 2.6 KiB of stack at most, whatever the scene. */
 uint64_t iisph_step_lent(const uint8_t *scene, size_t scene_len, double *answers,
                          size_t answers_len, double *work, size_t work_len, uint64_t *index,
                          size_t index_len, double *numbers, size_t numbers_len, uint64_t *counts,

@@ -31,7 +31,7 @@
 //!
 //! A step needs an index of the scene. [`Solver::step`] has it on the heap, and takes less than 16 KiB
 //! of stack on every scene. [`step`], [`Clock::step`] and [`validate`] have it on the stack: they take
-//! some 34 KiB where it has at most 4,096 numbers, as with one fluid of 2,000 particles, and some
+//! some 35 KiB where it has at most 4,096 numbers, as with one fluid of 2,000 particles, and some
 //! 805 KiB where it has more. A thread of the standard library's default, 2 MiB, has room for that.
 #![warn(missing_docs)]
 
