@@ -8,13 +8,15 @@ use native.Mathlib.Omega.{arith}
 use lib.ListN.{length, get_or}
 use lib.Ieee.{Float}
 use Rattle.lists.specs.Lists.{table, sum}
-use Rattle.lists.specs.Stores.{Writes}
 use Rattle.lists.proofs.Numbering.{sum_next, sum_more}
-use Rattle.lists.proofs.Writing.{none_written, next_written, room_upto}
+use Rattle.lists.proofs.Writing.{room_upto}
 use Rattle.scene_format.specs.declared.Kind.{Kind}
 use Rattle.scene_lengths.specs.Lengths.{width_in, answers_before}
 use Rattle.scene_lengths.proofs.Needed.{answers_next}
+use Rattle.iisph_words.specs.declared.text.Text.{Text}
+use Rattle.iisph_words.specs.Texts.{HasRoom, Adds}
 use Rattle.iisph_words.specs.Words.{doubles_text}
+use Rattle.iisph_words.proofs.Texts.{none_added, next_added}
 use Rattle.iisph_lines.specs.Lines.{particle_line, model_text, models_upto}
 
 -- ---- the particles of model m
@@ -27,23 +29,21 @@ module _ (κ : Kind) (m w k : ℕ) (xs : List Float) where
   line : ℕ → List ℕ
   line i = particle_line κ m i (doubles_text xs (k + w * i) w)
 
-  module _ {out : List ℕ} {at : ℕ} where
-    pub none_lined : at ≤ length out → Writes out at (model_text κ m 0 w k xs) out at
+  module _ {t : Text} where
+    pub none_lined : HasRoom t 0 → Adds t (model_text κ m 0 w k xs) t
     unfolding model_text table flatten
-    none_lined h = none_written h
+    none_lined h = none_added h
 
-    module _ (i : ℕ) {from next : ℕ} {o : List ℕ} (e : from ≡ k + w * i)
-        (here : Writes out at (model_text κ m i w k xs) o next) where
-      pub line_fits : {n : ℕ} → i < n → at + length (model_text κ m n w k xs) ≤ length out
-          → next + length (particle_line κ m i (doubles_text xs from w)) ≤ length o
+    module _ (i : ℕ) {from : ℕ} {a : Text} (e : from ≡ k + w * i) (here : Adds t (model_text κ m i w k xs) a) where
+      pub line_fits : {n : ℕ} → i < n → HasRoom t (length (model_text κ m n w k xs))
+          → HasRoom a (length (particle_line κ m i (doubles_text xs from w)))
       unfolding model_text line
-      line_fits {n} h r = rw e (omega (arith, room_upto line n i h, here.ends, here.long))
+      line_fits {n} h r = rw e (omega (arith, room_upto line n i h, here.written.ends, here.written.long))
 
-      pub line_written : {next' : ℕ} {o' : List ℕ} → Writes o next (particle_line κ m i (doubles_text xs from w)) o'
-          next'
-          → Writes out at (model_text κ m (i + 1) w k xs) o' next'
+      pub line_written : {b : Text} → Adds a (particle_line κ m i (doubles_text xs from w)) b
+          → Adds t (model_text κ m (i + 1) w k xs) b
       unfolding model_text line
-      line_written q = next_written line here (rw e at q)
+      line_written q = next_added line here (rw e at q)
 
 -- ---- the models of a kind
 
@@ -68,20 +68,20 @@ module _ (d : ℕ) (κ : Kind) (keeps counts : List ℕ) where
     model : ℕ → List ℕ
     model m = model_text κ m (count m) (width_in d κ keeps m) (k + answers_before d κ keeps counts m) xs
 
-    module _ {out : List ℕ} {at : ℕ} where
-      pub none_modelled : at ≤ length out → Writes out at (models_upto 0 d κ keeps counts k xs) out at
+    module _ {t : Text} where
+      pub none_modelled : HasRoom t 0 → Adds t (models_upto 0 d κ keeps counts k xs) t
       unfolding models_upto table flatten
-      none_modelled h = none_written h
+      none_modelled h = none_added h
 
-      module _ (m : ℕ) {from w c next : ℕ} {o : List ℕ} (e : from ≡ k + answers_before d κ keeps counts m)
-          (v : w ≡ width_in d κ keeps m) (u : c ≡ count m)
-          (here : Writes out at (models_upto m d κ keeps counts k xs) o next) where
-        pub model_room : {n : ℕ} → m < n → at + length (models_upto n d κ keeps counts k xs) ≤ length out
-            → next + length (model_text κ m c w from xs) ≤ length o
+      module _ (m : ℕ) {from w c : ℕ} {a : Text} (e : from ≡ k + answers_before d κ keeps counts m)
+          (v : w ≡ width_in d κ keeps m) (u : c ≡ count m) (here : Adds t (models_upto m d κ keeps counts k xs) a) where
+        pub model_room : {n : ℕ} → m < n → HasRoom t (length (models_upto n d κ keeps counts k xs))
+            → HasRoom a (length (model_text κ m c w from xs))
         unfolding models_upto model
-        model_room {n} h r = rw (e, v, u) (omega (arith, room_upto model n m h, here.ends, here.long))
+        model_room {n} h r =
+            rw (e, v, u) (omega (arith, room_upto model n m h, here.written.ends, here.written.long))
 
-        pub model_written : {next' : ℕ} {o' : List ℕ} → Writes o next (model_text κ m c w from xs) o' next'
-            → Writes out at (models_upto (m + 1) d κ keeps counts k xs) o' next'
+        pub model_written : {b : Text} → Adds a (model_text κ m c w from xs) b
+            → Adds t (models_upto (m + 1) d κ keeps counts k xs) b
         unfolding models_upto model
-        model_written q = next_written model here (rw (e, v, u) at q)
+        model_written q = next_added model here (rw (e, v, u) at q)

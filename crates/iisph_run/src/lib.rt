@@ -6,7 +6,7 @@ ghost use Rattle.lists.specs.Stores.{Writes};
 ghost use Rattle.iisph_text.specs.Run.{text_in, Runs};
 
 use iisph_text::put_scene;
-use iisph_words::words::put_word;
+use iisph_words::text::Text;
 
 // A scene of more bytes is not read.
 pub const MOST_BYTES: usize = 32768;
@@ -28,7 +28,9 @@ pub fn run(scene: &[u8], answers: &mut [f64], work: &mut [f64], out: &mut [u8]) 
         return 0;
     }
     if scene.len() > MOST_BYTES {
-        return put_word(out, 0, b"too long\n");
+        let mut text = Text::new(out);
+        text.put_word(b"too long\n");
+        return text.len();
     }
     put_scene(scene, answers, work, out)
 }

@@ -6,7 +6,6 @@ use mathlib.Core.List.{List, ◌++◌}
 use native.Mathlib.Omega.{arith}
 use lib.ListN.{length, drop, length-append}
 use lib.Ieee.{Float}
-use Rattle.lists.specs.Stores.{Writes}
 use Rattle.scene_format.specs.Bytes.{Bytes}
 use Rattle.scene_format.specs.SceneOf.{scene_of}
 use Rattle.scene_format.specs.declared.Kind.TheVariants.{Fluid, Boundary}
@@ -20,12 +19,13 @@ use Rattle.iisph_rules.specs.declared.Report.{Report}
 use Rattle.iisph_rules.specs.Step.{StepAnswer}
 use Rattle.iisph_rules.proofs.Reports.{step_done, answers_done}
 use Rattle.iisph_rules.proofs.Sizes.{length_answers, beyond_answers}
+use Rattle.iisph_words.specs.declared.text.Text.{Text}
+use Rattle.iisph_words.specs.Texts.{HasRoom, Adds}
 use Rattle.iisph_lines.specs.Lines.{step_line, clock_line, particles_text}
 use Rattle.iisph_lines.proofs.Behind.{text_behind}
 use Rattle.iisph_lent.specs.Step.{Steps}
 use Rattle.iisph_text.specs.Text.{most_bytes, answer_text}
-use Rattle.iisph_text.specs.Run.{text_room, Reported, Runs, behind, LinesReady}
-use Rattle.iisph_text.proofs.Ran.{scene_run}
+use Rattle.iisph_text.specs.Run.{text_room, Reported, behind, LinesReady}
 use Rattle.iisph_text.proofs.Texts.{done_room}
 
 -- ---- what a step's answer says
@@ -58,8 +58,8 @@ module _ (b : List ℕ) (y : Bytes b) where
     needed_there : answers_needed (scene_of b) ≤ length xs
     needed_there = omega (arith, ap length x, length-append (answers_of (scene_of b)) rest, length_answers b)
 
-    lines_ready : {r : Report} {out : List ℕ} → Reported b r → length b ≤ most_bytes → text_room ≤ length out
-        → LinesReady b xs r out
+    lines_ready : {r : Report} {t : Text} → Reported b r → length b ≤ most_bytes → HasRoom t text_room
+        → LinesReady b xs r t
     lines_ready d short h =
         record {
           fluids = omega (arith, needed_there, fluids_needed);
@@ -78,11 +78,10 @@ module _ (b : List ℕ) (y : Bytes b) where
           same Boundary b (behind b) (omega (arith, boundaries_needed)),
         )
 
-    lines_written : (r : Report) {out o : List ℕ} {n : ℕ}
-        → Writes out 0 (step_line r ++ clock_line r.clock ++ particles_text b xs) o n
-        → Writes out 0 (answer_text b (Ok r)) o n
+    lines_added : (r : Report) {t t' : Text} → Adds t (step_line r ++ clock_line r.clock ++ particles_text b xs) t'
+        → Adds t (answer_text b (Ok r)) t'
     unfolding answer_text
-    lines_written r w = rw lines_same at w
+    lines_added r w = rw lines_same at w
 
 -- ---- what a step that is done comes to, from its contract
 
@@ -94,12 +93,10 @@ module _ {b : List ℕ} (y : Bytes b) {answers work answers' work' : List Float}
   front : answers' ≡ answers_of (scene_of b) ++ drop (answers_needed (scene_of b)) answers'
   front = answers_front b (length answers) (length work) is_done_lem answers s.answers_then
 
-  module _ {out : List ℕ} (short : length b ≤ most_bytes) (room : text_room ≤ length out) where
-    pub done_ready : LinesReady b answers' r out
-    done_ready =
-        lines_ready b y _ front (reported b (length answers) (length work) is_done_lem) short room
+  pub done_ready : {t : Text} → length b ≤ most_bytes → HasRoom t text_room → LinesReady b answers' r t
+  done_ready short room =
+      lines_ready b y _ front (reported b (length answers) (length work) is_done_lem) short room
 
-    pub done_run : {o : List ℕ} {n : ℕ}
-        → Writes out 0 (step_line r ++ clock_line r.clock ++ particles_text b answers') o n
-        → Runs b answers work out n answers' work' o
-    done_run w = scene_run room short s (rw q (lines_written b y _ front r w))
+  pub done_added : {t t' : Text} → Adds t (step_line r ++ clock_line r.clock ++ particles_text b answers') t'
+      → Adds t (answer_text b (step_answer b (length answers) (length work))) t'
+  done_added w = rw is_done_lem (lines_added b y _ front r w)

@@ -10,7 +10,7 @@ use lib.Ieee.{Float}
 use borrow.Author.Tests.{lt-ltb, le-ltb}
 use Rattle.lists.specs.Lists.{choose}
 use Rattle.lists.specs.Stores.{Writes}
-use Rattle.lists.proofs.Writing.{none_written, ◌then◌}
+use Rattle.lists.proofs.Writing.{none_written}
 use Rattle.scene_format.specs.Bytes.{Bytes}
 use Rattle.scene_format.specs.Format.{axes_of}
 use Rattle.scene_format.specs.Scene.{fluid_size}
@@ -18,6 +18,9 @@ use Rattle.scene_format.specs.SceneOf.{scene_of}
 use Rattle.scene_format.specs.declared.Refusal.{Refusal}
 use Rattle.scene_format.specs.declared.Kind.TheVariants.{Fluid, Boundary}
 use Rattle.scene_lengths.specs.Lengths.{fluid_answer_width, answers_in}
+use Rattle.iisph_words.specs.declared.text.Text.{Text}
+use Rattle.iisph_words.specs.Texts.{HasRoom, Adds}
+use Rattle.iisph_words.proofs.Texts.{◌then◌}
 use Rattle.iisph_lines.specs.Lines.{step_line, clock_line, models_text, particles_text, refused_line}
 use Rattle.iisph_rules.specs.declared.Report.{Report}
 use Rattle.iisph_rules.specs.Step.{StepAnswer}
@@ -34,28 +37,38 @@ pub behind-is : (b : List ℕ) {w d n : ℕ} → w ≡ fluid_answer_width d → 
 behind-is b e q l = rw (e, q, l)
 
 -- the four parts of the text of a step that is done
-pub parts-written : (b : List ℕ) (xs : List Float) (r : Report) {out o₁ o₂ o₃ o : List ℕ} {n₁ n₂ n₃ n k : ℕ}
-    → k ≡ behind b
-    → Writes out 0 (step_line r) o₁ n₁ → Writes o₁ n₁ (clock_line r.clock) o₂ n₂
-    → Writes o₂ n₂ (models_text Fluid b 0 xs) o₃ n₃
-    → Writes o₃ n₃ (models_text Boundary b k xs) o n
-    → Writes out 0 (step_line r ++ clock_line r.clock ++ particles_text b xs) o n
+pub parts-added : (b : List ℕ) (xs : List Float) (r : Report) {t t₁ t₂ t₃ t₄ : Text} {k : ℕ} → k ≡ behind b
+    → Adds t (step_line r) t₁ → Adds t₁ (clock_line r.clock) t₂ → Adds t₂ (models_text Fluid b 0 xs) t₃
+    → Adds t₃ (models_text Boundary b k xs) t₄
+    → Adds t (step_line r ++ clock_line r.clock ++ particles_text b xs) t₄
 unfolding particles_text
-parts-written b xs r e p q v w = p then q then (v then (rw e at w))
+parts-added b xs r e p q v w = p then q then (v then (rw e at w))
 
 -- the last two have room behind the others
-module _ {b : List ℕ} {xs : List Float} {r : Report} {out : List ℕ} (ready : LinesReady b xs r out)
-    {o₁ o₂ : List ℕ} {n₁ n₂ : ℕ} (p : Writes out 0 (step_line r) o₁ n₁)
-    (q : Writes o₁ n₁ (clock_line r.clock) o₂ n₂) where
-  pub fluids_room : (0 + answers_in Fluid b ≤ length xs) × (n₂ + length (models_text Fluid b 0 xs) ≤ length o₂)
-  fluids_room =
-      (omega (arith, ready.fluids), omega (arith, ready.room, p.ends, p.long, q.ends, q.long))
+module _ {b : List ℕ} {xs : List Float} {r : Report} {t : Text} (ready : LinesReady b xs r t) {t₁ t₂ : Text}
+    (p : Adds t (step_line r) t₁) (q : Adds t₁ (clock_line r.clock) t₂) where
+  pub fluids_room : (0 + answers_in Fluid b ≤ length xs) × HasRoom t₂ (length (models_text Fluid b 0 xs))
+  fluids_room = (
+    omega (arith, ready.fluids),
+    omega (arith, ready.room, p.written.ends, p.written.long, q.written.ends, q.written.long),
+  )
 
-  pub boundaries_room : {k : ℕ} → k ≡ behind b → {o₃ : List ℕ} {n₃ : ℕ} → Writes o₂ n₂ (models_text Fluid b 0 xs) o₃ n₃
-      → (k + answers_in Boundary b ≤ length xs) × (n₃ + length (models_text Boundary b k xs) ≤ length o₃)
+  pub boundaries_room : {k : ℕ} → k ≡ behind b → {t₃ : Text} → Adds t₂ (models_text Fluid b 0 xs) t₃
+      → (k + answers_in Boundary b ≤ length xs) × HasRoom t₃ (length (models_text Boundary b k xs))
   boundaries_room e v =
-      rw e
-      (ready.boundaries, omega (arith, ready.room, p.ends, p.long, q.ends, q.long, v.ends, v.long))
+      rw e (
+        ready.boundaries,
+        omega (
+          arith,
+          ready.room,
+          p.written.ends,
+          p.written.long,
+          q.written.ends,
+          q.written.long,
+          v.written.ends,
+          v.written.long,
+        ),
+      )
 
 module _ {b : List ℕ} {answers work : List Float} {out : List ℕ} where
   pub no_room : length out < text_room → Runs b answers work out 0 answers work out
@@ -72,7 +85,7 @@ module _ {b : List ℕ} {answers work : List Float} {out : List ℕ} where
         let l = lt-ltb most_bytes (length b) h in
         record { text = rw (t, l) w; answers_then = rw (t, l); work_then = rw (t, l) }
 
-    pub scene_run : length b ≤ most_bytes → {answer : StepAnswer} {answers' work' : List Float}
+    scene_run : length b ≤ most_bytes → {answer : StepAnswer} {answers' work' : List Float}
         → Steps b answers work answer answers' work' → Writes out 0 (answer_text b answer) o r
         → Runs b answers work out r answers' work' o
     unfolding written if_stepped text_with choose
@@ -85,12 +98,18 @@ module _ {b : List ℕ} {answers work : List Float} {out : List ℕ} where
           work_then = rw (t, l) s.work_then;
         }
 
-    -- a refused step
-    pub refused_run : length b ≤ most_bytes → {answer : StepAnswer} {answers' work' : List Float}
-        → Steps b answers work answer answers' work' → {refusal : Refusal} → answer ≡ Err refusal
-        → Writes out 0 (refused_line refusal) o r → Runs b answers work out r answers' work' o
-    unfolding answer_text
-    refused_run h s q w = scene_run h s (rw q w)
+    -- by a text that begins in front of the list
+    pub text_run : length b ≤ most_bytes → {answer : StepAnswer} {answers' work' : List Float}
+        → Steps b answers work answer answers' work' → {t t' : Text} → Adds t (answer_text b answer) t'
+        → t.out.now ≡ out → t.at ≡ 0 → t'.out.now ≡ o → t'.at ≡ r
+        → Runs b answers work out r answers' work' o
+    text_run h s w e z f n = scene_run h s (rw (e, z, f, n) at w.written)
+
+-- a refused step
+pub refused_added : (b : List ℕ) {answer : StepAnswer} {refusal : Refusal} {t t' : Text} → answer ≡ Err refusal
+    → Adds t (refused_line refusal) t' → Adds t (answer_text b answer) t'
+unfolding answer_text
+refused_added b q w = rw q w
 
 -- ---- with long enough lists
 

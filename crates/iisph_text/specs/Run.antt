@@ -5,6 +5,8 @@ use Rattle.lists.specs.Stores.{Writes}
 use Rattle.scene_format.specs.SceneOf.{scene_of}
 use Rattle.std.specs.declared.result.Result.TheVariants.{Ok}
 use Rattle.scene_check.specs.Walk.{checked}
+use Rattle.iisph_words.specs.declared.text.Text.{Text}
+use Rattle.iisph_words.specs.Texts.{HasRoom}
 use Rattle.iisph_lines.specs.Lines.{step_line, clock_line, models_text}
 use Rattle.scene_format.specs.Format.{axes_of, most_models}
 use Rattle.scene_format.specs.Scene.{fluid_size}
@@ -62,10 +64,10 @@ pub record Runs (b : List ℕ) (answers work : List Float) (out : List ℕ) (r :
 abbrev pub behind : List ℕ → ℕ
 behind b = fluid_answer_width (axes_of b) * fluid_size (scene_of b)
 
--- the lines of a step that is done read answers that are there, and have room
-pub record LinesReady (b : List ℕ) (answers : List Float) (r : Report) (out : List ℕ) : Type 0 where
+-- the lines of a step that is done read answers that are there, and a text has room for them
+pub record LinesReady (b : List ℕ) (answers : List Float) (r : Report) (t : Text) : Type 0 where
   pub fluids : answers_in Fluid b ≤ length answers
   pub boundaries : behind b + answers_in Boundary b ≤ length answers
-  pub room : length (step_line r) + length (clock_line r.clock)
-      + (length (models_text Fluid b 0 answers) + length (models_text Boundary b (behind b) answers))
-      ≤ length out
+  pub room : HasRoom t
+      (length (step_line r) + length (clock_line r.clock)
+      + (length (models_text Fluid b 0 answers) + length (models_text Boundary b (behind b) answers)))

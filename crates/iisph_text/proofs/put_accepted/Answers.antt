@@ -1,6 +1,7 @@
 -- `iisph_text::put_accepted` meets its contract: the step, and the text of its answer. Assumes nothing.
-use Rattle.iisph_text.proofs.Done.{done_ready, done_run}
-use Rattle.iisph_text.proofs.Ran.{refused_run}
+use mathlib.Core.Path.{sym, ◌∙◌}
+use Rattle.iisph_text.specs.Text.{answer_text}
+use Rattle.iisph_text.proofs.Done.{done_ready, done_added}
 use Rattle.iisph_text.proofs.put_accepted.Goals as goal
 
 pub put_done-requires : goal.put_done-requires
@@ -13,11 +14,14 @@ put_done-requires c = (
 
 pub returns-in-Ok : goal.returns-in-Ok
 returns-in-Ok c =
-    done_run c.requires.passed.bytes c.step_short.ensures c.in-Ok.is c.requires.scene_len_bound.0
-    c.requires.scene_len_bound.1
-    c.put_done.ensures
+    let s = c.step_short.ensures in
+    record {
+      stepped = rw s.answer at s;
+      written = done_added c.requires.passed.bytes s c.in-Ok.is c.put_done.ensures;
+    }
 
 pub returns-in-Err : goal.returns-in-Err
+unfolding answer_text
 returns-in-Err c =
-    refused_run c.requires.scene_len_bound.1 c.requires.scene_len_bound.0 c.step_short.ensures c.in-Err.is
-    c.put_refused.ensures
+    let s = c.step_short.ensures in
+    record { stepped = rw s.answer at s; written = rw (sym s.answer ∙ c.in-Err.is) c.put_refused.ensures }

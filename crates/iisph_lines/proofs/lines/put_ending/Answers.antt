@@ -1,24 +1,24 @@
 -- `iisph_lines::lines::put_ending` meets its contract: its parts one after the other, and the error by the ending's
 -- number. Assumes nothing.
 use native.Mathlib.Omega.{arith}
-use Rattle.lists.proofs.Writing.{◌then◌}
+use Rattle.iisph_words.proofs.Texts.{◌then◌}
 use Rattle.iisph_lines.proofs.Widths.{unswept_text, swept_text, ending_room_lem, swept_room}
 use Rattle.iisph_lines.proofs.lines.put_ending.Goals as goal
 
-pub put_ending_word-count-requires : goal.put_ending_word-count-requires
-put_ending_word-count-requires c =
+pub put_ending_word-requires : goal.put_ending_word-requires
+put_ending_word-requires c =
     let a = c.args in
     omega (arith, ending_room_lem a.ending c.tell-told.ensures a.iterations)
 
-pub put_decimal-next-requires : goal.put_decimal-next-requires
-put_decimal-next-requires c =
+pub put_decimal-requires : goal.put_decimal-requires
+put_decimal-requires c =
     let a = c.args in
     omega (arith, ending_room_lem a.ending c.tell-told.ensures a.iterations)
 
 pub returns-then-told-eq0 : goal.returns-then-told-eq0
 returns-then-told-eq0 c =
     rw (unswept_text _ c.tell-told.ensures _ c.if-told-eq0.true) at
-    (c.put_ending_word-count.ensures then c.put_decimal-next.ensures)
+    (c.put_ending_word.ensures then c.put_decimal.ensures)
 
 pub put_error-requires : goal.put_error-requires
 put_error-requires c =
@@ -28,4 +28,4 @@ put_error-requires c =
 pub returns : goal.returns
 returns c =
     rw (swept_text _ c.tell-told.ensures _ c.if-told-eq0.false) at
-    (c.put_ending_word-count.ensures then c.put_decimal-next.ensures then c.put_error.ensures)
+    (c.put_ending_word.ensures then c.put_decimal.ensures then c.put_error.ensures)

@@ -51,9 +51,9 @@ model c =
       fits = model_fits _ _ _ _ _ c.loop-m.m c.loop-m.invariant.0 width count turn.below c.requires.scene_in_bounds.0;
     }
 
-pub put_model-next-requires : goal.put_model-next-requires
-put_model-next-requires c =
-    let here = model (goal.at.put_model-next-requires c).After-answer_width-w in
+pub put_model-requires : goal.put_model-requires
+put_model-requires c =
+    let here = model (goal.at.put_model-requires c).After-answer_width-w in
     let l = c.loop-m in
     record {
       n_in_bounds = here.fits;
@@ -69,7 +69,7 @@ loop-m-preserved c =
     let here = model (goal.at.loop-m-preserved c).After-answer_width-w in
     let l = c.loop-m in (
       model_next _ _ _ _ _ l.m l.invariant.0 here.width here.count,
-      model_written _ _ _ _ _ _ l.m l.invariant.0 here.width here.count l.invariant.1 c.put_model-next.ensures,
+      model_written _ _ _ _ _ _ l.m l.invariant.0 here.width here.count l.invariant.1 c.put_model.ensures,
     )
 
 pub returns : goal.returns

@@ -2,7 +2,7 @@
 -- written. Assumes nothing.
 use Prim.Native.Nat.{◌+◌}
 use mathlib.Core.Path.{◌≡◌}
-use Rattle.lists.specs.Stores.{Writes}
+use Rattle.iisph_words.specs.Texts.{Adds}
 use Rattle.scene_format.specs.Format.{axes_of, counts_of, keeps_of}
 use Rattle.scene_lengths.specs.Lengths.{answers_before}
 use Rattle.iisph_lines.specs.Lines.{models_upto}
@@ -11,5 +11,5 @@ use Rattle.iisph_lines.proofs.lines.put_models.Given as goal
 abbrev pub invariant-loop-m : goal.invariant-loop-m
 invariant-loop-m l =
     (l.from ≡ l.k + answers_before (axes_of l.scene) l.kind (keeps_of l.kind l.scene) (counts_of l.kind l.scene) l.m)
-    × Writes l.initial.out l.at (models_upto l.m (axes_of l.scene) l.kind (keeps_of l.kind l.scene)
-    (counts_of l.kind l.scene) l.k l.xs) l.out l.next
+    × Adds l.initial.text (models_upto l.m (axes_of l.scene) l.kind (keeps_of l.kind l.scene)
+    (counts_of l.kind l.scene) l.k l.xs) l.text

@@ -1,13 +1,13 @@
 -- `iisph_lines::lines::put_refused` meets its contract: its parts one after the other; both numbers have 64 bits.
 -- Assumes nothing.
 use native.Mathlib.Omega.{arith}
-use Rattle.lists.proofs.Writing.{◌then◌}
+use Rattle.iisph_words.proofs.Texts.{◌then◌}
 use Rattle.iisph_lines.specs.Lines.{refused_line}
 use Rattle.iisph_words.proofs.WordWidths.{pair_most}
 use Rattle.iisph_lines.proofs.lines.put_refused.Goals as goal
 
-pub put_pair-next-requires : goal.put_pair-next-requires
-put_pair-next-requires c =
+pub put_pair-requires : goal.put_pair-requires
+put_pair-requires c =
     let n = c.number in
     omega (arith, pair_most n.result c.place.result n.type_inv c.place.type_inv)
 
@@ -19,6 +19,6 @@ put_byte-requires c =
 pub returns : goal.returns
 unfolding refused_line
 returns c =
-    c.put_word-pair.ensures
-    then rw (c.number.ensures, c.place.ensures) at c.put_pair-next.ensures
+    c.put_word.ensures
+    then rw (c.number.ensures, c.place.ensures) at c.put_pair.ensures
     then c.put_byte.ensures

@@ -1,8 +1,9 @@
--- `iisph_words::words::put_ending_word` meets its contract: each branch writes the word of its number. Assumes nothing.
+-- `iisph_words::text::Text::put_ending_word` meets its contract: each branch writes the word of its number.
+-- Assumes nothing.
 use borrow.Author.Tests.{ne_eqb}
 use Rattle.lists.specs.Lists.{choose}
 use Rattle.iisph_words.specs.Words.{ending_word}
-use Rattle.iisph_words.proofs.words.put_ending_word.Goals as goal
+use Rattle.iisph_words.proofs.text.Text.put_ending_word.Goals as goal
 
 pub put_word-requires : goal.put_word-requires
 unfolding ending_word choose

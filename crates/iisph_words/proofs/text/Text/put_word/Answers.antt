@@ -1,4 +1,4 @@
--- `iisph_words::words::put_word` meets its contract: a part that becomes the word is the stores of its bytes.
+-- `iisph_words::text::Text::put_word` meets its contract: a part that becomes the word is the stores of its bytes.
 -- Assumes nothing.
 use Prim.Native.Nat.{ℕ, ◌+◌, ◌≤◌}
 use mathlib.Core.Path.{◌≡◌, refl, sym}
@@ -9,7 +9,7 @@ use lib.Seq.{sets, drop-drop}
 use borrow.Rule.Slice.PartMut.{put_mid}
 use Rattle.std.proofs.lemmas.List.Edits.{sets-eq}
 use Rattle.lists.proofs.Writing.{stores}
-use Rattle.iisph_words.proofs.words.put_word.Goals as goal
+use Rattle.iisph_words.proofs.text.Text.put_word.Goals as goal
 
 part_stored : (out part xs : List ℕ) (at k : ℕ) → part ≡ xs → k ≡ length xs → at + length xs ≤ length out
     → put_mid at k out part ≡ sets out at xs
@@ -17,4 +17,5 @@ part_stored out part xs at k e n h = rw (e, n, drop-drop) (sym (rw append_assoc 
 
 pub returns : goal.returns
 returns c =
-    stores (part_stored _ _ _ _ _ c.copy_from_slice.ensures.after (omega arith) c.requires) refl (omega arith)
+    let part = part_stored _ _ _ _ _ c.copy_from_slice.ensures.after (omega arith) c.requires in
+    record { written = stores part refl (omega arith); same = refl }

@@ -1,6 +1,6 @@
--- `iisph_words::words::put_kind` meets its contract: each branch writes the word of its kind. Assumes nothing.
+-- `iisph_words::text::Text::put_kind` meets its contract: each branch writes the word of its kind. Assumes nothing.
 use Rattle.iisph_words.specs.Words.{kind_word}
-use Rattle.iisph_words.proofs.words.put_kind.Goals as goal
+use Rattle.iisph_words.proofs.text.Text.put_kind.Goals as goal
 
 pub put_word-requires : goal.put_word-requires
 unfolding kind_word
