@@ -142,10 +142,11 @@ fn print_case(rt: &impl Print, i: usize, first: f64, second: f64) -> io::Result<
     }
 }
 
-// Runs all cases, and answers how many.
+// Runs all cases, and answers how many: they are counted as they run, so that a turn too few does not prove.
 fn all_cases(rt: &impl Print) -> io::Result<usize>
     ensures { IfOk result (λ n. n ≡ 94) }
 {
+    let mut run = 0;
     for i in 0..cases::IN_ALL {
         print_case(
             rt,
@@ -153,8 +154,9 @@ fn all_cases(rt: &impl Print) -> io::Result<usize>
             math::from_bits(cases::FIRST[i]),
             math::from_bits(cases::SECOND[i]),
         )?;
+        run += 1;
     }
-    Ok(cases::IN_ALL)
+    Ok(run)
 }
 
 fn main(rt: HostRuntime) -> io::Result<()> {
