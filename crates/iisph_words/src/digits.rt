@@ -1,5 +1,6 @@
 // Numbers as text (FORMAT 4.1).
-ghost use Rattle.std.specs.Prelude.{◌≡◌, ◌≤◌, ◌<◌, length};
+ghost use Rattle.std.specs.Prelude.{◌≡◌, ◌+◌, ◌≤◌, ◌<◌, length};
+ghost use Rattle.std.proofs.lemmas.List.Edits.{sets};
 ghost use Rattle.iisph_words.specs.Digits.{digit_of, digits, hex_digits, hex_of, places_of, decimal_of};
 ghost use Rattle.iisph_words.specs.Texts.{HasRoom, Adds};
 
@@ -33,17 +34,26 @@ fn places(n: u64) -> usize
     k
 }
 
+// The last k digits of n in a base, from the last one back, stored in a list. It is handed the list and not a text:
+// from behind a text each digit would look anew where the list is.
+fn store_digits(out: &mut [u8], at: usize, base: u64, k: usize, n: u64)
+    requires { (0 < base) × (base ≤ 16) × (at + k ≤ length out.old) }
+    ensures { out.new ≡ sets out.old at (digits base k n) }
+{
+    let mut rest = n;
+    for i in (0..k).rev() {
+        out[at + i] = digit(rest % base);
+        rest /= base;
+    }
+}
+
 impl Text<'_> {
-    // The last k digits of n in a base, from the last one back.
+    // The last k digits of n in a base.
     fn put_digits(&mut self, base: u64, k: usize, n: u64)
         requires { (0 < base) × (base ≤ 16) × HasRoom self.old k }
         ensures { Adds self.old (digits base k n) self.new }
     {
-        let mut rest = n;
-        for i in (0..k).rev() {
-            self.out[self.at + i] = digit(rest % base);
-            rest /= base;
-        }
+        store_digits(self.out, self.at, base, k, n);
         self.at += k;
     }
 

@@ -41,6 +41,7 @@ impl<'a> Text<'a> {
     pub fn len(&self) -> usize
         ensures { result ≡ self.now.at }
     {
-        self.at
+        let end = self.at;
+        end
     }
 }

@@ -1,31 +1,10 @@
--- `iisph_words::text::Text::put_digits` meets its contract. The loop's invariant: the digits that are left, stored over
--- what is there, are all of them. Assumes nothing.
-use mathlib.Core.Path.{◌≡◌, sym, ◌∙◌}
+-- `iisph_words::text::Text::put_digits` meets its contract: what is stored is a text. Assumes nothing.
+use mathlib.Core.Path.{refl}
 use native.Mathlib.Omega.{arith}
-use lib.ListN.{length-set}
-use Rattle.iisph_words.specs.Digits.{digits}
 use Rattle.lists.proofs.Writing.{stores}
-use Rattle.iisph_words.proofs.Numbers.{length_digits, digit_stored}
+use Rattle.iisph_words.proofs.Numbers.{length_digits}
 use Rattle.iisph_words.proofs.text.Text.put_digits.Goals as goal
 
-pub loop-i-preserved : goal.loop-i-preserved
-loop-i-preserved c =
-    let l = c.loop-i in
-    let a = c.args in (
-      simp length-set l.invariant.0,
-      l.invariant.1
-          ∙ digit_stored a.base l.self.out.now a.self.now.at l.i l.rest c.loop-i-test.true
-          ∙ rw (c.digit.ensures, l.invariant.2),
-      l.invariant.2,
-      l.invariant.3,
-    )
-
 pub returns : goal.returns
-unfolding digits
 returns c =
-    let l = c.loop-i in
-    let e : l.i ≡ 0 = omega (arith, c.loop-i-test.false) in
-    record {
-      written = stores (sym (l.invariant.1 ∙ rw e)) (rw length_digits (omega arith)) (omega arith);
-      same = l.invariant.3;
-    }
+    record { written = stores c.store_digits.ensures (rw length_digits (omega arith)) (omega arith); same = refl }
