@@ -26,7 +26,7 @@ ARCHIVE = CRATE / "out" / "libiisph_c.a"
 # function, with the sums over contacts that are inlined in it: doubles read, single bytes loaded at most
 EXPECTED = {
     # advection, coefficients, dij_pjl, next pressures; names in nine sums, numbers of contacts
-    "iisph_passes::traverse::traverse": (8 + 25 + 3 + 7, 9 * 2 + 5),
+    "iisph_passes::traverse::update_rows": (8 + 25 + 3 + 7, 9 * 2 + 5),
     # motion, gathered forces, given forces; names in three loops, numbers of contacts, the counts of a fluid, in a loop
     # for each criterion, and of a boundary, the rule, and two that are no field but answers, on the stack
     "iisph_lent::step_long": (16 + 4 + 3, 3 * 2 + 4 + 3 * 2 + 1 + 2),

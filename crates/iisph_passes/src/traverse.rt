@@ -130,7 +130,7 @@ fn update_row(pass: Pass, over: Over, drive: Drive, work: &mut [f64], i: usize)
 }
 
 // The slots of all fluid particles, one particle after the other.
-pub fn traverse(pass: Pass, over: Over, drive: Drive, work: &mut [f64])
+fn update_rows(pass: Pass, over: Over, drive: Drive, work: &mut [f64])
     requires driven_pass { DrivenOn over drive }
     requires room { let s = scene_of over.scene.now in
         Room s over.dim over.n work.old × Ready s over.dim over.n work.old pass }
@@ -140,5 +140,21 @@ pub fn traverse(pass: Pass, over: Over, drive: Drive, work: &mut [f64])
 {
     for i in 0..over.n {
         update_row(pass, over, drive, work, i);
+    }
+}
+
+// A pass over the fluid particles. Where there are none nothing is called: what a call hands on would cost an iteration
+// over an empty scene twice as much.
+#[inline(always)]
+pub fn traverse(pass: Pass, over: Over, drive: Drive, work: &mut [f64])
+    requires driven_pass { DrivenOn over drive }
+    requires room { let s = scene_of over.scene.now in
+        Room s over.dim over.n work.old × Ready s over.dim over.n work.old pass }
+    ensures { let o = over.entry in
+        let row = row_of o.dim (scene_of o.scene.now) work.old pass in
+        work.new ≡ stored o.dim o.n (slot_of o.dim pass) row work.old }
+{
+    if over.n > 0 {
+        update_rows(pass, over, drive, work);
     }
 }
