@@ -128,7 +128,7 @@ uint64_t iisph_step(const uint8_t *scene, size_t scene_len, double *answers, siz
    too short. Then counts[0] is the length that it needs, and nothing else is written. 99 and
    refusals 1 to 8 come before that, and leave the index as it was; 9 and 10 come after it. Of an
    index that was used it is not told what it holds.
-   Takes some 2.6 KiB of stack at most, whatever the scene. */
+   Takes some 2.5 KiB of stack at most, whatever the scene. */
 uint64_t iisph_step_lent(const uint8_t *scene, size_t scene_len, double *answers,
                          size_t answers_len, double *work, size_t work_len, uint64_t *index,
                          size_t index_len, double *numbers, size_t numbers_len, uint64_t *counts,
